@@ -1,0 +1,9 @@
+pub mod Laws
+pub mod Ring
+pub mod Order
+pub mod Magnitude
+pub mod Linear
+pub mod Word
+pub mod Tests
+pub mod Fraction
+mod Examples
