@@ -58,6 +58,10 @@ before-total p q =
 pub before→at-most : (p q : Fraction) → T (before p q) → T (not (before q p))
 before→at-most p q h = cross→at-most p q (lt→le (before→cross p q h))
 
+pub at-most-refl : (p : Fraction) → T (not (before p p))
+unfolding cross
+at-most-refl p = cross→at-most p p (let e : p .num ⊗ p .den ⊖ p .num ⊗ p .den ≡ pos 0 = ring 2 (λ n d. n ⊠ d ⊟ n ⊠ d ≗ con (pos 0)) tt (p .num) (p .den) in omega (zarith, e))
+
 -- ---- transitive
 module _ (p q r : Fraction) (hp : Proper p) (hq : Proper q) (hr : Proper r) where
   pub at-most-trans : T (not (before q p)) → T (not (before r q)) → T (not (before r p))

@@ -1,0 +1,142 @@
+-- Fitness of a trapezoid under a coordinate limit L: what rows 7 to 11 mean, and the tests that compute it.
+use mathlib.Core.Path.{_≡_}
+use mathlib.Core.Bool.{Bool, true, false, _&&_}
+use mathlib.Core.List.{List, [], _∷_}
+use mathlib.Core.Logic.{_↔_}
+use Prim.Native.Nat.{ℕ, _+_, _≤_}
+use lib.Dec.{T}
+use lib.IntN.{pos, natAbs}
+use lib.Signed.{ltZ, _<ℤ_}
+use Rattle.integer.specs.declared.Ordering.{Ordering}
+use Rattle.integer.specs.declared.Ordering.the-variants.{Less, Equal, Greater}
+use Rattle.integer.specs.Fraction.{Fraction, Proper, before}
+use Rattle.records.specs.Lists.{All}
+use Rattle.geometry.specs.declared.Line.{Line}
+use Rattle.geometry.specs.declared.Base.{Base}
+use Rattle.geometry.specs.declared.Trapezoid.{Trapezoid}
+use Rattle.geometry.specs.declared.Verdict.{Verdict}
+use Rattle.geometry.specs.declared.Verdict.the-variants.{Fit, Row}
+use Rattle.geometry.specs.declared.Checked.{Checked}
+use Rattle.geometry.specs.declared.Checked.the-variants.{Passed, Refused}
+use Rattle.geometry.specs.Limit.{onGrid}
+use Rattle.geometry.specs.Lines.{IsLine}
+use Rattle.geometry.specs.Positions.{gap, crosses, heights, position}
+use Rattle.geometry.specs.Points.{Point, IsPoint, On, SamePoint}
+use Rattle.geometry.specs.Trapezoids.{linesOf, liesIn}
+
+-- ---- the meanings
+-- row 7: every coordinate is from −L to L
+pub record OnGrid (L : ℕ) (l : Line) : Type 0 where
+  pub x1 : natAbs (l .x1) ≤ L
+  pub y1 : natAbs (l .y1) ≤ L
+  pub x2 : natAbs (l .x2) ≤ L
+  pub y2 : natAbs (l .y2) ≤ L
+
+-- row 9: one rational point lies on both lines, and no other
+pub record CrossInOnePoint (l m : Line) : Type 0 where
+  pub point : Point
+  pub real : IsPoint point
+  pub on-first : On l point
+  pub on-second : On m point
+  pub only : (Q : Point) → IsPoint Q → On l Q → On m Q → SamePoint point Q
+
+-- row 10: wherever the left base's lines meet is left of wherever the right base's lines meet
+abbrev pub LeftOf : Base → Base → Type 0
+LeftOf b c = (x y : Fraction) → Proper x → Proper y → gap (b .first) (b .second) x ≡ pos 0 → gap (c .first) (c .second) y ≡ pos 0 → T (before x y)
+
+-- row 11: the bottom is below the top at every rational position strictly between the bases
+abbrev pub BelowBetween : Fraction → Fraction → Line → Line → Type 0
+BelowBetween p q l m = (x : Fraction) → Proper x → T (before p x) → T (before x q) → gap l m x <ℤ pos 0
+
+pub record FitFor (L : ℕ) (t : Trapezoid) : Type 0 where
+  pub grid : All (OnGrid L) (linesOf t)
+  pub lines : All IsLine (linesOf t)
+  pub left : CrossInOnePoint (t .left .first) (t .left .second)
+  pub right : CrossInOnePoint (t .right .first) (t .right .second)
+  pub bases : LeftOf (t .left) (t .right)
+  pub sides : BelowBetween (position (t .left)) (position (t .right)) (t .bottom) (t .top)
+
+-- ---- the tests, row by row
+abbrev pub all : {A : Type 0} → (A → Bool) → List A → Bool
+all f [] = true
+all f (x ∷ xs) = f x && all f xs
+
+unfoldable pub lineOnGrid : ℕ → Line → Bool
+lineOnGrid L l = onGrid L (l .x1) && (onGrid L (l .y1) && (onGrid L (l .x2) && onGrid L (l .y2)))
+
+unfoldable pub isLine : Line → Bool
+isLine l = ltZ (l .x1) (l .x2)
+
+abbrev pub baseCrosses : Base → Bool
+baseCrosses b = crosses (b .first) (b .second)
+
+abbrev pub leftOf : Base → Base → Bool
+leftOf b c = before (position b) (position c)
+
+-- of the heights at the two bases: above at neither, and below at one
+abbrev pub apartBy : Ordering → Ordering → Bool
+apartBy Less Less = true
+apartBy Less Equal = true
+apartBy Less Greater = false
+apartBy Equal Less = true
+apartBy Equal Equal = false
+apartBy Equal Greater = false
+apartBy Greater o = false
+
+unfoldable pub belowBetween : Fraction → Fraction → Line → Line → Bool
+belowBetween p q l m = apartBy (heights p l m) (heights q l m)
+
+abbrev pub pass : Bool → ℕ → Verdict → Verdict
+pass true n v = v
+pass false n v = Row n
+
+-- the first of the rows 7 to 11 that refuses a trapezoid
+unfoldable pub verdict : ℕ → Trapezoid → Verdict
+verdict L t =
+    pass (all (lineOnGrid L) (linesOf t)) 7
+    (pass (all isLine (linesOf t)) 8
+    (pass (baseCrosses (t .left) && baseCrosses (t .right)) 9
+    (pass (leftOf (t .left) (t .right)) 10
+    (pass (belowBetween (position (t .left)) (position (t .right)) (t .bottom) (t .top)) 11
+    Fit))))
+
+abbrev pub refuse : Verdict → ℕ → Checked → Checked
+refuse Fit i c = c
+refuse (Row n) i c = Refused n i
+
+-- "7 to 11 are completed for one piece before the next": the first refusal of a list, its places numbered on from i
+unfoldable pub firstRefusal : ℕ → ℕ → List Trapezoid → Checked
+firstRefusal L i [] = Passed
+firstRefusal L i (t ∷ ts) = refuse (verdict L t) i (firstRefusal L (i + 1) ts)
+
+-- ---- the tests say what they mean (proved in proofs/Fitness.antt under the names in lower case)
+-- row 7
+abbrev pub GridExact : Type 0
+GridExact = (L : ℕ) (l : Line) → T (lineOnGrid L l) ↔ OnGrid L l
+
+-- row 9, of lines
+abbrev pub BaseExact : Type 0
+BaseExact = (l m : Line) → IsLine l → IsLine m → T (crosses l m) ↔ CrossInOnePoint l m
+
+-- row 10, of bases whose lines cross
+abbrev pub BasesExact : Type 0
+BasesExact = (b c : Base) → T (baseCrosses b) → T (baseCrosses c) → T (leftOf b c) ↔ LeftOf b c
+
+-- row 11, between two positions
+abbrev pub SidesExact : Type 0
+SidesExact = (p q : Fraction) (l m : Line) → Proper p → Proper q → T (before p q) → T (belowBetween p q l m) ↔ BelowBetween p q l m
+
+-- a trapezoid is let pass exactly if it is fit, and a list exactly if each of it is
+abbrev pub FitExact : Type 0
+FitExact = (L : ℕ) (t : Trapezoid) → (verdict L t ≡ Fit) ↔ FitFor L t
+
+abbrev pub LayerExact : Type 0
+LayerExact = (L i : ℕ) (ts : List Trapezoid) → (firstRefusal L i ts ≡ Passed) ↔ All (FitFor L) ts
+
+-- what is fit for a limit is fit for every larger one
+abbrev pub FitMore : Type 0
+FitMore = (L M : ℕ) (t : Trapezoid) → L ≤ M → FitFor L t → FitFor M t
+
+-- a rational point lies in every fit trapezoid
+abbrev pub FitHoldsPoint : Type 0
+FitHoldsPoint = (L : ℕ) (t : Trapezoid) → FitFor L t → (P : Point) × IsPoint P × T (liesIn P t)
