@@ -23,12 +23,12 @@ use Rattle.geometry.specs.declared.Trapezoid.{Trapezoid}
 use Rattle.geometry.specs.declared.Verdict.{Verdict}
 use Rattle.geometry.specs.declared.Verdict.the-variants.{Fit, Row}
 use Rattle.geometry.specs.declared.Checked.the-variants.{Passed}
-use Rattle.geometry.specs.Limit.{onGrid}
+use Rattle.geometry.specs.Limit.{onGrid, OnGrid}
 use Rattle.geometry.specs.Lines.{dx, dy, offset, IsLine, det}
 use Rattle.geometry.specs.Positions.{gap, crosses, meet, position}
 use Rattle.geometry.specs.Points.{Point, at, side, On, under, SamePoint}
 use Rattle.geometry.specs.Trapezoids.{linesOf, based, liesIn}
-use Rattle.geometry.specs.Fitness.{OnGrid, CrossInOnePoint, FitFor, all, lineOnGrid, isLine, baseCrosses, leftOf, belowBetween, pass, verdict, refuse, firstRefusal, GridExact, BaseExact, BasesExact, SidesExact, FitExact, LayerExact, FitMore, FitHoldsPoint}
+use Rattle.geometry.specs.Fitness.{CrossInOnePoint, FitFor, all, lineOnGrid, isLine, baseCrosses, leftOf, belowBetween, pass, verdict, refuse, firstRefusal, GridExact, BaseExact, BasesExact, SidesExact, FitExact, LayerExact, FitMore, FitHoldsPoint}
 use Rattle.geometry.proofs.Identities.{dx-positive, side-gap}
 use Rattle.geometry.proofs.Heights.{coincide-everywhere}
 use Rattle.geometry.proofs.Meet.{det→crosses, meet-proper, meet-gap, meet-only}

@@ -25,13 +25,17 @@ use Rattle.geometry.proofs.Identities.{dx-positive, T-or-not, gap-chain
 pub heights-gap : (x : Fraction) (l m : Line) → heights x l m ≡ orderOf (gap l m x) (pos 0)
 unfolding heights gap
 heights-gap x l m =
-    order-by (det l m ⊗ x .num) (numer l m ⊗ x .den) (gap l m x) (pos 0) (ring 4 (λ a b n d. a ⊠ n ⊟ b ⊠ d ≗ (a ⊠ n ⊟ b ⊠ d) ⊟ con (pos 0)) tt (det l m) (numer l m) (x .num) (x .den))
+    order-by (x .num ⊗ det l m) (numer l m ⊗ x .den) (gap l m x) (pos 0) (ring 4 (λ a b n d. n ⊠ a ⊟ b ⊠ d ≗ (a ⊠ n ⊟ b ⊠ d) ⊟ con (pos 0)) tt (det l m) (numer l m) (x .num) (x .den))
 
 pub height-total : (l m : Line) (x : Fraction) → (gap l m x ≤ℤ pos 0) ⊎ (gap m l x ≤ℤ pos 0)
 height-total l m x = elim (lt-or-le (pos 0) (gap l m x)) [ inl h ↦ inr (lt→le (neg-lt (gap-turn l m x) h)) | inr h ↦ inl h ]
 
 pub height-trans : (l m k : Line) (x : Fraction) → IsLine l → IsLine m → IsLine k → gap l m x ≤ℤ pos 0 → gap m k x ≤ℤ pos 0 → gap l k x ≤ℤ pos 0
 height-trans l m k x hl hm hk h j = weighted-le (gap-chain l m k x) (dx-positive hm) (lt→le (dx-positive hk)) (lt→le (dx-positive hl)) h j
+
+pub right-by : (x : Fraction) (l m : Line) (o : Ordering) → heights x l m ≡ o → rightOf x l m ≡ thenBy o (orderOf (det l m) (pos 0))
+unfolding rightOf
+right-by x l m o e = rw e
 
 -- ---- right of a position: by a, and where that is 0 by b
 abbrev pub Lower : ℤ → ℤ → Type 0

@@ -6,3 +6,5 @@ pub mod Points
 pub mod Sides
 pub mod Fitness
 pub mod Orders
+pub mod Magnitudes
+pub mod Trapezoids

@@ -6,11 +6,14 @@ use lib.IntN.{pos}
 use lib.Dec.{T, T-not}
 use lib.Signed.{ltZ, _≤ℤ_, _<ℤ_, ltZ-yes, ltZ-no}
 use Rattle.integer.specs.Fraction.{Fraction, Proper}
-use Rattle.integer.proofs.Order.{antisymm, lt-or-le}
+use Rattle.integer.proofs.Ring.{ring, _⊟_, _⊠_, minus, _≗_}
+use Rattle.integer.proofs.Order.{antisymm, lt-or-le, lt→le}
 use Rattle.integer.proofs.Linear.{zarith, minus⁺, minus⁻, neg-gt, neg-zero}
 use Rattle.integer.proofs.Fraction.{cross}
 use Rattle.geometry.specs.declared.Line.{Line}
-use Rattle.geometry.specs.Lines.{det}
+use Rattle.integer.specs.Integer.{⊝_}
+use Rattle.integer.proofs.Tests.{yes-lt, no-lt}
+use Rattle.geometry.specs.Lines.{dx, offset, det, numer}
 use Rattle.geometry.specs.Positions.{gap, crosses, root, meet}
 use Rattle.geometry.proofs.Identities.{gap-turn, det-turn, root-zero, root-cross}
 
@@ -62,3 +65,15 @@ meet-gap l m = meet-cases (λ (p : Fraction). gap l m p ≡ pos 0) l m (λ h. ro
 
 pub meet-only : (l m : Line) (x : Fraction) → gap l m x ≡ pos 0 → cross x (meet l m) ≡ pos 0
 meet-only l m x e = meet-cases (λ (p : Fraction). cross x p ≡ pos 0) l m (λ k. root-cross l m x ∙ e) (λ k. root-cross m l x ∙ neg-zero (gap-turn l m x) e)
+
+-- ---- by the determinant's sign, as a function finds it
+pub meet-rising : (l m : Line) → pos 0 <ℤ det l m → meet l m ≡ record { num = numer l m; den = det l m }
+unfolding meet root
+meet-rising l m h = rw (yes-lt h)
+
+pub meet-falling : (l m : Line) → det l m <ℤ pos 0 → meet l m ≡ record { num = ⊝ numer l m; den = ⊝ det l m }
+unfolding meet root det numer
+meet-falling l m h =
+    let n : numer m l ≡ ⊝ numer l m = ring 4 (λ a c e g. e ⊠ c ⊟ a ⊠ g ≗ minus (a ⊠ g ⊟ e ⊠ c)) tt (dx l) (offset l) (dx m) (offset m) in
+    let d = det-turn l m in
+    rw (no-lt (lt→le h)) (λ j. record { num = n j; den = d j })

@@ -18,20 +18,13 @@ use Rattle.geometry.specs.declared.Verdict.{Verdict}
 use Rattle.geometry.specs.declared.Verdict.the-variants.{Fit, Row}
 use Rattle.geometry.specs.declared.Checked.{Checked}
 use Rattle.geometry.specs.declared.Checked.the-variants.{Passed, Refused}
-use Rattle.geometry.specs.Limit.{onGrid}
+use Rattle.geometry.specs.Limit.{onGrid, OnGrid}
 use Rattle.geometry.specs.Lines.{IsLine}
 use Rattle.geometry.specs.Positions.{gap, crosses, heights, position}
 use Rattle.geometry.specs.Points.{Point, IsPoint, On, SamePoint}
 use Rattle.geometry.specs.Trapezoids.{linesOf, liesIn}
 
 -- ---- the meanings
--- row 7: every coordinate is from −L to L
-pub record OnGrid (L : ℕ) (l : Line) : Type 0 where
-  pub x1 : natAbs (l .x1) ≤ L
-  pub y1 : natAbs (l .y1) ≤ L
-  pub x2 : natAbs (l .x2) ≤ L
-  pub y2 : natAbs (l .y2) ≤ L
-
 -- row 9: one rational point lies on both lines, and no other
 pub record CrossInOnePoint (l m : Line) : Type 0 where
   pub point : Point

@@ -6,3 +6,4 @@ pub mod Points
 pub mod Orders
 pub mod Trapezoids
 pub mod Fitness
+pub mod Code

@@ -33,7 +33,7 @@ position b = meet (b .first) (b .second)
 
 -- Less where l is below m at x, Equal where they meet there
 unfoldable pub heights : Fraction → Line → Line → Ordering
-heights x l m = orderOf (det l m ⊗ x .num) (numer l m ⊗ x .den)
+heights x l m = orderOf (x .num ⊗ det l m) (numer l m ⊗ x .den)
 
 -- the first order, and where that is Equal the second
 abbrev pub thenBy : Ordering → Ordering → Ordering
