@@ -27,6 +27,13 @@ pub fn of(x: i64) -> Int
     Int { v: x }
 }
 
+pub fn natural(n: u32) -> Int
+    ensures { λ r. ⌜ r .v ≡ pos n ⌝ }
+    ensures magnitude { λ r. ⌜ natAbs (r .v) ≡ n ⌝ }
+{
+    Int { v: n as i64 }
+}
+
 // A 32-bit word as a number, for every word.
 pub fn widen(x: i32) -> Int
     ensures { λ r. ⌜ r .v ≡ x ⌝ }

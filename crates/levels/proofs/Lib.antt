@@ -1,0 +1,8 @@
+pub mod Tests
+pub mod Lists
+pub mod Order
+pub mod Laws
+pub mod Unique
+pub mod Next
+pub mod Scan
+pub mod Walk
