@@ -28,7 +28,7 @@ use Rattle.geometry.specs.Lines.{dx, dy, offset, IsLine, det}
 use Rattle.geometry.specs.Positions.{gap, crosses, meet, position}
 use Rattle.geometry.specs.Points.{Point, at, side, On, under, SamePoint}
 use Rattle.geometry.specs.Trapezoids.{linesOf, based, liesIn}
-use Rattle.geometry.specs.Fitness.{CrossInOnePoint, FitFor, all, lineOnGrid, isLine, baseCrosses, leftOf, belowBetween, pass, verdict, refuse, firstRefusal, GridExact, BaseExact, BasesExact, SidesExact, FitExact, LayerExact, FitMore, FitHoldsPoint}
+use Rattle.geometry.specs.Fitness.{CrossInOnePoint, FitFor, all, lineOnGrid, isLine, baseCrosses, leftOf, belowBetween, pass, shapeVerdict, verdict, refuse, firstRefusal, GridExact, BaseExact, BasesExact, SidesExact, FitExact, LayerExact, FitMore, FitHoldsPoint}
 use Rattle.geometry.proofs.Identities.{dx-positive, side-gap}
 use Rattle.geometry.proofs.Heights.{coincide-everywhere}
 use Rattle.geometry.proofs.Meet.{det→crosses, meet-proper, meet-gap, meet-only}
@@ -70,7 +70,7 @@ unfolding isLine
 line-exact l = ((λ t. record { rightward = ltZ-yes t }), (λ h. h .rightward .lt))
 
 -- a test of each of a list
-all-exact : {A : Type 0} (f : A → Bool) (P : A → Type 0) → ((x : A) → T (f x) ↔ P x) → (xs : List A) → T (all f xs) ↔ All P xs
+pub all-exact : {A : Type 0} (f : A → Bool) (P : A → Type 0) → ((x : A) → T (f x) ↔ P x) → (xs : List A) → T (all f xs) ↔ All P xs
 all-exact f P e [] = ((λ t. tt), (λ h. tt))
 all-exact f P e (x ∷ xs) = (
   (λ t. let h = and-yes (f x) (all f xs) t in (e x .0 (h .0), all-exact f P e xs .0 (h .1))),
@@ -156,7 +156,7 @@ pass-fit true n v = ((λ e. (tt, e)), (λ h. h .1))
 pass-fit false n v = ((λ e. let z : _≡_ {A = ℕ} 0 1 = cc in absurd (omega arith)), (λ h. absurd (h .0)))
 
 pub fit-exact : FitExact
-unfolding verdict
+unfolding verdict shapeVerdict
 fit-exact L t = (there, back)
   where
     there : verdict L t ≡ Fit → FitFor L t
@@ -214,12 +214,13 @@ layer-exact L i (t ∷ ts) = (
     there (Row n) e = let z : _≡_ {A = ℕ} 0 1 = cc in absurd (omega arith)
 
 -- ---- what fitness gives
+pub grid-more : (L M : ℕ) → L ≤ M → (l : Line) → OnGrid L l → OnGrid M l
+grid-more L M h l g = record { x1 = le-trans (g .x1) h; y1 = le-trans (g .y1) h; x2 = le-trans (g .x2) h; y2 = le-trans (g .y2) h }
+
 pub fit-more : FitMore
 fit-more L M t h k =
-    let more : (l : Line) → OnGrid L l → OnGrid M l
-    = λ l g. record { x1 = le-trans (g .x1) h; y1 = le-trans (g .y1) h; x2 = le-trans (g .x2) h; y2 = le-trans (g .y2) h } in
     record {
-      grid = all-map more (linesOf t) (k .grid);
+      grid = all-map (grid-more L M h) (linesOf t) (k .grid);
       lines = k .lines;
       left = k .left;
       right = k .right;

@@ -8,3 +8,6 @@ pub mod Fitness
 pub mod Orders
 pub mod Magnitudes
 pub mod Trapezoids
+pub mod Conjunction
+pub mod Branches
+pub mod Checking

@@ -1,14 +1,9 @@
 -- Magnitudes over any coordinate limit L: dx and dy are within 2·L, offset within 2·L², det within 8·L², numer within 8·L³.
-use mathlib.Core.Path.{_≡_, sym, _∙_, subst}
-use Prim.Native.Nat.{ℕ, _*_, _+_, _≤_}
-use native.Mathlib.Nat.{mul-mul-mul-comm, mul-assoc, le-of-eq}
+use Prim.Native.Nat.{ℕ, _*_}
 use native.Mathlib.Omega.{arith}
-use lib.IntN.{ℤ, natAbs, pos}
-use Rattle.integer.specs.Integer.{_⊕_, _⊖_, _⊗_}
-use Rattle.integer.proofs.Ring.{ring, _⊠_, con, _≗_}
 use Rattle.integer.proofs.Magnitude.{_within_, within-sub, within-mul, within-minor, within-more}
 use Rattle.geometry.specs.declared.Line.{Line}
-use Rattle.geometry.specs.Limit.{OnGrid, detBound, numerBound, productBound}
+use Rattle.geometry.specs.Limit.{OnGrid}
 use Rattle.geometry.specs.Lines.{dx, dy, offset, det, numer, MeetingWithin, ProductWithin}
 
 module _ (L : ℕ) (l : Line) (h : OnGrid L l) where

@@ -1,17 +1,15 @@
 -- Trapezoids as records: the codec loses nothing, and a record is read line by line.
 use mathlib.Core.Path.{_≡_, refl, sym, ap, _∙_}
-use mathlib.Core.List.{List, [], _∷_, _++_}
+use mathlib.Core.List.{List, [], _∷_}
 use Prim.Native.Nat.{ℕ, zero, suc, _+_, _*_, _≤_}
 use native.Mathlib.Nat.{add-assoc}
 use native.Mathlib.Omega.{arith}
 use lib.IntN.{ℤ, pos}
 use lib.ListN.{length, getD, take, drop, drop-of-length-le}
 use lib.Seq.{getD-take, getD-drop, drop-cons}
-use Rattle.records.specs.Lists.{All}
 use Rattle.records.specs.Records.{Faithful, recordAt}
-use Rattle.geometry.specs.declared.Line.{Line}
 use Rattle.geometry.specs.declared.Trapezoid.{Trapezoid}
-use Rattle.geometry.specs.Trapezoids.{lineAt, lineWords, trapezoidOf, trapezoidWords, trapezoidCodec}
+use Rattle.geometry.specs.Trapezoids.{lineAt, trapezoidOf, trapezoidWords, trapezoidCodec}
 
 module _ (s : List ℤ) (a : ℕ) where
   word-at : (k : ℕ) → k + 1 ≤ 24 → getD (take 24 (drop a s)) k (pos 0) ≡ getD s (a + k) (pos 0)

@@ -1,10 +1,9 @@
 -- How the functions' structs stand for the numbers of the definitions.
 use mathlib.Core.Path.{_≡_}
 use mathlib.Core.Bool.{not}
-use Prim.Native.Nat.{ℕ, _*_, _≤_}
+use Prim.Native.Nat.{_*_, _≤_}
 use lib.Dec.{T}
-use lib.IntN.{ℤ, pos, natAbs}
-use lib.Signed.{_<ℤ_}
+use lib.IntN.{natAbs}
 use Rattle.integer.specs.declared.Int.{Int}
 use Rattle.integer.specs.Fraction.{Fraction}
 use Rattle.geometry.specs.declared.Line.{Line}

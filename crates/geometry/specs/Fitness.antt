@@ -5,7 +5,7 @@ use mathlib.Core.List.{List, [], _∷_}
 use mathlib.Core.Logic.{_↔_}
 use Prim.Native.Nat.{ℕ, _+_, _≤_}
 use lib.Dec.{T}
-use lib.IntN.{pos, natAbs}
+use lib.IntN.{pos}
 use lib.Signed.{ltZ, _<ℤ_}
 use Rattle.integer.specs.declared.Ordering.{Ordering}
 use Rattle.integer.specs.declared.Ordering.the-variants.{Less, Equal, Greater}
@@ -83,15 +83,17 @@ abbrev pub pass : Bool → ℕ → Verdict → Verdict
 pass true n v = v
 pass false n v = Row n
 
--- the first of the rows 7 to 11 that refuses a trapezoid
-unfoldable pub verdict : ℕ → Trapezoid → Verdict
-verdict L t =
-    pass (all (lineOnGrid L) (linesOf t)) 7
-    (pass (all isLine (linesOf t)) 8
-    (pass (baseCrosses (t .left) && baseCrosses (t .right)) 9
+-- of the rows 9 to 11
+unfoldable pub shapeVerdict : Trapezoid → Verdict
+shapeVerdict t =
+    pass (baseCrosses (t .left) && baseCrosses (t .right)) 9
     (pass (leftOf (t .left) (t .right)) 10
     (pass (belowBetween (position (t .left)) (position (t .right)) (t .bottom) (t .top)) 11
-    Fit))))
+    Fit))
+
+-- the first of the rows 7 to 11 that refuses a trapezoid
+unfoldable pub verdict : ℕ → Trapezoid → Verdict
+verdict L t = pass (all (lineOnGrid L) (linesOf t)) 7 (pass (all isLine (linesOf t)) 8 (shapeVerdict t))
 
 abbrev pub refuse : Verdict → ℕ → Checked → Checked
 refuse Fit i c = c

@@ -16,10 +16,10 @@ ghost use Rattle.integer.specs.Fraction.{order};
 ghost use Rattle.records.specs.Lists.{All};
 ghost use Rattle.records.specs.Records.{recordAt};
 ghost use Rattle.geometry.specs.Limit.{coordinateLimit, onGrid, OnGrid, detBound, numerBound};
-ghost use Rattle.geometry.specs.Positions.{crosses, heights, rightOf};
+ghost use Rattle.geometry.specs.Positions.{crosses, heights, rightOf, isLess};
 ghost use Rattle.geometry.specs.Points.{under as underOf};
 ghost use Rattle.geometry.specs.Trapezoids.{linesOf, lineAt, lineWords, trapezoidCodec, trapezoidWords, layerOf, liesIn};
-ghost use Rattle.geometry.specs.Fitness.{all, lineOnGrid, isLine, verdict as verdictOf, firstRefusal};
+ghost use Rattle.geometry.specs.Fitness.{all, lineOnGrid, isLine, apartBy, belowBetween, shapeVerdict, verdict, firstRefusal};
 ghost use Rattle.geometry.specs.Code.{CornersOf, CoefficientsOf, MeetingOf, fractionOf, Small, CrossingOf, pointOf, SmallPoint};
 
 // Four words, two grid points with x1 < x2.
@@ -269,4 +269,227 @@ pub fn right_order(l: Line, m: Line, x: Position) -> Ordering
         }
         Ordering::Greater => Ordering::Greater,
     }
+}
+
+// Whether a line is at or below the point (x/d, y/d).
+pub fn under(l: Line, x: Int, y: Int, d: Int) -> bool
+    requires { ⌜ OnGrid coordinateLimit l × SmallPoint x y d ⌝ }
+    ensures { λ r. ⌜ r ≡ underOf (pointOf x y d) l ⌝ }
+{
+    let k = coefficients_of(l);
+    let a = integer::mul(k.dx, y);
+    let b = integer::mul(k.dy, x);
+    let c = integer::mul(k.offset, d);
+    let u = integer::sub(a, b);
+    let side = integer::sub(u, c);
+    let zero = integer::of(0);
+    integer::at_most(zero, side)
+}
+
+// Whether a coordinate is from -limit to limit.
+fn within(x: Int, limit: u32) -> bool
+    ensures { λ r. ⌜ r ≡ onGrid limit (x .v) ⌝ }
+{
+    let b = integer::natural(limit);
+    let a = integer::neg(b);
+    if integer::at_most(a, x) {
+        return integer::at_most(x, b);
+    }
+    false
+}
+
+fn line_on_grid(l: Line, limit: u32) -> bool
+    ensures { λ r. ⌜ r ≡ lineOnGrid limit l ⌝ }
+{
+    let k = corners_of(l);
+    if within(k.x1, limit) {
+        if within(k.y1, limit) {
+            if within(k.x2, limit) {
+                return within(k.y2, limit);
+            }
+        }
+    }
+    false
+}
+
+fn is_line(l: Line) -> bool
+    ensures { λ r. ⌜ r ≡ isLine l ⌝ }
+{
+    let k = corners_of(l);
+    integer::less(k.x1, k.x2)
+}
+
+// Row 7 lets the trapezoid pass.
+fn on_grid(t: Trapezoid, limit: u32) -> bool
+    ensures { λ r. ⌜ r ≡ all (lineOnGrid limit) (linesOf t) ⌝ }
+{
+    let left = t.left;
+    let right = t.right;
+    if line_on_grid(left.first, limit) {
+        if line_on_grid(left.second, limit) {
+            if line_on_grid(right.first, limit) {
+                if line_on_grid(right.second, limit) {
+                    if line_on_grid(t.bottom, limit) {
+                        return line_on_grid(t.top, limit);
+                    }
+                }
+            }
+        }
+    }
+    false
+}
+
+// Row 8 lets the trapezoid pass.
+fn has_lines(t: Trapezoid) -> bool
+    ensures { λ r. ⌜ r ≡ all isLine (linesOf t) ⌝ }
+{
+    let left = t.left;
+    let right = t.right;
+    if is_line(left.first) {
+        if is_line(left.second) {
+            if is_line(right.first) {
+                if is_line(right.second) {
+                    if is_line(t.bottom) {
+                        return is_line(t.top);
+                    }
+                }
+            }
+        }
+    }
+    false
+}
+
+// Row 11: the bottom is above the top at neither base, and below it at one.
+fn below_between(l: Line, m: Line, p: Position, q: Position) -> bool
+    requires { ⌜ OnGrid coordinateLimit l × OnGrid coordinateLimit m × Small p × Small q ⌝ }
+    ensures { λ r. ⌜ r ≡ belowBetween (fractionOf p) (fractionOf q) l m ⌝ }
+{
+    let a = heights_at(l, m, p);
+    let b = heights_at(l, m, q);
+    apart(a, b)
+}
+
+fn apart(a: Ordering, b: Ordering) -> bool
+    ensures { λ r. ⌜ r ≡ apartBy a b ⌝ }
+{
+    match a {
+        Ordering::Less => match b {
+            Ordering::Less => true,
+            Ordering::Equal => true,
+            Ordering::Greater => false,
+        },
+        Ordering::Equal => match b {
+            Ordering::Less => true,
+            Ordering::Equal => false,
+            Ordering::Greater => false,
+        },
+        Ordering::Greater => false,
+    }
+}
+
+fn is_less(a: Ordering) -> bool
+    ensures { λ r. ⌜ r ≡ isLess a ⌝ }
+{
+    match a {
+        Ordering::Less => true,
+        Ordering::Equal => false,
+        Ordering::Greater => false,
+    }
+}
+
+// Rows 9 to 11, of a trapezoid that row 7 lets pass.
+fn judge_shape(t: Trapezoid) -> Verdict
+    requires { ⌜ All (OnGrid coordinateLimit) (linesOf t) ⌝ }
+    ensures { λ r. ⌜ r ≡ shapeVerdict t ⌝ }
+{
+    let left = t.left;
+    let right = t.right;
+    let bottom = t.bottom;
+    let top = t.top;
+    let a = crossing_of(left.first, left.second);
+    let Crossing::At(p) = a else {
+        return Verdict::Row(9);
+    };
+    let b = crossing_of(right.first, right.second);
+    let Crossing::At(q) = b else {
+        return Verdict::Row(9);
+    };
+    let o = compare(p, q);
+    if is_less(o) {
+        if below_between(bottom, top, p, q) {
+            return Verdict::Fit;
+        }
+        return Verdict::Row(11);
+    }
+    Verdict::Row(10)
+}
+
+// The first of the rows 7 to 11 that refuses a trapezoid under a limit.
+pub fn judge(t: Trapezoid, limit: u32) -> Verdict
+    requires { ⌜ limit ≤ coordinateLimit ⌝ }
+    ensures { λ r. ⌜ r ≡ verdict limit t ⌝ }
+{
+    if on_grid(t, limit) {
+        if has_lines(t) {
+            return judge_shape(t);
+        }
+        return Verdict::Row(8);
+    }
+    Verdict::Row(7)
+}
+
+// The first refusal of a layer's words, with places numbered on from a start.
+pub fn first_refused(words: &[i32], limit: u32, start: usize) -> Checked
+    requires { ⌜ (limit ≤ coordinateLimit) × (start ≤ 1024) ⌝ }
+    ensures { λ r. ⌜ r ≡ firstRefusal limit start (layerOf (now (words .entry))) ⌝ }
+{
+    let n = words.len() / records::MEMORY_WIDTH;
+    let mut i = 0;
+    while i < n {
+        let t = load(words, i);
+        let v = judge(t, limit);
+        match v {
+            Verdict::Fit => {}
+            Verdict::Row(number) => {
+                return Checked::Refused {
+                    number,
+                    place: start + i,
+                };
+            }
+        }
+        i += 1;
+    }
+    Checked::Passed
+}
+
+// Whether the point (x/d, y/d) lies in a trapezoid.
+pub fn contains(t: Trapezoid, x: Int, y: Int, d: Int) -> bool
+    requires { ⌜ All (OnGrid coordinateLimit) (linesOf t) × SmallPoint x y d ⌝ }
+    ensures { λ r. ⌜ r ≡ liesIn (pointOf x y d) t ⌝ }
+{
+    let left = t.left;
+    let right = t.right;
+    let bottom = t.bottom;
+    let top = t.top;
+    let a = crossing_of(left.first, left.second);
+    let Crossing::At(p) = a else {
+        return false;
+    };
+    let b = crossing_of(right.first, right.second);
+    let Crossing::At(q) = b else {
+        return false;
+    };
+    let here = Position { num: x, den: d };
+    if is_less(compare(here, p)) {
+        return false;
+    }
+    if is_less(compare(here, q)) {
+        if under(bottom, x, y, d) {
+            if under(top, x, y, d) {
+                return false;
+            }
+            return true;
+        }
+    }
+    false
 }

@@ -1,4 +1,3 @@
-use mathlib.Core.Path.{_∙_}
 use Rattle.integer.specs.Fraction.{order}
 use Rattle.geometry.proofs.compare.Statement.{statement}
 use Rattle.geometry.proofs.compare.Tie as tie

@@ -1,4 +1,4 @@
-use mathlib.Core.Path.{_≡_, sym, _∙_, ap₂}
+use mathlib.Core.Path.{_∙_, ap₂}
 use native.Mathlib.Omega.{arith}
 use Rattle.integer.specs.Compare.{orderOf}
 use Rattle.integer.proofs.Magnitude.{mul-magnitude}

@@ -1,6 +1,6 @@
 use mathlib.Core.Path.{_∙_}
 use mir.Facts.{toZ-ofZ}
-use borrow.Author.Needs.{needs, sfits-of}
+use borrow.Author.Needs.{sfits-of}
 use Rattle.geometry.proofs.corners_of.Statement.{statement}
 use Rattle.geometry.proofs.corners_of.Tie as tie
 

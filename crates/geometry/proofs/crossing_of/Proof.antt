@@ -1,10 +1,8 @@
-use mathlib.Core.Path.{_≡_, sym, _∙_, ap, subst}
-use mathlib.Core.Bool.{true, false}
+use mathlib.Core.Path.{sym, _∙_, ap}
 use native.Mathlib.Omega.{arith}
 use lib.Dec.{not-T}
-use lib.IntN.{ℤ, pos}
-use lib.Signed.{ltZ, _<ℤ_}
-use Rattle.integer.specs.Fraction.{Fraction}
+use lib.IntN.{pos}
+use lib.Signed.{_<ℤ_}
 use Rattle.integer.proofs.Linear.{zarith}
 use Rattle.integer.proofs.Tests.{lt-yes, lt-no}
 use Rattle.integer.proofs.Order.{antisymm}

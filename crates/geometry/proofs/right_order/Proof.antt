@@ -1,5 +1,4 @@
 use mathlib.Core.Path.{_≡_, sym, _∙_, ap₂}
-use lib.IntN.{pos}
 use borrow.Author.Needs.{needs}
 use Rattle.integer.specs.declared.Ordering.the-variants.{Less, Equal, Greater}
 use Rattle.integer.specs.Compare.{orderOf}
