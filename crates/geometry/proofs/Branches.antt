@@ -1,11 +1,13 @@
 -- The verdict and the point test, branch by branch as the functions take them.
 use mathlib.Core.Path.{_≡_, refl, subst}
-use mathlib.Core.Bool.{Bool, true, false}
+use mathlib.Core.Bool.{Bool, true, false, not}
 use Prim.Native.Nat.{ℕ, _≤_}
+use lib.Dec.{T}
 use lib.Signed.{ltZ}
 use Rattle.integer.specs.Integer.{_⊗_}
 use Rattle.integer.specs.Compare.{orderBy, orderOf}
 use Rattle.integer.specs.Fraction.{Fraction, before, order}
+use Rattle.integer.proofs.Fraction.{before→at-most}
 use Rattle.integer.proofs.Tests.{true-is, false-is, is-true}
 use Rattle.records.specs.Lists.{All}
 use Rattle.records.proofs.Lists.{all-map}
@@ -20,7 +22,7 @@ use Rattle.geometry.specs.Positions.{crosses, meet, position, isLess}
 use Rattle.geometry.specs.Points.{Point, at, under}
 use Rattle.geometry.specs.Trapezoids.{linesOf, liesIn}
 use Rattle.geometry.specs.Fitness.{all, lineOnGrid, isLine, belowBetween, shapeVerdict, verdict}
-use Rattle.geometry.specs.Code.{fractionOf, Small, CrossingOf}
+use Rattle.geometry.specs.Code.{fractionOf, Small, CrossingOf, precedesBy}
 use Rattle.geometry.proofs.Fitness.{all-exact, grid-exact, grid-more}
 
 -- "less" of the order of fractions is `before`
@@ -32,6 +34,26 @@ is-before p q = go (ltZ (p .num ⊗ q .den) (q .num ⊗ p .den)) (ltZ (q .num �
     go true t = refl
     go false true = refl
     go false false = refl
+
+-- and the answers of `precedes`
+pub strictly : (p q : Fraction) → precedesBy false (order p q) ≡ before p q
+unfolding order before orderOf
+strictly p q = go (ltZ (p .num ⊗ q .den) (q .num ⊗ p .den)) (ltZ (q .num ⊗ p .den) (p .num ⊗ q .den))
+  where
+    go : (s t : Bool) → precedesBy false (orderBy s t) ≡ s
+    go true t = refl
+    go false true = refl
+    go false false = refl
+
+pub weakly : (p q : Fraction) → precedesBy true (order p q) ≡ not (before q p)
+unfolding order before orderOf
+weakly p q = go (before p q) (before q p) (before→at-most p q)
+  where
+    go : (s t : Bool) → (T s → T (not t)) → precedesBy true (orderBy s t) ≡ not t
+    go true true h = absurd (h tt)
+    go true false h = refl
+    go false true h = refl
+    go false false h = refl
 
 -- what an answer of `crossing_of` says
 pub parallel : (l m : Line) (r : Crossing) → CrossingOf l m r → r ≡ Parallel → crosses l m ≡ false
@@ -93,11 +115,11 @@ module _ (P : Point) (t : Trapezoid) where
     point-right h = rw (hl, h)
 
     module _ (hr : crosses (t .right .first) (t .right .second) ≡ true) where
-      pub point-before : before (at P) (position (t .left)) ≡ true → false ≡ liesIn P t
+      pub point-before : not (before (at P) (position (t .left))) ≡ false → false ≡ liesIn P t
       unfolding liesIn
       point-before h = rw (hl, hr, h)
 
-      module _ (from : before (at P) (position (t .left)) ≡ false) where
+      module _ (from : not (before (at P) (position (t .left))) ≡ true) where
         pub point-after : before (at P) (position (t .right)) ≡ false → false ≡ liesIn P t
         unfolding liesIn
         point-after h = rw (hl, hr, from, h)

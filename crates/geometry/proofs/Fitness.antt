@@ -36,7 +36,7 @@ use Rattle.geometry.proofs.Points.{on, on-point, on-line, on-other, on-
 use Rattle.geometry.proofs.Sides as Sides
 
 -- ---- row 7
-grid-coordinate : (L : ℕ) (z : ℤ) → T (onGrid L z) ↔ (natAbs z ≤ L)
+pub grid-coordinate : (L : ℕ) (z : ℤ) → T (onGrid L z) ↔ (natAbs z ≤ L)
 unfolding onGrid
 grid-coordinate L z = (
   (λ t.

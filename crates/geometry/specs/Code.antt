@@ -1,10 +1,12 @@
 -- How the functions' structs stand for the numbers of the definitions.
 use mathlib.Core.Path.{_≡_}
-use mathlib.Core.Bool.{not}
+use mathlib.Core.Bool.{Bool, true, false, not}
 use Prim.Native.Nat.{_*_, _≤_}
 use lib.Dec.{T}
 use lib.IntN.{natAbs}
 use Rattle.integer.specs.declared.Int.{Int}
+use Rattle.integer.specs.declared.Ordering.{Ordering}
+use Rattle.integer.specs.declared.Ordering.the-variants.{Less, Equal, Greater}
 use Rattle.integer.specs.Fraction.{Fraction}
 use Rattle.geometry.specs.declared.Line.{Line}
 use Rattle.geometry.specs.declared.Corners.{Corners}
@@ -52,6 +54,12 @@ pub record Small (p : Position) : Type 0 where
 abbrev pub CrossingOf : Line → Line → Crossing → Type 0
 CrossingOf l m Parallel = T (not (crosses l m))
 CrossingOf l m (At p) = T (crosses l m) × (fractionOf p ≡ meet l m) × Small p
+
+-- less, or where `level` is yes less or equal
+abbrev pub precedesBy : Bool → Ordering → Bool
+precedesBy level Less = true
+precedesBy level Equal = level
+precedesBy level Greater = false
 
 abbrev pub pointOf : Int → Int → Int → Point
 pointOf x y d = record { X = x .v; Y = y .v; D = d .v }

@@ -20,7 +20,7 @@ ghost use Rattle.geometry.specs.Positions.{crosses, heights, rightOf, is
 ghost use Rattle.geometry.specs.Points.{under as underOf};
 ghost use Rattle.geometry.specs.Trapezoids.{linesOf, lineAt, lineWords, trapezoidCodec, trapezoidWords, layerOf, liesIn};
 ghost use Rattle.geometry.specs.Fitness.{all, lineOnGrid, isLine, apartBy, belowBetween, shapeVerdict, verdict, firstRefusal};
-ghost use Rattle.geometry.specs.Code.{CornersOf, CoefficientsOf, MeetingOf, fractionOf, Small, CrossingOf, pointOf, SmallPoint};
+ghost use Rattle.geometry.specs.Code.{CornersOf, CoefficientsOf, MeetingOf, fractionOf, Small, CrossingOf, precedesBy, pointOf, SmallPoint};
 
 // Four words, two grid points with x1 < x2.
 pub struct Line {
@@ -287,7 +287,7 @@ pub fn under(l: Line, x: Int, y: Int, d: Int) -> bool
 }
 
 // Whether a coordinate is from -limit to limit.
-fn within(x: Int, limit: u32) -> bool
+pub fn within(x: Int, limit: u32) -> bool
     ensures { λ r. ⌜ r ≡ onGrid limit (x .v) ⌝ }
 {
     let b = integer::natural(limit);
@@ -298,7 +298,7 @@ fn within(x: Int, limit: u32) -> bool
     false
 }
 
-fn line_on_grid(l: Line, limit: u32) -> bool
+pub fn line_on_grid(l: Line, limit: u32) -> bool
     ensures { λ r. ⌜ r ≡ lineOnGrid limit l ⌝ }
 {
     let k = corners_of(l);
@@ -320,7 +320,7 @@ fn is_line(l: Line) -> bool
 }
 
 // Row 7 lets the trapezoid pass.
-fn on_grid(t: Trapezoid, limit: u32) -> bool
+pub fn on_grid(t: Trapezoid, limit: u32) -> bool
     ensures { λ r. ⌜ r ≡ all (lineOnGrid limit) (linesOf t) ⌝ }
 {
     let left = t.left;
@@ -393,6 +393,17 @@ fn is_less(a: Ordering) -> bool
     match a {
         Ordering::Less => true,
         Ordering::Equal => false,
+        Ordering::Greater => false,
+    }
+}
+
+// Whether the first of two compared is less, or less or equal.
+fn precedes(o: Ordering, level: bool) -> bool
+    ensures { λ r. ⌜ r ≡ precedesBy level o ⌝ }
+{
+    match o {
+        Ordering::Less => true,
+        Ordering::Equal => level,
         Ordering::Greater => false,
     }
 }
@@ -480,15 +491,14 @@ pub fn contains(t: Trapezoid, x: Int, y: Int, d: Int) -> bool
         return false;
     };
     let here = Position { num: x, den: d };
-    if is_less(compare(here, p)) {
-        return false;
-    }
-    if is_less(compare(here, q)) {
-        if under(bottom, x, y, d) {
-            if under(top, x, y, d) {
-                return false;
+    if precedes(compare(p, here), true) {
+        if precedes(compare(here, q), false) {
+            if under(bottom, x, y, d) {
+                if under(top, x, y, d) {
+                    return false;
+                }
+                return true;
             }
-            return true;
         }
     }
     false

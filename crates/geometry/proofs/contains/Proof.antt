@@ -1,13 +1,13 @@
 use mathlib.Core.Path.{_≡_, sym, _∙_, ap}
-use mathlib.Core.Bool.{true}
+use mathlib.Core.Bool.{true, false, not}
 use native.Mathlib.Omega.{arith}
 use borrow.Author.Needs.{needs}
 use Rattle.integer.specs.Fraction.{before}
 use Rattle.geometry.specs.declared.Crossing.the-variants.{Parallel}
-use Rattle.geometry.specs.Positions.{crosses, meet, position, isLess}
+use Rattle.geometry.specs.Positions.{crosses, meet, position}
 use Rattle.geometry.specs.Points.{at}
-use Rattle.geometry.specs.Code.{fractionOf, Small, pointOf}
-use Rattle.geometry.proofs.Branches.{is-before, parallel, crossed, point-left, point-right, point-before, point-after, point-below, point-above, point-in}
+use Rattle.geometry.specs.Code.{fractionOf, Small, precedesBy, pointOf}
+use Rattle.geometry.proofs.Branches.{strictly, weakly, parallel, crossed, point-left, point-right, point-before, point-after, point-below, point-above, point-in}
 use Rattle.geometry.proofs.contains.Statement.{statement}
 use Rattle.geometry.proofs.contains.Tie as tie
 
@@ -20,16 +20,16 @@ module _ (c : tie.After-known-told2) where
   right-crossed = crossed (c .before .before .before .before .before .before .before .before .before .before .before .before .args .t .right .first) (c .before .before .before .before .before .before .before .before .before .before .before .before .args .t .right .second) (c .before .before .before .crossing-of2 .result) (c .before .b .given .0 .0) (c .before .before .before .crossing-of2 .ensures) (c .before .b .given .1)
 
 -- the point against the left base and the right one
-module _ (c : tie.After-is-less) where
-  from : c .is-less .result ≡ before (at (pointOf (c .before .before .before .before .before .before .before .before .before .before .before .before .before .before .args .x) (c .before .before .before .before .before .before .before .before .before .before .before .before .before .before .args .y) (c .before .before .before .before .before .before .before .before .before .before .before .before .before .before .args .d))) (position (c .before .before .before .before .before .before .before .before .before .before .before .before .before .before .args .t .left))
+module _ (c : tie.After-precedes) where
+  from : c .precedes .result ≡ not (before (at (pointOf (c .before .before .before .before .before .before .before .before .before .before .before .before .before .before .args .x) (c .before .before .before .before .before .before .before .before .before .before .before .before .before .before .args .y) (c .before .before .before .before .before .before .before .before .before .before .before .before .before .before .args .d))) (position (c .before .before .before .before .before .before .before .before .before .before .before .before .before .before .args .t .left)))
   from =
-      c .is-less .ensures ∙ ap isLess (c .before .compare .ensures) ∙ is-before (at (pointOf (c .before .before .before .before .before .before .before .before .before .before .before .before .before .before .args .x) (c .before .before .before .before .before .before .before .before .before .before .before .before .before .before .args .y) (c .before .before .before .before .before .before .before .before .before .before .before .before .before .before .args .d))) (fractionOf (c .before .before .before .before .before .before .before .a .given .0 .0))
+      c .precedes .ensures ∙ ap (precedesBy true) (c .before .compare .ensures) ∙ weakly (fractionOf (c .before .before .before .before .before .before .before .a .given .0 .0)) (at (pointOf (c .before .before .before .before .before .before .before .before .before .before .before .before .before .before .args .x) (c .before .before .before .before .before .before .before .before .before .before .before .before .before .before .args .y) (c .before .before .before .before .before .before .before .before .before .before .before .before .before .before .args .d)))
       ∙ rw (left-crossed (c .before .before) .1)
 
-module _ (c : tie.After-is-less2) where
-  upto : c .is-less2 .result ≡ before (at (pointOf (c .before .before .before .before .before .before .before .before .before .before .before .before .before .before .before .before .before .args .x) (c .before .before .before .before .before .before .before .before .before .before .before .before .before .before .before .before .before .args .y) (c .before .before .before .before .before .before .before .before .before .before .before .before .before .before .before .before .before .args .d))) (position (c .before .before .before .before .before .before .before .before .before .before .before .before .before .before .before .before .before .args .t .right))
+module _ (c : tie.After-precedes2) where
+  upto : c .precedes2 .result ≡ before (at (pointOf (c .before .before .before .before .before .before .before .before .before .before .before .before .before .before .before .before .before .args .x) (c .before .before .before .before .before .before .before .before .before .before .before .before .before .before .before .before .before .args .y) (c .before .before .before .before .before .before .before .before .before .before .before .before .before .before .before .before .before .args .d))) (position (c .before .before .before .before .before .before .before .before .before .before .before .before .before .before .before .before .before .args .t .right))
   upto =
-      c .is-less2 .ensures ∙ ap isLess (c .before .compare2 .ensures) ∙ is-before (at (pointOf (c .before .before .before .before .before .before .before .before .before .before .before .before .before .before .before .before .before .args .x) (c .before .before .before .before .before .before .before .before .before .before .before .before .before .before .before .before .before .args .y) (c .before .before .before .before .before .before .before .before .before .before .before .before .before .before .before .before .before .args .d))) (fractionOf (c .before .before .before .before .before .before .b .given .0 .0))
+      c .precedes2 .ensures ∙ ap (precedesBy false) (c .before .compare2 .ensures) ∙ strictly (at (pointOf (c .before .before .before .before .before .before .before .before .before .before .before .before .before .before .before .before .before .args .x) (c .before .before .before .before .before .before .before .before .before .before .before .before .before .before .before .before .before .args .y) (c .before .before .before .before .before .before .before .before .before .before .before .before .before .before .before .before .before .args .d))) (fractionOf (c .before .before .before .before .before .before .b .given .0 .0))
       ∙ rw (right-crossed (c .before .before .before .before .before) .1)
 
 crossing-of-requires : tie.Need-crossing-of-requires
@@ -64,21 +64,16 @@ returns-2 c =
     point-right _ t (l .0) (parallel (t .right .first) (t .right .second) (c .before .before .crossing-of2 .result) (c .before .before .crossing-of2 .ensures) e)
 
 compare-requires : tie.Need-compare-requires
-compare-requires c κs = let h = c .before .before .before .before .before .before .before .before .before .before .before .before .pre .1 in (record { num-small = omega (arith, h .x-small); den-small = omega (arith, h .d-small) }, left-crossed c .2)
+compare-requires c κs = let h = c .before .before .before .before .before .before .before .before .before .before .before .before .pre .1 in (left-crossed c .2, record { num-small = omega (arith, h .x-small); den-small = omega (arith, h .d-small) })
 
-is-less-requires : tie.Need-is-less-requires
-is-less-requires c κs = tt
-
-returns-3 : tie.Need-returns-3
-returns-3 c =
-    let k = c .before .before .before in
-    point-before _ (c .before .before .before .before .before .before .before .before .before .before .before .before .before .before .before .args .t) (left-crossed k .0) (right-crossed k .0) (sym (from (c .before)) ∙ c .if1 .taken)
+precedes-requires : tie.Need-precedes-requires
+precedes-requires c κs = tt
 
 compare-requires-2 : tie.Need-compare-requires-2
 compare-requires-2 c κs = let h = c .before .before .before .before .before .before .before .before .before .before .before .before .before .before .before .pre .1 in (record { num-small = omega (arith, h .x-small); den-small = omega (arith, h .d-small) }, right-crossed (c .before .before .before) .2)
 
-is-less-requires-2 : tie.Need-is-less-requires-2
-is-less-requires-2 c κs = tt
+precedes-requires-2 : tie.Need-precedes-requires-2
+precedes-requires-2 c κs = tt
 
 under-requires : tie.Need-under-requires
 under-requires c κs = let h = c .before .before .before .before .before .before .before .before .before .before .before .before .before .before .before .before .before .before .pre in (h .0 .1 .1 .1 .1 .0, h .1)
@@ -86,29 +81,34 @@ under-requires c κs = let h = c .before .before .before .before .before .before
 under-requires-2 : tie.Need-under-requires-2
 under-requires-2 c κs = let h = c .before .before .before .before .before .before .before .before .before .before .before .before .before .before .before .before .before .before .before .before .pre in (h .0 .1 .1 .1 .1 .1 .0, h .1)
 
+returns-3 : tie.Need-returns-3
+returns-3 c =
+    let k = c .before .before .before .before .before .before .before .before .before .before in
+    point-above _ (c .before .before .before .before .before .before .before .before .before .before .before .before .before .before .before .before .before .before .before .before .before .before .args .t) (left-crossed k .0) (right-crossed k .0) (sym (from (c .before .before .before .before .before .before .before .before)) ∙ c .before .before .before .before .before .before .before .if1 .taken) (sym (upto (c .before .before .before .before .before)) ∙ c .before .before .before .before .if2 .taken)
+    (sym (c .before .before .before .under .ensures) ∙ c .before .before .if3 .taken) (sym (c .before .under2 .ensures) ∙ c .if4 .taken)
+
 returns-4 : tie.Need-returns-4
 returns-4 c =
     let k = c .before .before .before .before .before .before .before .before .before .before in
-    point-above _ (c .before .before .before .before .before .before .before .before .before .before .before .before .before .before .before .before .before .before .before .before .before .before .args .t) (left-crossed k .0) (right-crossed k .0) (sym (from (c .before .before .before .before .before .before .before .before)) ∙ c .before .before .before .before .before .before .before .if1 .left) (sym (upto (c .before .before .before .before .before)) ∙ c .before .before .before .before .if2 .taken)
-    (sym (c .before .before .before .under .ensures) ∙ c .before .before .if3 .taken) (sym (c .before .under2 .ensures) ∙ c .if4 .taken)
+    point-in _ (c .before .before .before .before .before .before .before .before .before .before .before .before .before .before .before .before .before .before .before .before .before .before .args .t) (left-crossed k .0) (right-crossed k .0) (sym (from (c .before .before .before .before .before .before .before .before)) ∙ c .before .before .before .before .before .before .before .if1 .taken) (sym (upto (c .before .before .before .before .before)) ∙ c .before .before .before .before .if2 .taken)
+    (sym (c .before .before .before .under .ensures) ∙ c .before .before .if3 .taken) (sym (c .before .under2 .ensures) ∙ c .if4 .left)
 
 returns-5 : tie.Need-returns-5
 returns-5 c =
-    let k = c .before .before .before .before .before .before .before .before .before .before in
-    point-in _ (c .before .before .before .before .before .before .before .before .before .before .before .before .before .before .before .before .before .before .before .before .before .before .args .t) (left-crossed k .0) (right-crossed k .0) (sym (from (c .before .before .before .before .before .before .before .before)) ∙ c .before .before .before .before .before .before .before .if1 .left) (sym (upto (c .before .before .before .before .before)) ∙ c .before .before .before .before .if2 .taken)
-    (sym (c .before .before .before .under .ensures) ∙ c .before .before .if3 .taken) (sym (c .before .under2 .ensures) ∙ c .if4 .left)
+    let k = c .before .before .before .before .before .before .before .before in
+    point-below _ (c .before .before .before .before .before .before .before .before .before .before .before .before .before .before .before .before .before .before .before .before .args .t) (left-crossed k .0) (right-crossed k .0) (sym (from (c .before .before .before .before .before .before)) ∙ c .before .before .before .before .before .if1 .taken) (sym (upto (c .before .before .before)) ∙ c .before .before .if2 .taken) (sym (c .before .under .ensures) ∙ c .if3 .left)
 
 returns-6 : tie.Need-returns-6
 returns-6 c =
-    let k = c .before .before .before .before .before .before .before .before in
-    point-below _ (c .before .before .before .before .before .before .before .before .before .before .before .before .before .before .before .before .before .before .before .before .args .t) (left-crossed k .0) (right-crossed k .0) (sym (from (c .before .before .before .before .before .before)) ∙ c .before .before .before .before .before .if1 .left) (sym (upto (c .before .before .before)) ∙ c .before .before .if2 .taken) (sym (c .before .under .ensures) ∙ c .if3 .left)
+    let k = c .before .before .before .before .before .before in
+    point-after _ (c .before .before .before .before .before .before .before .before .before .before .before .before .before .before .before .before .before .before .args .t) (left-crossed k .0) (right-crossed k .0) (sym (from (c .before .before .before .before)) ∙ c .before .before .before .if1 .taken) (sym (upto (c .before)) ∙ c .if2 .left)
 
 returns-7 : tie.Need-returns-7
 returns-7 c =
-    let k = c .before .before .before .before .before .before in
-    point-after _ (c .before .before .before .before .before .before .before .before .before .before .before .before .before .before .before .before .before .before .args .t) (left-crossed k .0) (right-crossed k .0) (sym (from (c .before .before .before .before)) ∙ c .before .before .before .if1 .left) (sym (upto (c .before)) ∙ c .if2 .left)
+    let k = c .before .before .before in
+    point-before _ (c .before .before .before .before .before .before .before .before .before .before .before .before .before .before .before .args .t) (left-crossed k .0) (right-crossed k .0) (sym (from (c .before)) ∙ c .if1 .left)
 
 pub contains-spec : {M : Type 1} → statement M
 contains-spec =
     tie.close
-    (tie.spec crossing-of-requires enum-known-a enum-told returns crossing-of-requires-2 enum-known-b enum-told-2 returns-2 compare-requires is-less-requires returns-3 compare-requires-2 is-less-requires-2 under-requires under-requires-2 returns-4 returns-5 returns-6 returns-7)
+    (tie.spec crossing-of-requires enum-known-a enum-told returns crossing-of-requires-2 enum-known-b enum-told-2 returns-2 compare-requires precedes-requires compare-requires-2 precedes-requires-2 under-requires under-requires-2 returns-3 returns-4 returns-5 returns-6 returns-7)
