@@ -9,6 +9,7 @@ use Rattle.integer.specs.declared.Ordering.{Ordering}
 use Rattle.integer.specs.declared.Ordering.the-variants.{Less, Equal, Greater}
 use Rattle.integer.specs.Fraction.{Fraction}
 use Rattle.geometry.specs.declared.Line.{Line}
+use Rattle.geometry.specs.declared.Base.{Base}
 use Rattle.geometry.specs.declared.Corners.{Corners}
 use Rattle.geometry.specs.declared.Coefficients.{Coefficients}
 use Rattle.geometry.specs.declared.Meeting.{Meeting}
@@ -17,7 +18,7 @@ use Rattle.geometry.specs.declared.Crossing.{Crossing}
 use Rattle.geometry.specs.declared.Crossing.the-variants.{Parallel, At}
 use Rattle.geometry.specs.Limit.{coordinateLimit, detBound, numerBound}
 use Rattle.geometry.specs.Lines.{dx, dy, offset, det, numer}
-use Rattle.geometry.specs.Positions.{crosses, meet}
+use Rattle.geometry.specs.Positions.{crosses, meet, position}
 use Rattle.geometry.specs.Points.{Point}
 
 pub record CornersOf (l : Line) (k : Corners) : Type 0 where
@@ -54,6 +55,10 @@ pub record Small (p : Position) : Type 0 where
 abbrev pub CrossingOf : Line → Line → Crossing → Type 0
 CrossingOf l m Parallel = T (not (crosses l m))
 CrossingOf l m (At p) = T (crosses l m) × (fractionOf p ≡ meet l m) × Small p
+
+pub record PositionOf (b : Base) (p : Position) : Type 0 where
+  pub is : fractionOf p ≡ position b
+  pub small : Small p
 
 -- less, or where `level` is yes less or equal
 abbrev pub precedesBy : Bool → Ordering → Bool

@@ -20,7 +20,7 @@ ghost use Rattle.geometry.specs.Positions.{crosses, heights, rightOf, is
 ghost use Rattle.geometry.specs.Points.{under as underOf};
 ghost use Rattle.geometry.specs.Trapezoids.{linesOf, lineAt, lineWords, trapezoidCodec, trapezoidWords, layerOf, liesIn};
 ghost use Rattle.geometry.specs.Fitness.{all, lineOnGrid, isLine, apartBy, belowBetween, shapeVerdict, verdict, firstRefusal};
-ghost use Rattle.geometry.specs.Code.{CornersOf, CoefficientsOf, MeetingOf, fractionOf, Small, CrossingOf, precedesBy, pointOf, SmallPoint};
+ghost use Rattle.geometry.specs.Code.{CornersOf, CoefficientsOf, MeetingOf, fractionOf, Small, CrossingOf, PositionOf, precedesBy, pointOf, SmallPoint};
 
 // Four words, two grid points with x1 < x2.
 pub struct Line {
@@ -224,6 +224,21 @@ pub fn crossing_of(l: Line, m: Line) -> Crossing
         return Crossing::At(p);
     }
     Crossing::Parallel
+}
+
+// The position of a base whose lines cross.
+pub fn position_of(b: Base) -> Position
+    requires { ⌜ OnGrid coordinateLimit (b .first) × OnGrid coordinateLimit (b .second) × T (crosses (b .first) (b .second)) ⌝ }
+    ensures { λ r. ⌜ PositionOf b r ⌝ }
+{
+    let c = crossing_of(b.first, b.second);
+    match c {
+        Crossing::At(p) => p,
+        Crossing::Parallel => Position {
+            num: integer::of(0),
+            den: integer::of(1),
+        },
+    }
 }
 
 // a·b against c·d. Every comparison of positions and of heights goes through this one.
