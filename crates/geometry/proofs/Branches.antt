@@ -26,9 +26,9 @@ use Rattle.geometry.specs.Code.{fractionOf, Small, CrossingOf, precedesB
 use Rattle.geometry.proofs.Fitness.{all-exact, grid-exact, grid-more}
 
 -- "less" of the order of fractions is `before`
-pub is-before : (p q : Fraction) → isLess (order p q) ≡ before p q
+pub before-by : (p q : Fraction) → isLess (order p q) ≡ before p q
 unfolding order before orderOf
-is-before p q = go (ltZ (p .num ⊗ q .den) (q .num ⊗ p .den)) (ltZ (q .num ⊗ p .den) (p .num ⊗ q .den))
+before-by p q = go (ltZ (p .num ⊗ q .den) (q .num ⊗ p .den)) (ltZ (q .num ⊗ p .den) (p .num ⊗ q .den))
   where
     go : (s t : Bool) → isLess (orderBy s t) ≡ s
     go true t = refl

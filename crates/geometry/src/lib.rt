@@ -12,11 +12,11 @@ ghost use lib.ListN.{length, drop};
 ghost use lib.Seq.{sets};
 ghost use Rattle.integer.specs.Integer.{_⊗_};
 ghost use Rattle.integer.specs.Compare.{orderOf};
-ghost use Rattle.integer.specs.Fraction.{order};
+ghost use Rattle.integer.specs.Fraction.{before, order};
 ghost use Rattle.records.specs.Lists.{All};
 ghost use Rattle.records.specs.Records.{recordAt};
 ghost use Rattle.geometry.specs.Limit.{coordinateLimit, onGrid, OnGrid, detBound, numerBound};
-ghost use Rattle.geometry.specs.Positions.{crosses, heights, rightOf, isLess};
+ghost use Rattle.geometry.specs.Positions.{crosses, heights, rightOf, isLess, below};
 ghost use Rattle.geometry.specs.Points.{under as underOf};
 ghost use Rattle.geometry.specs.Trapezoids.{linesOf, lineAt, lineWords, trapezoidCodec, trapezoidWords, layerOf, liesIn};
 ghost use Rattle.geometry.specs.Fitness.{all, lineOnGrid, isLine, apartBy, belowBetween, shapeVerdict, verdict, firstRefusal};
@@ -286,6 +286,22 @@ pub fn right_order(l: Line, m: Line, x: Position) -> Ordering
     }
 }
 
+// Whether a position is left of another.
+pub fn is_before(p: Position, q: Position) -> bool
+    requires { ⌜ Small p × Small q ⌝ }
+    ensures { λ r. ⌜ r ≡ before (fractionOf p) (fractionOf q) ⌝ }
+{
+    is_less(compare(p, q))
+}
+
+// Whether a line is below another right of a position.
+pub fn is_below(l: Line, m: Line, x: Position) -> bool
+    requires { ⌜ OnGrid coordinateLimit l × OnGrid coordinateLimit m × Small x ⌝ }
+    ensures { λ r. ⌜ r ≡ below (fractionOf x) l m ⌝ }
+{
+    is_less(right_order(l, m, x))
+}
+
 // Whether a line is at or below the point (x/d, y/d).
 pub fn under(l: Line, x: Int, y: Int, d: Int) -> bool
     requires { ⌜ OnGrid coordinateLimit l × SmallPoint x y d ⌝ }
@@ -402,7 +418,7 @@ fn apart(a: Ordering, b: Ordering) -> bool
     }
 }
 
-fn is_less(a: Ordering) -> bool
+pub fn is_less(a: Ordering) -> bool
     ensures { λ r. ⌜ r ≡ isLess a ⌝ }
 {
     match a {
@@ -440,8 +456,7 @@ fn judge_shape(t: Trapezoid) -> Verdict
     let Crossing::At(q) = b else {
         return Verdict::Row(9);
     };
-    let o = compare(p, q);
-    if is_less(o) {
+    if is_before(p, q) {
         if below_between(bottom, top, p, q) {
             return Verdict::Fit;
         }

@@ -1,12 +1,12 @@
-use mathlib.Core.Path.{_≡_, sym, _∙_, ap}
+use mathlib.Core.Path.{_≡_, sym, _∙_}
 use mathlib.Core.Bool.{true}
 use borrow.Author.Needs.{needs}
 use Rattle.integer.specs.Fraction.{before}
 use Rattle.geometry.specs.declared.Crossing.the-variants.{Parallel}
-use Rattle.geometry.specs.Positions.{crosses, meet, position, isLess}
+use Rattle.geometry.specs.Positions.{crosses, meet, position}
 use Rattle.geometry.specs.Fitness.{belowBetween}
 use Rattle.geometry.specs.Code.{fractionOf, Small}
-use Rattle.geometry.proofs.Branches.{is-before, parallel, crossed, shape-left, shape-right, shape-bases, shape-sides, shape-fit}
+use Rattle.geometry.proofs.Branches.{parallel, crossed, shape-left, shape-right, shape-bases, shape-sides, shape-fit}
 use Rattle.geometry.proofs.judge_shape.Statement.{statement}
 use Rattle.geometry.proofs.judge_shape.Tie as tie
 
@@ -19,15 +19,13 @@ module _ (c : tie.After-known-told2) where
   right-crossed = crossed (c .before .before .before .before .before .before .before .before .before .before .before .before .args .t .right .first) (c .before .before .before .before .before .before .before .before .before .before .before .before .args .t .right .second) (c .before .before .before .crossing-of2 .result) (c .before .b .given .0 .0) (c .before .before .before .crossing-of2 .ensures) (c .before .b .given .1)
 
 -- the bases' order, as the comparison found it
-module _ (c : tie.After-is-less) where
-  bases : c .is-less .result ≡ before (position (c .before .before .before .before .before .before .before .before .before .before .before .before .before .before .args .t .left)) (position (c .before .before .before .before .before .before .before .before .before .before .before .before .before .before .args .t .right))
-  bases =
-      c .is-less .ensures ∙ ap isLess (c .before .compare .ensures) ∙ is-before (fractionOf (c .before .before .before .before .before .before .before .a .given .0 .0)) (fractionOf (c .before .before .before .b .given .0 .0))
-      ∙ rw (left-crossed (c .before .before) .1, right-crossed (c .before .before) .1)
+module _ (c : tie.After-is-before) where
+  bases : c .is-before .result ≡ before (position (c .before .before .before .before .before .before .before .before .before .before .before .before .before .args .t .left)) (position (c .before .before .before .before .before .before .before .before .before .before .before .before .before .args .t .right))
+  bases = c .is-before .ensures ∙ rw (left-crossed (c .before) .1, right-crossed (c .before) .1)
 
 module _ (c : tie.After-below-between) where
-  sides : c .below-between .result ≡ belowBetween (position (c .before .before .before .before .before .before .before .before .before .before .before .before .before .before .before .before .args .t .left)) (position (c .before .before .before .before .before .before .before .before .before .before .before .before .before .before .before .before .args .t .right)) (c .before .before .before .before .before .before .before .before .before .before .before .before .before .before .before .before .args .t .bottom) (c .before .before .before .before .before .before .before .before .before .before .before .before .before .before .before .before .args .t .top)
-  sides = c .below-between .ensures ∙ rw (left-crossed (c .before .before .before .before) .1, right-crossed (c .before .before .before .before) .1)
+  sides : c .below-between .result ≡ belowBetween (position (c .before .before .before .before .before .before .before .before .before .before .before .before .before .before .before .args .t .left)) (position (c .before .before .before .before .before .before .before .before .before .before .before .before .before .before .before .args .t .right)) (c .before .before .before .before .before .before .before .before .before .before .before .before .before .before .before .args .t .bottom) (c .before .before .before .before .before .before .before .before .before .before .before .before .before .before .before .args .t .top)
+  sides = c .below-between .ensures ∙ rw (left-crossed (c .before .before .before) .1, right-crossed (c .before .before .before) .1)
 
 crossing-of-requires : tie.Need-crossing-of-requires
 crossing-of-requires c κs = let h = c .before .before .before .before .pre in (h .0, h .1 .0)
@@ -60,34 +58,31 @@ returns-2 c =
     let e : c .before .before .crossing-of2 .result ≡ Parallel = cc in
     shape-right t (l .0) (parallel (t .right .first) (t .right .second) (c .before .before .crossing-of2 .result) (c .before .before .crossing-of2 .ensures) e)
 
-compare-requires : tie.Need-compare-requires
-compare-requires c κs = (left-crossed c .2, right-crossed c .2)
-
-is-less-requires : tie.Need-is-less-requires
-is-less-requires c κs = tt
+is-before-requires : tie.Need-is-before-requires
+is-before-requires c κs = (left-crossed c .2, right-crossed c .2)
 
 below-between-requires : tie.Need-below-between-requires
 below-between-requires c κs =
-    let k = c .before .before .before in
+    let k = c .before .before in
     let h = k .before .before .before .before .before .before .before .before .before .before .before .before .pre in
     (h .1 .1 .1 .1 .0, h .1 .1 .1 .1 .1 .0, left-crossed k .2, right-crossed k .2)
 
 returns-3 : tie.Need-returns-3
 returns-3 c =
-    let k = c .before .before .before .before .before in
+    let k = c .before .before .before .before in
     shape-fit (k .before .before .before .before .before .before .before .before .before .before .before .before .args .t) (left-crossed k .0) (right-crossed k .0) (sym (bases (c .before .before .before)) ∙ c .before .before .if1 .taken) (sym (sides (c .before)) ∙ c .if2 .taken)
 
 returns-4 : tie.Need-returns-4
 returns-4 c =
-    let k = c .before .before .before .before .before in
+    let k = c .before .before .before .before in
     shape-sides (k .before .before .before .before .before .before .before .before .before .before .before .before .args .t) (left-crossed k .0) (right-crossed k .0) (sym (bases (c .before .before .before)) ∙ c .before .before .if1 .taken) (sym (sides (c .before)) ∙ c .if2 .left)
 
 returns-5 : tie.Need-returns-5
 returns-5 c =
-    let k = c .before .before .before in
+    let k = c .before .before in
     shape-bases (k .before .before .before .before .before .before .before .before .before .before .before .before .args .t) (left-crossed k .0) (right-crossed k .0) (sym (bases (c .before)) ∙ c .if1 .left)
 
 pub judge-shape-spec : {M : Type 1} → statement M
 judge-shape-spec =
     tie.close
-    (tie.spec crossing-of-requires enum-known-a enum-told returns crossing-of-requires-2 enum-known-b enum-told-2 returns-2 compare-requires is-less-requires below-between-requires returns-3 returns-4 returns-5)
+    (tie.spec crossing-of-requires enum-known-a enum-told returns crossing-of-requires-2 enum-known-b enum-told-2 returns-2 is-before-requires below-between-requires returns-3 returns-4 returns-5)
