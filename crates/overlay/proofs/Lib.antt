@@ -1,0 +1,22 @@
+pub mod Tests
+pub mod Ranges
+pub mod Entering
+pub mod Overlaps
+pub mod Events
+pub mod Stack
+pub mod Count
+pub mod Parts
+pub mod Tags
+pub mod Sums
+pub mod Opposite
+pub mod Two
+pub mod Fifteen
+pub mod Tagged
+mod Examples
+pub mod NumberOrder
+pub mod Exchanges
+pub mod Network
+pub mod Strips
+pub mod Window
+pub mod EventArray
+pub mod NextEvent

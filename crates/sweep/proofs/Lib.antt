@@ -1,0 +1,7 @@
+pub mod Lists
+pub mod Prefix
+pub mod Slabs
+pub mod Column
+pub mod Between
+pub mod Sweep
+pub mod Loop

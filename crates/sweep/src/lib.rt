@@ -1,0 +1,1 @@
+// Segments swept left to right, column by column: definitions and laws only.
