@@ -20,3 +20,7 @@ pub mod Strips
 pub mod Window
 pub mod EventArray
 pub mod NextEvent
+pub mod SideOrder
+pub mod Writing
+pub mod Stacking
+pub mod Filling

@@ -1,17 +1,17 @@
 -- The next event, found by looking at each in turn.
-use mathlib.Core.Path.{_≡_, refl, sym, _∙_, ap, subst}
+use mathlib.Core.Path.{_≡_, refl, sym, _∙_, subst}
 use mathlib.Core.Bool.{Bool, true, false}
-use mathlib.Core.Option.{Option, none, some}
+use mathlib.Core.Option.{Option, none}
 use Rattle.integer.specs.Fraction.{before}
 use mathlib.Core.List.{List, [], _∷_}
-use Prim.Native.Nat.{ℕ, suc, _+_, _<_, _≤_}
+use Prim.Native.Nat.{ℕ, _+_, _<_, _≤_}
 use native.Mathlib.Omega.{arith}
 use native.Mathlib.Numerals.{add-one}
 use lib.ListN.{length, getD, take, drop}
 use lib.Seq.{length-take-le, drop-cons, drop-length, getD-take}
 use Rattle.records.specs.Lists.{All}
 use Rattle.records.proofs.Lists.{all-at}
-use Rattle.levels.specs.Levels.{candidate, lesser, scan}
+use Rattle.levels.specs.Levels.{scan}
 use Rattle.levels.proofs.Scan.{lesser-none}
 use Rattle.sweep.specs.Sweep.{earlier}
 use Rattle.geometry.specs.declared.Base.{Base}
@@ -20,8 +20,7 @@ use Rattle.geometry.specs.Code.{fractionOf}
 use Rattle.overlay.specs.declared.Event.{Event}
 use Rattle.overlay.specs.declared.Next.{Next}
 use Rattle.overlay.specs.declared.Next.the-variants.{Nothing, Found}
-use Rattle.overlay.specs.declared.EventList.{EventList}
-use Rattle.overlay.specs.Code.{EventOf, basesOf, inUse, namesOf, WellPlaced, optionOf, NextPlaced, after, Better, Sooner, NextIs}
+use Rattle.overlay.specs.Code.{EventOf, basesOf, optionOf, NextPlaced, after, Better, Sooner}
 
 -- the order of two events is that of their positions
 order-of : (e b : Event) → EventOf e → EventOf b → earlier position (e .base) (b .base) ≡ before (fractionOf (e .at)) (fractionOf (b .at))

@@ -1,14 +1,16 @@
 -- How the functions' structs stand for what the definitions speak of.
 use mathlib.Core.Path.{_≡_}
 use mathlib.Core.List.{List, [], _∷_, _++_}
-use Prim.Native.Nat.{_+_, _≤_}
-use lib.ListN.{length, take}
+use Prim.Native.Nat.{ℕ, _+_, _*_, _<_, _≤_}
+use lib.ListN.{length, getD, set, take, replicate}
+use lib.IntN.{ℤ, pos}
 use Rattle.records.specs.Lists.{All}
+use Rattle.records.specs.Records.{image, Blank}
 use mathlib.Core.Option.{Option, none, some}
 use Rattle.levels.specs.Levels.{candidate, lesser, scan}
 use Rattle.sweep.specs.Lists.{keep}
 use Rattle.sweep.specs.Sweep.{earlier}
-use mathlib.Core.Bool.{Bool, true, false, _&&_}
+use mathlib.Core.Bool.{Bool, true, false, cond, _&&_}
 use Rattle.integer.specs.Fraction.{Fraction, before}
 use Rattle.geometry.specs.declared.Line.{Line}
 use Rattle.geometry.specs.declared.Base.{Base}
@@ -19,13 +21,18 @@ use Rattle.geometry.specs.declared.Trapezoid.{Trapezoid}
 use Rattle.geometry.specs.declared.Position.{Position}
 use Rattle.geometry.specs.Limit.{coordinateLimit}
 use Rattle.geometry.specs.Fitness.{FitFor}
+use Rattle.geometry.specs.Trapezoids.{trapezoidCodec}
 use Rattle.geometry.specs.Code.{fractionOf, Small, PositionOf}
 use Rattle.overlay.specs.declared.Placed.{Placed}
 use Rattle.overlay.specs.declared.Event.{Event}
 use Rattle.overlay.specs.declared.Next.{Next}
 use Rattle.overlay.specs.declared.Next.the-variants.{Nothing, Found}
 use Rattle.overlay.specs.declared.EventList.{EventList}
-use Rattle.overlay.specs.Overlay.{events}
+use Rattle.overlay.specs.declared.Column.{Column}
+use Rattle.overlay.specs.declared.Fill.{Fill}
+use Rattle.overlay.specs.declared.Fill.the-variants.{NoRoom, Written}
+use Rattle.overlay.specs.Overlay.{events, inRange}
+use Rattle.overlay.specs.Order.{HasSides, numberLess, orderAt}
 use Rattle.overlay.specs.Overlaps.{crossing, commonLeft, commonRight}
 
 -- a fit trapezoid with the positions of its bases
@@ -115,3 +122,36 @@ pub record Sooner (best : Next) (e : Event) (r : Next) : Type 0 where
 pub record NextIs (v : EventList) (g : Option Base) (r : Next) : Type 0 where
   pub is : optionOf r ≡ scan (earlier position) none g (namesOf v)
   pub placed : NextPlaced r
+
+-- ---- a column
+-- the state stands for the column right of x
+pub record ColumnAt (A B : Trapezoid) (x : Fraction) (c : Column) : Type 0 where
+  pub in-a : c .in_a ≡ inRange x A
+  pub in-b : c .in_b ≡ inRange x B
+  pub order : c .order ≡ orderAt A B x (c .in_a) (c .in_b)
+
+-- four side numbers, each of them there
+pub record FourSides (order : List ℕ) : Type 0 where
+  pub long : length order ≡ 4
+  pub all : HasSides order
+
+-- the entries number i and j, which change places if `less` says so
+abbrev pub exchanged : (ℕ → ℕ → Bool) → ℕ → ℕ → List ℕ → List ℕ
+exchanged less i j l = cond (less (getD l j 0) (getD l i 0)) (set (set l i (getD l j 0)) j (getD l i 0)) l
+
+-- r is c with the entries i and j put in order right of x
+pub record Exchanged (A B : Trapezoid) (x : Fraction) (i j : ℕ) (c r : Column) : Type 0 where
+  pub in-a : r .in_a ≡ c .in_a
+  pub in-b : r .in_b ≡ c .in_b
+  pub order : r .order ≡ exchanged (numberLess A B x (c .in_a) (c .in_b)) i j (c .order)
+
+-- ---- trapezoids written into a tail
+-- the tail is blank, and `room` trapezoids fit into it
+pub record Lent (d : List ℤ) (room : ℕ) : Type 0 where
+  pub blank : Blank (pos 0) d
+  pub wide : 24 * room ≤ length d
+
+-- of a tail of n words: it holds ts and is blank past them, or they do not fit and it is blank
+abbrev pub FilledAs : ℕ → ℕ → List Trapezoid → Fill → List ℤ → Type 0
+FilledAs n room ts NoRoom d = (room < length ts) × (d ≡ replicate n (pos 0))
+FilledAs n room ts (Written k) d = (k ≡ length ts) × (length ts ≤ room) × (d ≡ image trapezoidCodec n ts)

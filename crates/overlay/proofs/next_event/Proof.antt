@@ -1,11 +1,5 @@
-use mathlib.Core.Path.{_≡_, refl, sym, _∙_, ap}
-use mathlib.Core.List.{List, [], _∷_, _++_}
-use mathlib.Core.Logic.{⊎-elim}
-use Prim.Native.Nat.{ℕ, suc, _+_, _*_, _-_, _<_, _≤_}
+use Prim.Native.Nat.{_-_}
 use native.Mathlib.Omega.{arith}
-use native.Mathlib.Numerals.{add-one}
-use lib.ListN.{length, getD, set, take, drop, replicate, length-append, length-take, length-drop, length-set, length-replicate}
-use lib.IntN.{ℤ, pos}
 use borrow.Author.Needs.{needs}
 use Rattle.overlay.specs.Code.{after}
 use Rattle.overlay.proofs.NextEvent.{Looking, look-first, placed-here, look-next, look-last}
@@ -21,35 +15,27 @@ Inv-loop started g list n best₀ i₀ best i = Looking n list (after started g)
 abbrev μ-loop : tie.MeasureT-loop
 μ-loop started g list n best₀ i₀ best i = n - i
 
--- src/lib.rt:228:5
 loop-holds : tie.Need-loop-holds Inv-loop μ-loop
 loop-holds c = let w = c .before .pre .0 in look-first (c .before .args .v .n) (c .before .args .v .list) (after (c .before .args .started) (c .before .args .g)) (w .long) (w .few) (w .placed)
 
--- src/lib.rt:229:17
 mul-e : tie.Need-mul-e Inv-loop μ-loop
 mul-e c = search needs
 
--- src/lib.rt:229:17
 array-copy-out-e : tie.Need-array-copy-out-e Inv-loop μ-loop
 array-copy-out-e c = omega (arith, c .before .loop .inv .few, c .loop-test .taken)
 
--- src/lib.rt:230:9
 better-requires : tie.Need-better-requires Inv-loop μ-loop
 better-requires c κs = let h = c .before .before .loop .inv in (h .placed, c .before .before .before .before .pre .1, placed-here _ _ _ _ _ h _ (c .before .loop-test .taken))
 
--- src/lib.rt:231:9
 add-i : tie.Need-add-i Inv-loop μ-loop
 add-i c = search needs
 
--- src/lib.rt:228:5
 loop-less : tie.Need-loop-less Inv-loop μ-loop
 loop-less c = search needs
 
--- src/lib.rt:228:5
 loop-again : tie.Need-loop-again Inv-loop μ-loop
 loop-again c = look-next _ _ _ _ _ (c .before .before .before .loop .inv) _ _ (c .before .before .loop-test .taken) (c .better .ensures)
 
--- src/lib.rt:220:1
 returns : tie.Need-returns Inv-loop μ-loop
 returns c = let h = c .before .loop .inv in record { is = look-last _ _ _ _ _ h (omega (arith, c .loop-test .left)); placed = h .placed }
 
