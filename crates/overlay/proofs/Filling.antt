@@ -1,20 +1,18 @@
 -- The columns filled from left to right: what holds before each event, that a turn keeps it, and what it says at each way out.
 use mathlib.Core.Path.{_≡_, refl, sym, _∙_, ap, subst}
 use mathlib.Core.Bool.{Bool, true, false, cond}
-use mathlib.Core.List.{List, [], _∷_, _++_, append-assoc, append-nil}
+use mathlib.Core.List.{List, [], _∷_, _++_}
 use mathlib.Core.Logic.{inl, inr}
 use mathlib.Core.Option.{Option, none, some}
 use Prim.Native.Nat.{ℕ, zero, suc, _+_, _*_, _-_, _<_, _≤_}
 use native.Mathlib.Omega.{arith}
 use lib.Dec.{eqb, eqb·zero-suc, eqb·suc-zero, eqb·suc-suc, eqb→eq, not-T}
-use lib.ListN.{length, length-append}
+use lib.ListN.{length}
 use lib.IntN.{ℤ}
-use borrow.Rule.Slice.PartMut.{putMid, midOf}
+use borrow.Rule.Slice.PartMut.{putMid}
 use Rattle.integer.specs.Fraction.{Fraction, Proper}
 use Rattle.integer.proofs.Tests.{false-is}
 use Rattle.records.specs.Lists.{All}
-use Rattle.records.specs.Records.{image}
-use Rattle.records.proofs.Buffer.{length-image, image-none, tail-length, tail-blank, tail-back}
 use Rattle.levels.specs.Levels.{IfSome, levels, next, scan}
 use Rattle.levels.proofs.Next.{beyond, next-all}
 use Rattle.levels.proofs.Walk.{next-some}
@@ -28,9 +26,7 @@ use Rattle.geometry.specs.declared.Trapezoid.{Trapezoid}
 use Rattle.geometry.specs.Limit.{coordinateLimit}
 use Rattle.geometry.specs.Fitness.{FitFor}
 use Rattle.geometry.specs.Positions.{position}
-use Rattle.geometry.specs.Trapezoids.{trapezoidCodec}
 use Rattle.geometry.specs.Code.{fractionOf}
-use Rattle.geometry.proofs.Trapezoids.{trapezoid-faithful}
 use Rattle.overlay.specs.declared.Event.{Event}
 use Rattle.overlay.specs.declared.Next.{Next}
 use Rattle.overlay.specs.declared.Next.the-variants.{Nothing, Found}
@@ -46,6 +42,7 @@ use Rattle.overlay.proofs.Events.{complete}
 use Rattle.overlay.proofs.NumberOrder.{order-members}
 use Rattle.overlay.proofs.Network.{network-exact}
 use Rattle.overlay.proofs.Strips.{strips-exact}
+use Rattle.overlay.proofs.Writing.{tail, fill-nothing, Writing, write-start, write-stop, write-full, write-upto, write-turn}
 
 tagged-append : (n : ℕ) (ss ts : List Part) → tagged n (ss ++ ts) ≡ tagged n ss ++ tagged n ts
 unfolding tagged
@@ -128,40 +125,22 @@ pub found-event : (r : Next) (k : Event) → r ≡ Found k → NextPlaced r → 
 found-event r k e h = subst NextPlaced e h
 
 -- ---- the loop
--- before the event p, with the column c right of it: the n trapezoids `done` stand in out, which has W words
+-- before the event p, with the column c right of it: n trapezoids stand in out, which has W words
 pub record Filling (A B : Trapezoid) (tag W room : ℕ) (out : List ℤ) (p : Event) (c : Column) (n : ℕ) : Type 0 where
-  pub done : List Trapezoid
-  pub all : tagged tag (subdivision A B) ≡ done ++ tagged tag (rest A B (p .base))
-  pub laid : out ≡ image trapezoidCodec W done
-  pub size : n ≡ length done
-  pub upto : n ≤ room
-  pub wide : 24 * room ≤ W
-  pub long : length out ≡ W
+  pub writing : Writing W room (tagged tag (subdivision A B)) (tagged tag (rest A B (p .base))) out n
   pub event : EventOf p
   pub proper : Proper (position (p .base))
   pub column : ColumnAt A B (fractionOf (p .at)) c
 
-abbrev pub tail : List ℤ → ℕ → List ℤ
-tail out n = midOf (24 * n) (length out - 24 * n) out
-
 module _ (A B : Trapezoid) (tag room : ℕ) (out : List ℤ) (h : Lent out room) where
-  blank-image : out ≡ image trapezoidCodec (length out) []
-  blank-image = h .blank ∙ sym (image-none trapezoidCodec trapezoid-faithful (length out))
-
   -- nothing to fill
   pub fill-none : subdivision A B ≡ [] → FilledAs (length out) room (tagged tag (subdivision A B)) (Written 0) out
-  fill-none e = rw e (unfold tagged in (refl, omega arith, blank-image))
+  fill-none e = rw e (unfold tagged in fill-nothing out room h)
 
   pub fill-start : (p : Event) (c : Column) → subdivision A B ≡ rest A B (p .base) → EventOf p → Proper (position (p .base)) → ColumnAt A B (fractionOf (p .at)) c → Filling A B tag (length out) room out p c 0
   fill-start p c e ev pr co =
       record {
-        done = [];
-        all = ap (tagged tag) e;
-        laid = blank-image;
-        size = refl;
-        upto = omega arith;
-        wide = h .wide;
-        long = refl;
+        writing = subst (λ (ts : List Part). Writing (length out) room (tagged tag (subdivision A B)) (tagged tag ts) out 0) e (write-start (tagged tag (subdivision A B)) out room h);
         event = ev;
         proper = pr;
         column = co;
@@ -169,23 +148,8 @@ module _ (A B : Trapezoid) (tag room : ℕ) (out : List ℤ) (h : Lent out room)
 
 module _ {A B : Trapezoid} (ha : FitFor coordinateLimit A) (hb : FitFor coordinateLimit B) {tag : ℕ} (ht : 1 ≤ tag) {W room : ℕ} {out : List ℤ} {p : Event} {c : Column} {n : ℕ}
     (h : Filling A B tag W room out p c n) where
-  in-words : 24 * n ≤ W
-  in-words = omega (arith, h .upto, h .wide)
-
-  lent-length : length (tail out n) ≡ W - 24 * n
-  lent-length = tail-length trapezoidCodec trapezoid-faithful W n out (h .done) (h .laid) (h .size) in-words
-
-  pub fill-lent : Lent (tail out n) (room - n)
-  fill-lent =
-      record {
-        blank = tail-blank trapezoidCodec trapezoid-faithful W n out (h .done) (h .laid) (h .size) in-words;
-        wide = omega (arith, lent-length, h .upto, h .wide);
-      }
-
   pub fill-stop : rest A B (p .base) ≡ [] → FilledAs W room (tagged tag (subdivision A B)) (Written n) out
-  fill-stop e =
-      let d : tagged tag (subdivision A B) ≡ h .done = h .all ∙ rw e (unfold tagged in append-nil (h .done)) in
-      rw d (h .size, omega (arith, h .size, h .upto), h .laid)
+  fill-stop e = write-stop (h .writing) (ap (tagged tag) e ∙ (unfold tagged in refl))
 
   -- what a turn adds
   abbrev more : Event → List Trapezoid
@@ -199,48 +163,24 @@ module _ {A B : Trapezoid} (ha : FitFor coordinateLimit A) (hb : FitFor coordina
         ap (strips tag A B (p .base) (q .base) (c .in_a) (c .in_b)) (k .order ∙ ap (λ (y : Fraction). orderAt A B y (c .in_a) (c .in_b)) x)
         ∙ strips-exact ha hb (p .base) (q .base) (h .proper) tag ht (c .in_a) (c .in_b) (k .in-a ∙ ap (λ (y : Fraction). inRange y A) x) (k .in-b ∙ ap (λ (y : Fraction). inRange y B) x)
 
-    all-next : tagged tag (subdivision A B) ≡ (h .done ++ more q) ++ tagged tag (rest A B (q .base))
-    all-next =
-        h .all
-        ∙ ap (λ (ts : List Trapezoid). h .done ++ ts) (ap (tagged tag) turn ∙ tagged-append tag (parts A B (p .base) (q .base) (divide A B (p .base))) (rest A B (q .base)) ∙ ap (λ (ts : List Trapezoid). ts ++ tagged tag (rest A B (q .base))) (sym more-is))
-        ∙ sym (append-assoc (h .done) (more q) (tagged tag (rest A B (q .base))))
+    next-is-more : tagged tag (rest A B (p .base)) ≡ more q ++ tagged tag (rest A B (q .base))
+    next-is-more =
+        ap (tagged tag) turn
+        ∙ tagged-append tag (parts A B (p .base) (q .base) (divide A B (p .base))) (rest A B (q .base))
+        ∙ ap (λ (ts : List Trapezoid). ts ++ tagged tag (rest A B (q .base))) (sym more-is)
 
     module _ (f : Fill) (t : List ℤ) (g : FilledAs (length (tail out n)) (room - n) (more q) f t) where
       -- they do not fit
       pub fill-full : f ≡ NoRoom → room < length (tagged tag (subdivision A B))
-      fill-full e =
-          let k = subst (λ (f : Fill). FilledAs (length (tail out n)) (room - n) (more q) f t) e g in
-          let l = ap length all-next in
-          let i = length-append (h .done ++ more q) (tagged tag (rest A B (q .base))) in
-          let j = length-append (h .done) (more q) in
-          omega (arith, k .0, l, i, j, h .size, h .upto)
+      fill-full e = write-full (h .writing) (more q) (tagged tag (rest A B (q .base))) next-is-more f t g e
 
       pub fill-upto : (m : ℕ) → f ≡ Written m → n + m ≤ room
-      fill-upto m e =
-          let k = subst (λ (f : Fill). FilledAs (length (tail out n)) (room - n) (more q) f t) e g in
-          omega (arith, k .0, k .1, h .upto)
+      fill-upto m e = write-upto (h .writing) (more q) (tagged tag (rest A B (q .base))) next-is-more f t g m e
 
       pub fill-turn : (m : ℕ) → f ≡ Written m → EventOf q → Proper (position (q .base)) → (d : Column) → ColumnAt A B (fractionOf (q .at)) d
           → Filling A B tag W room (putMid (24 * n) (length out - 24 * n) out t) q d (n + m)
       fill-turn m e ev pr d co =
-          let k = subst (λ (f : Fill). FilledAs (length (tail out n)) (room - n) (more q) f t) e g in
-          let u : t ≡ image trapezoidCodec (W - 24 * n) (more q) = rw lent-length at (k .2) in
-          let back = tail-back trapezoidCodec trapezoid-faithful W n out (h .done) (h .laid) (h .size) in-words t (more q) u in
-          let j = length-append (h .done) (more q) in
-          let s : n + m ≡ length (h .done ++ more q) = omega (arith, j, k .0, h .size) in
-          let r = fill-upto m e in
-          record {
-            done = h .done ++ more q;
-            all = all-next;
-            laid = back;
-            size = s;
-            upto = r;
-            wide = h .wide;
-            long = ap length back ∙ length-image trapezoidCodec trapezoid-faithful W (h .done ++ more q) (omega (arith, s, r, h .wide));
-            event = ev;
-            proper = pr;
-            column = co;
-          }
+          record { writing = write-turn (h .writing) (more q) (tagged tag (rest A B (q .base))) next-is-more f t g m e; event = ev; proper = pr; column = co }
 
 -- ---- the overlay
 test-swap : (m n : ℕ) → eqb m n ≡ eqb n m

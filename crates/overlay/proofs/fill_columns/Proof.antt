@@ -7,7 +7,8 @@ use borrow.Author.Needs.{needs}
 use borrow.Rule.Slice.PartMut.{putMid, same-len-mid}
 use Rattle.records.proofs.Buffer.{blank-of}
 use Rattle.overlay.proofs.EventArray.{event-of}
-use Rattle.overlay.proofs.Filling.{left, first-four, column-four, no-event, first-proper, first-event, last-event, later-proper, later-event, fewer, found-event, Filling, fill-none, fill-start, fill-lent, fill-stop, fill-full, fill-upto, fill-turn}
+use Rattle.overlay.proofs.Filling.{left, first-four, column-four, no-event, first-proper, first-event, last-event, later-proper, later-event, fewer, found-event, Filling, fill-none, fill-start, fill-stop, fill-full, fill-upto, fill-turn}
+use Rattle.overlay.proofs.Writing.{write-lent}
 use Rattle.overlay.proofs.fill_columns.Statement.{statement}
 use Rattle.overlay.proofs.fill_columns.Tie as tie
 use Rattle.overlay.proofs.fill_columns.Reads as reads
@@ -69,7 +70,7 @@ enum-told-2 : tie.Need-enum-told-2 Inv-loop μ-loop
 enum-told-2 c = search needs
 
 same-length : tie.Need-same-length Inv-loop μ-loop
-same-length c = c .before .before .before .loop .inv .long
+same-length c = c .before .before .before .loop .inv .writing .long
 
 returns-2 : tie.Need-returns-2 Inv-loop μ-loop
 returns-2 c =
@@ -85,25 +86,25 @@ mul-fill-column : tie.Need-mul-fill-column Inv-loop μ-loop
 mul-fill-column c =
     let l = c .before .before .before .before in
     let h = l .loop .inv in
-    omega (arith, h .long, h .wide, h .upto, l .before .before .before .before .before .before .before .before .before .before .good .1 .1 .1 .0)
+    omega (arith, h .writing .long, h .writing .wide, h .writing .upto, l .before .before .before .before .before .before .before .before .before .before .good .1 .1 .1 .0)
 
 mul-fill-column-2 : tie.Need-mul-fill-column-2 Inv-loop μ-loop
 mul-fill-column-2 c =
     let l = c .before .before .before .before in
     let h = l .loop .inv in
-    omega (arith, h .long, h .wide, h .upto, l .before .before .before .before .before .before .before .before .before .before .good .1 .1 .1 .0)
+    omega (arith, h .writing .long, h .writing .wide, h .writing .upto, l .before .before .before .before .before .before .before .before .before .before .good .1 .1 .1 .0)
 
 sub-fill-column : tie.Need-sub-fill-column Inv-loop μ-loop
-sub-fill-column c = let h = c .before .before .before .before .loop .inv in omega (arith, h .long, h .wide, h .upto)
+sub-fill-column c = let h = c .before .before .before .before .loop .inv in omega (arith, h .writing .long, h .writing .wide, h .writing .upto)
 
 part-fill-column-start : tie.Need-part-fill-column-start Inv-loop μ-loop
 part-fill-column-start c = search needs
 
 part-fill-column-end : tie.Need-part-fill-column-end Inv-loop μ-loop
-part-fill-column-end c = let h = c .before .before .before .before .loop .inv in omega (arith, h .long, h .wide, h .upto)
+part-fill-column-end c = let h = c .before .before .before .before .loop .inv in omega (arith, h .writing .long, h .writing .wide, h .writing .upto)
 
 sub-fill-column-2 : tie.Need-sub-fill-column-2 Inv-loop μ-loop
-sub-fill-column-2 c = c .before .before .before .before .before .loop .inv .upto
+sub-fill-column-2 c = c .before .before .before .before .before .loop .inv .writing .upto
 
 fill-column-requires : tie.Need-fill-column-requires Inv-loop μ-loop
 fill-column-requires c κs =
@@ -112,7 +113,7 @@ fill-column-requires c κs =
     let ha = s .pre .0 .first .fit in
     let hb = s .pre .0 .second .fit in
     let h = l .loop .inv in
-    (ha, hb, h .event, column-four ha hb _ _ (h .column) .long, fill-lent ha hb (s .pre .1) h)
+    (ha, hb, h .event, column-four ha hb _ _ (h .column) .long, write-lent (h .writing))
 
 enum-known-f : tie.Need-enum-known-f Inv-loop μ-loop
 enum-known-f c = search needs
@@ -127,7 +128,7 @@ same-length-2 : tie.Need-same-length-2 Inv-loop μ-loop
 same-length-2 c =
     let l = c .before .before .before .before .before .before .before .before .before .before .before .before .loop in
     let f = c .before .before .before .before .before .before .fill-column in
-    c .before .clear .kept .0 ∙ same-len-mid (24 * l .n) (length (l .out) - 24 * l .n) (l .out) (f .last .1 .1 .1 .1 .1 .1 .0) (f .kept .1 .1 .1 .1 .1 .1 .0) ∙ l .inv .long
+    c .before .clear .kept .0 ∙ same-len-mid (24 * l .n) (length (l .out) - 24 * l .n) (l .out) (f .last .1 .1 .1 .1 .1 .1 .0) (f .kept .1 .1 .1 .1 .1 .1 .0) ∙ l .inv .writing .long
 
 returns-3 : tie.Need-returns-3 Inv-loop μ-loop
 returns-3 c =
@@ -157,7 +158,7 @@ add-n c =
     let h = l .inv in
     let turn = later-event _ _ ha hb _ (v .events-of .ensures .names) _ (h .proper) _ (o .next-event2 .ensures) _ (k .next .given .1) in
     let u = fill-upto ha hb (s .pre .1) h (k .next .given .0 .0) turn _ _ (c .before .before .before .before .fill-column .ensures) _ (c .before .f .given .1) in
-    omega (arith, u, h .wide, s .good .1 .1 .1 .0)
+    omega (arith, u, h .writing .wide, s .good .1 .1 .1 .0)
 
 column-at-requires-2 : tie.Need-column-at-requires-2 Inv-loop μ-loop
 column-at-requires-2 c κs =
