@@ -10,6 +10,7 @@ use lib.Dec.{eqb, eqb·zero-suc, eqb·suc-zero, eqb·suc-suc, eqb→eq, not-T}
 use lib.ListN.{length}
 use lib.IntN.{ℤ}
 use borrow.Rule.Slice.PartMut.{putMid}
+use Rattle.records.specs.Limits.{memoryWidth}
 use Rattle.integer.specs.Fraction.{Fraction, Proper}
 use Rattle.integer.proofs.Tests.{false-is}
 use Rattle.records.specs.Lists.{All}
@@ -178,7 +179,7 @@ module _ {A B : Trapezoid} (ha : FitFor coordinateLimit A) (hb : FitFor coordina
       fill-upto m e = write-upto (h .writing) (more q) (tagged tag (rest A B (q .base))) next-is-more f t g m e
 
       pub fill-turn : (m : ℕ) → f ≡ Written m → EventOf q → Proper (position (q .base)) → (d : Column) → ColumnAt A B (fractionOf (q .at)) d
-          → Filling A B tag W room (putMid (24 * n) (length out - 24 * n) out t) q d (n + m)
+          → Filling A B tag W room (putMid (memoryWidth * n) (length out - memoryWidth * n) out t) q d (n + m)
       fill-turn m e ev pr d co =
           record { writing = write-turn (h .writing) (more q) (tagged tag (rest A B (q .base))) next-is-more f t g m e; event = ev; proper = pr; column = co }
 

@@ -9,6 +9,7 @@ use lib.Dec.{eqb}
 use lib.ListN.{length, getD, drop}
 use lib.IntN.{ℤ}
 use lib.Seq.{drop-cons, drop-nil}
+use Rattle.records.specs.Limits.{memoryWidth}
 use Rattle.integer.proofs.Tests.{is-true, is-false}
 use borrow.Rule.Slice.PartMut.{putMid}
 use Rattle.integer.specs.Fraction.{Fraction}
@@ -115,9 +116,9 @@ module _ (tag : ℕ) (A B : Trapezoid) (p q : Base) (fa fb : Bool) where
         stack-upto m z = write-upto (h .writing) more later turn f t filled m z
 
         pub stack-next : (m : ℕ) → f ≡ Written m → (lower' : ℕ) (ina' inb' : Bool) → lower' ≡ cond rises (getD order k 0) lower → ina' ≡ passing 0 1 (getD order k 0) ina → inb' ≡ passing 2 3 (getD order k 0) inb
-            → Stacking W room order (putMid (24 * n) (length out - 24 * n) out t) lower' ina' inb' (n + m) (k + 1)
+            → Stacking W room order (putMid (memoryWidth * n) (length out - memoryWidth * n) out t) lower' ina' inb' (n + m) (k + 1)
         stack-next m z lower' ina' inb' el ea eb' =
             record {
-              writing = subst (λ (ts : List Trapezoid). Writing W room (strips tag A B p q fa fb order) ts (putMid (24 * n) (length out - 24 * n) out t) (n + m)) (sym (λ i. left (el i) (ea i) (eb' i) (drop (k + 1) order))) (write-turn (h .writing) more later turn f t filled m z);
+              writing = subst (λ (ts : List Trapezoid). Writing W room (strips tag A B p q fa fb order) ts (putMid (memoryWidth * n) (length out - memoryWidth * n) out t) (n + m)) (sym (λ i. left (el i) (ea i) (eb' i) (drop (k + 1) order))) (write-turn (h .writing) more later turn f t filled m z);
               long = h .long;
             }

@@ -6,6 +6,7 @@ use native.Mathlib.Omega.{arith}
 use lib.ListN.{length, drop, length-append}
 use lib.IntN.{ℤ}
 use borrow.Rule.Slice.PartMut.{putMid, midOf}
+use Rattle.records.specs.Limits.{memoryWidth}
 use Rattle.records.specs.Records.{image}
 use Rattle.records.proofs.Buffer.{length-image, image-none, image-one, tail-length, tail-blank, tail-back}
 use Rattle.geometry.specs.declared.Trapezoid.{Trapezoid}
@@ -16,7 +17,7 @@ use Rattle.overlay.specs.declared.Fill.the-variants.{NoRoom, Written}
 use Rattle.overlay.specs.Code.{Lent, FilledAs}
 
 abbrev pub tail : List ℤ → ℕ → List ℤ
-tail out n = midOf (24 * n) (length out - 24 * n) out
+tail out n = midOf (memoryWidth * n) (length out - memoryWidth * n) out
 
 -- ---- one part
 module _ (d : List ℤ) (room : ℕ) (h : Lent d room) where
@@ -26,7 +27,7 @@ module _ (d : List ℤ) (room : ℕ) (h : Lent d room) where
   pub fill-nothing : FilledAs (length d) room [] (Written 0) d
   fill-nothing = (refl, omega arith, blank-image)
 
-  pub fill-one : (t : Trapezoid) → 1 ≤ room → FilledAs (length d) room (t ∷ []) (Written 1) (trapezoidWords t ++ drop 24 d)
+  pub fill-one : (t : Trapezoid) → 1 ≤ room → FilledAs (length d) room (t ∷ []) (Written 1) (trapezoidWords t ++ drop memoryWidth d)
   fill-one t l = (refl, l, image-one trapezoidCodec trapezoid-faithful t d (h .blank))
 
 -- ---- parts
@@ -37,20 +38,20 @@ pub record Writing (W room : ℕ) (goal rest : List Trapezoid) (out : List ℤ) 
   pub laid : out ≡ image trapezoidCodec W done
   pub size : n ≡ length done
   pub upto : n ≤ room
-  pub wide : 24 * room ≤ W
+  pub wide : memoryWidth * room ≤ W
   pub long : length out ≡ W
 
 pub write-start : (goal : List Trapezoid) (d : List ℤ) (room : ℕ) → Lent d room → Writing (length d) room goal goal d 0
 write-start goal d room h = record { done = []; all = refl; laid = blank-image d room h; size = refl; upto = omega arith; wide = h .wide; long = refl }
 
 module _ {W room : ℕ} {goal rest : List Trapezoid} {out : List ℤ} {n : ℕ} (h : Writing W room goal rest out n) where
-  in-words : 24 * n ≤ W
+  in-words : memoryWidth * n ≤ W
   in-words = omega (arith, h .upto, h .wide)
 
-  lent-length : length (tail out n) ≡ W - 24 * n
+  lent-length : length (tail out n) ≡ W - memoryWidth * n
   lent-length = tail-length trapezoidCodec trapezoid-faithful W n out (h .done) (h .laid) (h .size) in-words
 
-  pub write-fits : 24 * n ≤ length out
+  pub write-fits : memoryWidth * n ≤ length out
   write-fits = omega (arith, in-words, h .long)
 
   pub write-lent : Lent (tail out n) (room - n)
@@ -83,10 +84,10 @@ module _ {W room : ℕ} {goal rest : List Trapezoid} {out : List ℤ} {n : ℕ} 
         let k = subst (λ (f : Fill). FilledAs (length (tail out n)) (room - n) more f t) e g in
         omega (arith, k .0, k .1, h .upto)
 
-    pub write-turn : (m : ℕ) → f ≡ Written m → Writing W room goal later (putMid (24 * n) (length out - 24 * n) out t) (n + m)
+    pub write-turn : (m : ℕ) → f ≡ Written m → Writing W room goal later (putMid (memoryWidth * n) (length out - memoryWidth * n) out t) (n + m)
     write-turn m e =
         let k = subst (λ (f : Fill). FilledAs (length (tail out n)) (room - n) more f t) e g in
-        let u : t ≡ image trapezoidCodec (W - 24 * n) more = rw lent-length at (k .2) in
+        let u : t ≡ image trapezoidCodec (W - memoryWidth * n) more = rw lent-length at (k .2) in
         let back = tail-back trapezoidCodec trapezoid-faithful W n out (h .done) (h .laid) (h .size) in-words t more u in
         let j = length-append (h .done) more in
         let s : n + m ≡ length (h .done ++ more) = omega (arith, j, k .0, h .size) in

@@ -4,6 +4,7 @@ use mathlib.Core.List.{List, [], _∷_, _++_}
 use Prim.Native.Nat.{ℕ, _+_, _*_, _<_, _≤_}
 use lib.ListN.{length, getD, set, take, replicate}
 use lib.IntN.{ℤ, pos}
+use Rattle.records.specs.Limits.{memoryWidth}
 use Rattle.records.specs.Lists.{All}
 use Rattle.records.specs.Records.{image, Blank}
 use mathlib.Core.Option.{Option, none, some}
@@ -149,7 +150,7 @@ pub record Exchanged (A B : Trapezoid) (x : Fraction) (i j : ℕ) (c r : Column)
 -- the tail is blank, and `room` trapezoids fit into it
 pub record Lent (d : List ℤ) (room : ℕ) : Type 0 where
   pub blank : Blank (pos 0) d
-  pub wide : 24 * room ≤ length d
+  pub wide : memoryWidth * room ≤ length d
 
 -- of a tail of n words: it holds ts and is blank past them, or they do not fit and it is blank
 abbrev pub FilledAs : ℕ → ℕ → List Trapezoid → Fill → List ℤ → Type 0

@@ -479,7 +479,7 @@ fn fill_column(
             bottom,
             top,
         };
-        let f = put_if(yes, t, &mut out[24 * n..], room - n);
+        let f = put_if(yes, t, &mut out[records::MEMORY_WIDTH * n..], room - n);
         let Fill::Written(m) = f else {
             records::clear(out);
             return Fill::NoRoom;
@@ -520,7 +520,16 @@ fn fill_columns(a: Placed, b: Placed, tag: u8, out: &mut [i32], room: usize) -> 
         let Next::Found(q) = next else {
             return Fill::Written(n);
         };
-        let f = fill_column(s, t, tag, p, q, c, &mut out[24 * n..], room - n);
+        let f = fill_column(
+            s,
+            t,
+            tag,
+            p,
+            q,
+            c,
+            &mut out[records::MEMORY_WIDTH * n..],
+            room - n,
+        );
         let Fill::Written(m) = f else {
             records::clear(out);
             return Fill::NoRoom;

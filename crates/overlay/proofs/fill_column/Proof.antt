@@ -5,6 +5,7 @@ use lib.ListN.{length}
 use lib.IntN.{pos}
 use borrow.Author.Needs.{needs}
 use mathlib.Core.Path.{subst}
+use Rattle.records.specs.Limits.{memoryWidth}
 use Rattle.geometry.specs.Limit.{coordinateLimit, OnGrid}
 use borrow.Rule.Slice.PartMut.{putMid}
 use Rattle.records.proofs.Buffer.{blank-of}
@@ -142,7 +143,7 @@ returns-3 c =
     let s = l .before .before .before .before .before .before .before .before .before in
     let e = yes-of (r .present2 .result) (y .if2 .left) in
     let n : length (c .before .clear .last .0) ≡ length (s .args .out .now) = same-length-2 c in
-    let z = blank-of (pos 0) (c .before .clear .last .0) (length (putMid (24 * l .loop .n) (length (l .loop .out) - 24 * l .loop .n) (l .loop .out) (o .put-if .last .1 .1 .0))) (c .before .clear .ensures) in
+    let z = blank-of (pos 0) (c .before .clear .last .0) (length (putMid (memoryWidth * l .loop .n) (length (l .loop .out) - memoryWidth * l .loop .n) (l .loop .out) (o .put-if .last .1 .1 .0))) (c .before .clear .ensures) in
     (stack-full _ _ _ _ _ _ _ (l .loop .inv) (r .before .loop-test .taken) (sym (r .present2 .ensures) ∙ e) _ _ _ _ _ (u .before .side .ensures) (u .side2 .ensures) (s .pre .2 .is) (v .is-below .ensures) (w .wanted .ensures) _ _ (o .put-if .ensures) (c .before .before .before .enum-told .given .1), rw (← n) z)
 
 add-n : tie.Need-add-n Inv-loop μ-loop

@@ -5,6 +5,7 @@ use lib.ListN.{length}
 use lib.IntN.{pos}
 use borrow.Author.Needs.{needs}
 use borrow.Rule.Slice.PartMut.{putMid, same-len-mid}
+use Rattle.records.specs.Limits.{memoryWidth}
 use Rattle.records.proofs.Buffer.{blank-of}
 use Rattle.overlay.proofs.EventArray.{event-of}
 use Rattle.overlay.proofs.Filling.{left, first-four, column-four, no-event, first-proper, first-event, last-event, later-proper, later-event, fewer, found-event, Filling, fill-none, fill-start, fill-stop, fill-full, fill-upto, fill-turn}
@@ -128,7 +129,7 @@ same-length-2 : tie.Need-same-length-2 Inv-loop μ-loop
 same-length-2 c =
     let l = c .before .before .before .before .before .before .before .before .before .before .before .before .loop in
     let f = c .before .before .before .before .before .before .fill-column in
-    c .before .clear .kept .0 ∙ same-len-mid (24 * l .n) (length (l .out) - 24 * l .n) (l .out) (f .last .1 .1 .1 .1 .1 .1 .0) (f .kept .1 .1 .1 .1 .1 .1 .0) ∙ l .inv .writing .long
+    c .before .clear .kept .0 ∙ same-len-mid (memoryWidth * l .n) (length (l .out) - memoryWidth * l .n) (l .out) (f .last .1 .1 .1 .1 .1 .1 .0) (f .kept .1 .1 .1 .1 .1 .1 .0) ∙ l .inv .writing .long
 
 returns-3 : tie.Need-returns-3 Inv-loop μ-loop
 returns-3 c =
@@ -143,7 +144,7 @@ returns-3 c =
     let f = c .before .before .before .before .before .before .fill-column in
     let turn = later-event _ _ ha hb _ (v .events-of .ensures .names) _ (h .proper) _ (o .next-event2 .ensures) _ (k .next .given .1) in
     let n : length (c .before .clear .last .0) ≡ length (s .args .out .now) = same-length-2 c in
-    let z = blank-of (pos 0) (c .before .clear .last .0) (length (putMid (24 * l .n) (length (l .out) - 24 * l .n) (l .out) (f .last .1 .1 .1 .1 .1 .1 .0))) (c .before .clear .ensures) in
+    let z = blank-of (pos 0) (c .before .clear .last .0) (length (putMid (memoryWidth * l .n) (length (l .out) - memoryWidth * l .n) (l .out) (f .last .1 .1 .1 .1 .1 .1 .0))) (c .before .clear .ensures) in
     (fill-full ha hb (s .pre .1) h (k .next .given .0 .0) turn _ _ (f .ensures) (c .before .before .before .enum-told3 .given .1), rw (← n) z)
 
 add-n : tie.Need-add-n Inv-loop μ-loop
