@@ -1,0 +1,144 @@
+-- The trapezoids in hand less one more: what holds before each of them, that a turn keeps it, and what it says at each way out.
+use mathlib.Core.Path.{_≡_, refl, sym, _∙_, ap, subst}
+use mathlib.Core.List.{List, [], _∷_, _++_}
+use Prim.Native.Nat.{ℕ, _+_, _*_, _-_, _<_, _≤_}
+use native.Mathlib.Omega.{arith}
+use lib.ListN.{length}
+use lib.IntN.{ℤ}
+use borrow.Rule.Slice.PartMut.{putMid}
+use borrow.Author.Tests.{lt-ltb, le-ltb}
+use Rattle.records.specs.Limits.{memoryWidth}
+use Rattle.records.specs.Lists.{All}
+use Rattle.records.specs.Records.{recordAt, recordsFrom, count}
+use Rattle.records.proofs.Records.{from-start, from-step, from-none, length-from}
+use Rattle.geometry.specs.declared.Trapezoid.{Trapezoid}
+use Rattle.geometry.specs.Limit.{coordinateLimit}
+use Rattle.geometry.specs.Fitness.{FitFor}
+use Rattle.geometry.specs.Trapezoids.{trapezoidCodec, layerOf}
+use Rattle.overlay.specs.declared.Fill.{Fill}
+use Rattle.overlay.specs.declared.Fill.the-variants.{NoRoom, Written}
+use Rattle.overlay.specs.Overlay.{overlay, tagged}
+use Rattle.overlay.specs.declared.Placed.{Placed}
+use Rattle.overlay.specs.Code.{PlacedAs, Lent, FilledAs}
+use Rattle.overlay.proofs.Writing.{tail, Writing, write-start, write-stop, write-lent, write-turn}
+use Rattle.boolean.specs.declared.Folded.the-variants.{Done}
+use Rattle.boolean.specs.Operations.{less}
+use Rattle.boolean.specs.Space.{Space, enough, short, plus, space, lessMarks}
+use Rattle.boolean.specs.Code.{FoldedAs}
+
+plus-plus : (m n : ℕ) (s : Space) → plus m (plus n s) ≡ plus (m + n) s
+plus-plus m n (enough k) = ap enough (omega arith)
+plus-plus m n (short k) = ap short (omega arith)
+
+-- ---- the definitions, step by step
+less-none : (b : Trapezoid) → less [] b ≡ []
+unfolding less
+less-none b = refl
+
+less-one : (r b : Trapezoid) (rs : List Trapezoid) → less (r ∷ rs) b ≡ tagged 1 (overlay r b) ++ less rs b
+unfolding less
+less-one r b rs = refl
+
+marks-none : (room k : ℕ) (b : Trapezoid) → space room (lessMarks k [] b) ≡ enough 0
+unfolding space lessMarks
+marks-none room k b = refl
+
+module _ (room k : ℕ) (r b : Trapezoid) (rs : List Trapezoid) where
+  -- so many after this overlay
+  abbrev sum : ℕ
+  sum = k + length (tagged 1 (overlay r b)) + length rs
+
+  marks-over : room < sum → space room (lessMarks k (r ∷ rs) b) ≡ short 1
+  unfolding space lessMarks
+  marks-over l = rw (lt-ltb room sum l)
+
+  marks-next : sum ≤ room → space room (lessMarks k (r ∷ rs) b) ≡ plus 1 (space room (lessMarks (k + length (tagged 1 (overlay r b))) rs b))
+  unfolding space lessMarks
+  marks-next l = rw (le-ltb room sum l)
+
+-- ---- the loop
+-- less room is room still
+pub lent-less : (d : List ℤ) (room free : ℕ) → free ≤ room → Lent d room → Lent d free
+lent-less d room free l h = record { blank = h .blank; wide = omega (arith, h .wide, l) }
+
+-- the trapezoids from number i on
+abbrev pub from : List ℤ → ℕ → List Trapezoid
+from hand i = recordsFrom trapezoidCodec (count trapezoidCodec hand - i) hand i
+
+abbrev pub parts : List ℤ → Trapezoid → ℕ → List Trapezoid
+parts hand b i = tagged 1 (overlay (recordAt trapezoidCodec hand i) b)
+
+pub record Lessening (W room : ℕ) (hand : List ℤ) (b : Trapezoid) (out : List ℤ) (k i : ℕ) : Type 0 where
+  pub writing : Writing W room (less (layerOf hand) b) (less (from hand i) b) out k
+  pub marks : space room (lessMarks 0 (layerOf hand) b) ≡ plus i (space room (lessMarks k (from hand i) b))
+  pub room-left : k + (count trapezoidCodec hand - i) ≤ room + 1
+  pub upto : i ≤ count trapezoidCodec hand
+  pub fit : All (FitFor coordinateLimit) (from hand i)
+
+plus-none : (s : Space) → s ≡ plus 0 s
+plus-none (enough k) = ap enough (omega arith)
+plus-none (short k) = ap short (omega arith)
+
+pub less-start : (room : ℕ) (hand : List ℤ) (b : Trapezoid) (d : List ℤ) → Lent d room → count trapezoidCodec hand ≤ room + 1 → All (FitFor coordinateLimit) (layerOf hand) → Lessening (length d) room hand b d 0 0
+less-start room hand b d h l f =
+    let e : layerOf hand ≡ from hand 0 = sym (from-start trapezoidCodec (count trapezoidCodec hand) hand) in
+    record {
+      writing = subst (λ (ts : List Trapezoid). Writing (length d) room (less (layerOf hand) b) (less ts b) d 0) e (write-start (less (layerOf hand) b) d room h);
+      marks = ap (λ (ts : List Trapezoid). space room (lessMarks 0 ts b)) e ∙ plus-none (space room (lessMarks 0 (from hand 0) b));
+      room-left = omega (arith, l);
+      upto = omega arith;
+      fit = subst (All (FitFor coordinateLimit)) e f;
+    }
+
+module _ {W room : ℕ} {hand : List ℤ} {b : Trapezoid} {out : List ℤ} {k i : ℕ} (h : Lessening W room hand b out k i) where
+  pub less-stop : count trapezoidCodec hand ≤ i → FoldedAs W room (less (layerOf hand) b) (lessMarks 0 (layerOf hand) b) (Done k (count trapezoidCodec hand)) out
+  less-stop l =
+      let e : from hand i ≡ [] = from-none trapezoidCodec (count trapezoidCodec hand) hand i l in
+      let n : i + 0 ≡ count trapezoidCodec hand = omega (arith, h .upto, l) in
+      (h .marks ∙ ap (λ (ts : List Trapezoid). plus i (space room (lessMarks k ts b))) e ∙ ap (plus i) (marks-none room k b) ∙ ap enough n, write-stop (h .writing) (ap (λ (ts : List Trapezoid). less ts b) e ∙ less-none b))
+
+  module _ (l : i < count trapezoidCodec hand) where
+    step : from hand i ≡ recordAt trapezoidCodec hand i ∷ from hand (i + 1)
+    step = from-step trapezoidCodec (count trapezoidCodec hand) hand i l
+
+    pub less-fit : FitFor coordinateLimit (recordAt trapezoidCodec hand i)
+    less-fit = subst (All (FitFor coordinateLimit)) step (h .fit) .0
+
+    abbrev free : ℕ
+    free = room - k - (count trapezoidCodec hand - i - 1)
+
+    pub less-lent : Lent (tail out k) (room - k - (count trapezoidCodec hand - i - 1))
+    less-lent = lent-less (tail out k) (room - k) free (omega arith) (write-lent (h .writing))
+
+    module _ (f : Fill) (t : List ℤ) (g : FilledAs (length (tail out k)) (room - k - (count trapezoidCodec hand - i - 1)) (parts hand b i) f t) where
+      pub less-short : f ≡ NoRoom → space room (lessMarks 0 (layerOf hand) b) ≡ short (i + 1)
+      less-short e =
+          let g = subst (λ (f : Fill). FilledAs (length (tail out k)) free (parts hand b i) f t) e g in
+          let n = length-from trapezoidCodec (count trapezoidCodec hand - (i + 1)) hand (i + 1) in
+          h .marks ∙ ap (λ (ts : List Trapezoid). plus i (space room (lessMarks k ts b))) step ∙ ap (plus i) (marks-over room k (recordAt trapezoidCodec hand i) b (from hand (i + 1)) (omega (arith, g .0, n, l)))
+
+      pub less-upto : (m : ℕ) → f ≡ Written m → k + m ≤ room
+      less-upto m e =
+          let g = subst (λ (f : Fill). FilledAs (length (tail out k)) free (parts hand b i) f t) e g in
+          omega (arith, g .0, g .1, h .writing .upto)
+
+      pub less-turn : (m : ℕ) → f ≡ Written m → Lessening W room hand b (putMid (memoryWidth * k) (length out - memoryWidth * k) out t) (k + m) (i + 1)
+      less-turn m e =
+          let g = subst (λ (f : Fill). FilledAs (length (tail out k)) free (parts hand b i) f t) e g in
+          let n = length-from trapezoidCodec (count trapezoidCodec hand - (i + 1)) hand (i + 1) in
+          let u : k + m + (count trapezoidCodec hand - (i + 1)) ≤ room = omega (arith, g .0, g .1, h .room-left, l) in
+          let c : k + length (parts hand b i) ≡ k + m = omega (arith, g .0) in
+          let s = marks-next room k (recordAt trapezoidCodec hand i) b (from hand (i + 1)) (omega (arith, c, n, u)) in
+          record {
+            writing = write-turn (h .writing) (parts hand b i) (less (from hand (i + 1)) b) (ap (λ (ts : List Trapezoid). less ts b) step ∙ less-one (recordAt trapezoidCodec hand i) b (from hand (i + 1))) (Written m) t (g .0, omega (arith, g .0, g .1), g .2) m refl;
+            marks = h .marks ∙ ap (λ (ts : List Trapezoid). plus i (space room (lessMarks k ts b))) step ∙ ap (plus i) s ∙ plus-plus i 1 (space room (lessMarks (k + length (parts hand b i)) (from hand (i + 1)) b)) ∙ ap (λ (x : ℕ). plus (i + 1) (space room (lessMarks x (from hand (i + 1)) b))) c;
+            room-left = omega (arith, u);
+            upto = omega (arith, l);
+            fit = subst (All (FitFor coordinateLimit)) step (h .fit) .1;
+          }
+
+pub filled-of : (n room : ℕ) (x y b : Trapezoid) (f : Fill) (t : List ℤ) → x ≡ y → FilledAs n room (tagged 1 (overlay x b)) f t → FilledAs n room (tagged 1 (overlay y b)) f t
+filled-of n room x y b f t e g = subst (λ (z : Trapezoid). FilledAs n room (tagged 1 (overlay z b)) f t) e g
+
+pub placed : {t : Trapezoid} {a : Placed} → PlacedAs t a → PlacedAs (a .shape) a
+placed h = record { shape = refl; fit = h .fit; left = h .left; right = h .right }

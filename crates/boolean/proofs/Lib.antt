@@ -1,0 +1,9 @@
+pub mod Layers
+pub mod Kept
+pub mod Difference
+pub mod Intersection
+pub mod Results
+pub mod Disjointing
+pub mod Sameness
+pub mod Space
+pub mod Lessening

@@ -1,0 +1,45 @@
+// The set operations on layers of trapezoids.
+use overlay::Fill;
+use overlay::Placed;
+ghost use mathlib.Core.Path.{_≡_};
+ghost use Prim.Native.Nat.{_+_, _≤_};
+ghost use lib.ListN.{length};
+ghost use Rattle.records.specs.Lists.{All};
+ghost use Rattle.records.specs.Records.{count};
+ghost use Rattle.geometry.specs.Limit.{coordinateLimit};
+ghost use Rattle.geometry.specs.Fitness.{FitFor};
+ghost use Rattle.geometry.specs.Trapezoids.{trapezoidCodec, layerOf};
+ghost use Rattle.overlay.specs.Code.{PlacedAs, Lent};
+ghost use Rattle.boolean.specs.Operations.{less};
+ghost use Rattle.boolean.specs.Space.{lessMarks};
+ghost use Rattle.boolean.specs.Code.{FoldedAs};
+
+// What a fold answers: the space was short, after so many overlays; or how many trapezoids it wrote, and the number of overlays.
+pub enum Folded {
+    Short(usize),
+    Done { pieces: usize, cuts: usize },
+}
+
+// Each trapezoid in hand, in order, replaced by its parts that are not in b. Those not yet reached count against the room.
+pub fn less_into(hand: &[i32], b: Placed, out: &mut [i32], room: usize) -> Folded
+    requires { ⌜ All (FitFor coordinateLimit) (layerOf (now hand)) × (count trapezoidCodec (now hand) ≤ room + 1) ⌝ }
+    requires { ⌜ PlacedAs (b .shape) b × Lent (now out) room ⌝ }
+    ensures { λ r. ⌜ FoldedAs (length (now (out .entry))) room (less (layerOf (now (hand .entry))) (b .shape)) (lessMarks 0 (layerOf (now (hand .entry))) (b .shape)) r (now (out .exit)) ⌝ }
+{
+    let n = hand.len() / records::MEMORY_WIDTH;
+    let mut k = 0;
+    let mut i = 0;
+    while i < n {
+        let t = geometry::load(hand, i);
+        let a = overlay::place(t);
+        let free = room - k - (n - i - 1);
+        let f = overlay::overlay_into(a, b, 1, &mut out[records::MEMORY_WIDTH * k..], free);
+        let Fill::Written(m) = f else {
+            records::clear(out);
+            return Folded::Short(i + 1);
+        };
+        k += m;
+        i += 1;
+    }
+    Folded::Done { pieces: k, cuts: n }
+}
