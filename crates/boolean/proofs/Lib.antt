@@ -7,3 +7,4 @@ pub mod Disjointing
 pub mod Sameness
 pub mod Space
 pub mod Lessening
+pub mod Handing

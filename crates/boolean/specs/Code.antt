@@ -1,10 +1,16 @@
 -- What the functions answer and write, by the definitions.
 use mathlib.Core.Path.{_≡_}
 use mathlib.Core.List.{List}
-use Prim.Native.Nat.{ℕ}
-use lib.ListN.{replicate}
+use Prim.Native.Nat.{ℕ, _*_, _≤_}
+use lib.ListN.{length, replicate}
 use lib.IntN.{ℤ, pos}
+use Rattle.records.specs.Lists.{All}
+use Rattle.records.specs.Limits.{memoryWidth}
+use Rattle.records.specs.Records.{recordsFrom, image}
 use Rattle.geometry.specs.declared.Trapezoid.{Trapezoid}
+use Rattle.geometry.specs.Limit.{coordinateLimit}
+use Rattle.geometry.specs.Fitness.{FitFor}
+use Rattle.geometry.specs.Trapezoids.{trapezoidCodec}
 use Rattle.overlay.specs.declared.Fill.the-variants.{Written}
 use Rattle.overlay.specs.Code.{FilledAs}
 use Rattle.boolean.specs.declared.Folded.{Folded}
@@ -16,3 +22,14 @@ use Rattle.boolean.specs.Space.{Mark, enough, short, space}
 abbrev pub FoldedAs : ℕ → ℕ → List Trapezoid → List Mark → Folded → List ℤ → Type 0
 FoldedAs n room ts ms (Short cuts) d = (space room ms ≡ short cuts) × (d ≡ replicate n (pos 0))
 FoldedAs n room ts ms (Done pieces cuts) d = (space room ms ≡ enough cuts) × FilledAs n room ts (Written pieces) d
+
+-- the first n trapezoids of a buffer
+abbrev pub held : List ℤ → ℕ → List Trapezoid
+held d n = recordsFrom trapezoidCodec n d 0
+
+-- a buffer that takes `room` trapezoids holds n of them, which are fit, and is blank past them
+pub record InHand (d : List ℤ) (n room : ℕ) : Type 0 where
+  pub is : d ≡ image trapezoidCodec (length d) (held d n)
+  pub fit : All (FitFor coordinateLimit) (held d n)
+  pub within : n ≤ room
+  pub wide : memoryWidth * room ≤ length d

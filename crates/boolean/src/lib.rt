@@ -2,17 +2,20 @@
 use overlay::Fill;
 use overlay::Placed;
 ghost use mathlib.Core.Path.{_≡_};
-ghost use Prim.Native.Nat.{_+_, _≤_};
-ghost use lib.ListN.{length};
+ghost use mathlib.Core.List.{_++_};
+ghost use Prim.Native.Nat.{_+_, _*_, _≤_};
+ghost use lib.ListN.{length, take, drop, replicate};
+ghost use lib.IntN.{pos};
+ghost use Rattle.records.specs.Limits.{memoryWidth};
 ghost use Rattle.records.specs.Lists.{All};
-ghost use Rattle.records.specs.Records.{count};
+ghost use Rattle.records.specs.Records.{count, Blank};
 ghost use Rattle.geometry.specs.Limit.{coordinateLimit};
 ghost use Rattle.geometry.specs.Fitness.{FitFor};
 ghost use Rattle.geometry.specs.Trapezoids.{trapezoidCodec, layerOf};
 ghost use Rattle.overlay.specs.Code.{PlacedAs, Lent};
 ghost use Rattle.boolean.specs.Operations.{less};
 ghost use Rattle.boolean.specs.Space.{lessMarks};
-ghost use Rattle.boolean.specs.Code.{FoldedAs};
+ghost use Rattle.boolean.specs.Code.{held, InHand, FoldedAs};
 
 // What a fold answers: the space was short, after so many overlays; or how many trapezoids it wrote, and the number of overlays.
 pub enum Folded {
@@ -42,4 +45,29 @@ pub fn less_into(hand: &[i32], b: Placed, out: &mut [i32], room: usize) -> Folde
         i += 1;
     }
     Folded::Done { pieces: k, cuts: n }
+}
+
+// The first n records of `out` are moved to `work`.
+fn move_into(out: &mut [i32], work: &mut [i32], n: usize)
+    requires { ⌜ (memoryWidth * n ≤ length (now out)) × (memoryWidth * n ≤ length (now work)) ⌝ }
+    ensures { λ _. ⌜ now (out .exit) ≡ replicate (memoryWidth * n) (pos 0) ++ drop (memoryWidth * n) (now (out .entry)) ⌝ }
+    ensures { λ _. ⌜ now (work .exit) ≡ take (memoryWidth * n) (now (out .entry)) ++ drop (memoryWidth * n) (now (work .entry)) ⌝ }
+{
+    let end = records::MEMORY_WIDTH * n;
+    records::copy(&out[..end], &mut work[..end]);
+    records::clear(&mut out[..end]);
+}
+
+// The n trapezoids that `out` holds are in hand: each replaced by its parts that are not in b.
+fn lessen(b: Placed, n: usize, out: &mut [i32], work: &mut [i32], room: usize) -> Folded
+    requires { ⌜ PlacedAs (b .shape) b × InHand (now out) n room ⌝ }
+    requires { ⌜ Blank (pos 0) (now work) × (length (now work) ≡ length (now out)) ⌝ }
+    ensures { λ r. ⌜ FoldedAs (length (now (out .entry))) room (less (held (now (out .entry)) n) (b .shape)) (lessMarks 0 (held (now (out .entry)) n) (b .shape)) r (now (out .exit)) ⌝ }
+    ensures { λ _. ⌜ Blank (pos 0) (now (work .exit)) ⌝ }
+{
+    move_into(out, work, n);
+    let end = records::MEMORY_WIDTH * n;
+    let f = less_into(&work[..end], b, out, room);
+    records::clear(&mut work[..end]);
+    f
 }

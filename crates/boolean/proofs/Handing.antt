@@ -1,0 +1,94 @@
+-- Trapezoids moved from the output to the scratch area, so that they can be replaced.
+use mathlib.Core.Path.{_≡_, sym, _∙_, ap, subst}
+use mathlib.Core.List.{List, _++_}
+use Prim.Native.Nat.{ℕ, _+_, _*_, _-_, _≤_}
+use native.Mathlib.Omega.{arith}
+use lib.ListN.{length, take, drop, replicate, length-replicate, replicate-append-replicate}
+use lib.Seq.{length-take-le, take-at, drop-at}
+use lib.IntN.{ℤ, pos}
+use Rattle.records.specs.Limits.{memoryWidth}
+use Rattle.records.specs.Lists.{All}
+use Rattle.records.specs.Records.{wordsOf, count, Blank}
+use Rattle.records.proofs.Lists.{all-of}
+use Rattle.records.proofs.Records.{length-from, records-words}
+use Rattle.records.proofs.Buffer.{blank-of, drop-blank, image-take, image-drop}
+use Rattle.geometry.specs.declared.Trapezoid.{Trapezoid}
+use Rattle.geometry.specs.Limit.{coordinateLimit}
+use Rattle.geometry.specs.Fitness.{FitFor}
+use Rattle.geometry.specs.Trapezoids.{trapezoidCodec, layerOf}
+use Rattle.geometry.proofs.Trapezoids.{trapezoid-faithful}
+use Rattle.overlay.specs.Code.{Lent}
+use Rattle.boolean.specs.declared.Folded.{Folded}
+use Rattle.boolean.specs.Operations.{less}
+use Rattle.boolean.specs.Space.{lessMarks}
+use Rattle.boolean.specs.Code.{held, InHand, FoldedAs}
+
+-- d and w before, d' and w' after the move
+module _ (d w d' w' : List ℤ) (n room : ℕ) (h : InHand d n room) (blank : Blank (pos 0) w) (same : length w ≡ length d)
+    (out : d' ≡ replicate (memoryWidth * n) (pos 0) ++ drop (memoryWidth * n) d) (work : w' ≡ take (memoryWidth * n) d ++ drop (memoryWidth * n) w) where
+  abbrev end : ℕ
+  end = memoryWidth * n
+
+  pub hand-words : memoryWidth * n ≤ length d
+  hand-words = omega (arith, h .within, h .wide)
+
+  pub hand-work : memoryWidth * n ≤ length w
+  hand-work = omega (arith, hand-words, same)
+
+  size : memoryWidth * length (held d n) ≡ end
+  size = ap (λ (m : ℕ). memoryWidth * m) (length-from trapezoidCodec n d 0)
+
+  front : take end d ≡ wordsOf trapezoidCodec (held d n)
+  front = ap (λ (m : ℕ). take m d) (sym size) ∙ ap (take (memoryWidth * length (held d n))) (h .is) ∙ image-take trapezoidCodec trapezoid-faithful (length d) (held d n)
+
+  rest : drop end d ≡ replicate (length d - end) (pos 0)
+  rest =
+      ap (λ (m : ℕ). drop m d) (sym size) ∙ ap (drop (memoryWidth * length (held d n))) (h .is) ∙ image-drop trapezoidCodec trapezoid-faithful (length d) (held d n)
+      ∙ ap (λ (m : ℕ). replicate (length d - m) (pos 0)) size
+
+  first-words : length (take end d) ≡ end
+  first-words = length-take-le end d hand-words
+
+  moved : take end w' ≡ take end d
+  moved = ap (take end) work ∙ take-at (take end d) (drop end w) end first-words
+
+  pub hand-length : memoryWidth * n ≡ length (take (memoryWidth * n) w')
+  hand-length = sym (ap length moved ∙ first-words)
+
+  pub hand-layer : layerOf (take (memoryWidth * n) w') ≡ held d n
+  hand-layer =
+      ap layerOf (moved ∙ front)
+      ∙ records-words trapezoidCodec trapezoid-faithful (held d n) (all-of (λ (t : Trapezoid). Unit {0}) (λ t. tt) (held d n))
+
+  pub hand-fit : All (FitFor coordinateLimit) (layerOf (take (memoryWidth * n) w'))
+  hand-fit = subst (All (FitFor coordinateLimit)) (sym hand-layer) (h .fit)
+
+  pub hand-count : count trapezoidCodec (take (memoryWidth * n) w') ≤ room + 1
+  hand-count =
+      let e : count trapezoidCodec (take end w') ≡ n = sym (length-from trapezoidCodec (count trapezoidCodec (take end w')) (take end w') 0) ∙ ap length hand-layer ∙ length-from trapezoidCodec n d 0 in
+      omega (arith, e, h .within)
+
+  cleared : d' ≡ replicate (length d) (pos 0)
+  cleared =
+      let e : end + (length d - end) ≡ length d = omega (arith, hand-words) in
+      out ∙ ap (λ (t : List ℤ). replicate end (pos 0) ++ t) rest ∙ replicate-append-replicate end (length d - end) (pos 0) ∙ ap (λ (m : ℕ). replicate m (pos 0)) e
+
+  pub hand-out : length d' ≡ length d
+  hand-out = ap length cleared ∙ length-replicate (length d) (pos 0)
+
+  pub hand-lent : Lent d' room
+  hand-lent = record { blank = blank-of (pos 0) d' (length d) cleared; wide = omega (arith, hand-out, h .wide) }
+
+  -- the scratch area is cleared again
+  pub hand-back : (t : List ℤ) → t ≡ replicate (length (take (memoryWidth * n) w')) (pos 0) → Blank (pos 0) (t ++ drop (memoryWidth * n) w')
+  hand-back t e =
+      let f : drop end w' ≡ replicate (length w - end) (pos 0) = ap (drop end) work ∙ drop-at (take end d) (drop end w) end first-words ∙ ap (drop end) blank ∙ drop-blank (pos 0) end (length w) in
+      let g : t ≡ replicate end (pos 0) = e ∙ ap (λ (m : ℕ). replicate m (pos 0)) (sym hand-length) in
+      blank-of (pos 0) (t ++ drop end w') (end + (length w - end)) (ap (λ (u : List ℤ). u ++ drop end w') g ∙ ap (λ (u : List ℤ). replicate end (pos 0) ++ u) f ∙ replicate-append-replicate end (length w - end) (pos 0))
+
+  pub hand-folded : (b : Trapezoid) (r : Folded) (t : List ℤ)
+      → FoldedAs (length d') room (less (layerOf (take (memoryWidth * n) w')) b) (lessMarks 0 (layerOf (take (memoryWidth * n) w')) b) r t
+      → FoldedAs (length d) room (less (held d n) b) (lessMarks 0 (held d n) b) r t
+  hand-folded b r t g =
+      subst (λ (m : ℕ). FoldedAs m room (less (held d n) b) (lessMarks 0 (held d n) b) r t) hand-out
+      (subst (λ (ts : List Trapezoid). FoldedAs (length d') room (less ts b) (lessMarks 0 ts b) r t) hand-layer g)
