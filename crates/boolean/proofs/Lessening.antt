@@ -9,7 +9,7 @@ use borrow.Rule.Slice.PartMut.{putMid}
 use borrow.Author.Tests.{lt-ltb, le-ltb}
 use Rattle.records.specs.Limits.{memoryWidth}
 use Rattle.records.specs.Lists.{All}
-use Rattle.records.specs.Records.{recordAt, recordsFrom, count}
+use Rattle.records.specs.Records.{recordAt, count}
 use Rattle.records.proofs.Records.{from-start, from-step, from-none, length-from}
 use Rattle.geometry.specs.declared.Trapezoid.{Trapezoid}
 use Rattle.geometry.specs.Limit.{coordinateLimit}
@@ -23,12 +23,9 @@ use Rattle.overlay.specs.Code.{PlacedAs, Lent, FilledAs}
 use Rattle.overlay.proofs.Writing.{tail, Writing, write-start, write-stop, write-lent, write-turn}
 use Rattle.boolean.specs.declared.Folded.the-variants.{Done}
 use Rattle.boolean.specs.Operations.{less}
-use Rattle.boolean.specs.Space.{Space, enough, short, plus, space, lessMarks}
-use Rattle.boolean.specs.Code.{FoldedAs}
-
-plus-plus : (m n : ℕ) (s : Space) → plus m (plus n s) ≡ plus (m + n) s
-plus-plus m n (enough k) = ap enough (omega arith)
-plus-plus m n (short k) = ap short (omega arith)
+use Rattle.boolean.specs.Space.{enough, short, plus, space, lessMarks}
+use Rattle.boolean.specs.Code.{from, FoldedAs}
+use Rattle.boolean.proofs.Space.{plus-none, plus-plus}
 
 -- ---- the definitions, step by step
 less-none : (b : Trapezoid) → less [] b ≡ []
@@ -61,10 +58,6 @@ module _ (room k : ℕ) (r b : Trapezoid) (rs : List Trapezoid) where
 pub lent-less : (d : List ℤ) (room free : ℕ) → free ≤ room → Lent d room → Lent d free
 lent-less d room free l h = record { blank = h .blank; wide = omega (arith, h .wide, l) }
 
--- the trapezoids from number i on
-abbrev pub from : List ℤ → ℕ → List Trapezoid
-from hand i = recordsFrom trapezoidCodec (count trapezoidCodec hand - i) hand i
-
 abbrev pub parts : List ℤ → Trapezoid → ℕ → List Trapezoid
 parts hand b i = tagged 1 (overlay (recordAt trapezoidCodec hand i) b)
 
@@ -75,16 +68,12 @@ pub record Lessening (W room : ℕ) (hand : List ℤ) (b : Trapezoid) (out : Lis
   pub upto : i ≤ count trapezoidCodec hand
   pub fit : All (FitFor coordinateLimit) (from hand i)
 
-plus-none : (s : Space) → s ≡ plus 0 s
-plus-none (enough k) = ap enough (omega arith)
-plus-none (short k) = ap short (omega arith)
-
 pub less-start : (room : ℕ) (hand : List ℤ) (b : Trapezoid) (d : List ℤ) → Lent d room → count trapezoidCodec hand ≤ room + 1 → All (FitFor coordinateLimit) (layerOf hand) → Lessening (length d) room hand b d 0 0
 less-start room hand b d h l f =
     let e : layerOf hand ≡ from hand 0 = sym (from-start trapezoidCodec (count trapezoidCodec hand) hand) in
     record {
       writing = subst (λ (ts : List Trapezoid). Writing (length d) room (less (layerOf hand) b) (less ts b) d 0) e (write-start (less (layerOf hand) b) d room h);
-      marks = ap (λ (ts : List Trapezoid). space room (lessMarks 0 ts b)) e ∙ plus-none (space room (lessMarks 0 (from hand 0) b));
+      marks = ap (λ (ts : List Trapezoid). space room (lessMarks 0 ts b)) e ∙ sym (plus-none (space room (lessMarks 0 (from hand 0) b)));
       room-left = omega (arith, l);
       upto = omega arith;
       fit = subst (All (FitFor coordinateLimit)) e f;

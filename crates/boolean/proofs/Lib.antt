@@ -8,3 +8,6 @@ pub mod Sameness
 pub mod Space
 pub mod Lessening
 pub mod Handing
+pub mod Reducing
+pub mod Commoning
+pub mod Intersecting

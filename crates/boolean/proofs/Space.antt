@@ -12,11 +12,11 @@ abbrev pub after : Space → Space → Space
 after (enough m) s = plus m s
 after (short m) s = short m
 
-plus-none : (s : Space) → plus 0 s ≡ s
+pub plus-none : (s : Space) → plus 0 s ≡ s
 plus-none (enough m) = ap enough (omega arith)
 plus-none (short m) = ap short (omega arith)
 
-plus-plus : (n m : ℕ) (s : Space) → plus n (plus m s) ≡ plus (n + m) s
+pub plus-plus : (n m : ℕ) (s : Space) → plus n (plus m s) ≡ plus (n + m) s
 plus-plus n m (enough k) = ap enough (omega arith)
 plus-plus n m (short k) = ap short (omega arith)
 

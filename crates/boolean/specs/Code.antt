@@ -1,16 +1,16 @@
 -- What the functions answer and write, by the definitions.
 use mathlib.Core.Path.{_≡_}
 use mathlib.Core.List.{List}
-use Prim.Native.Nat.{ℕ, _*_, _≤_}
+use Prim.Native.Nat.{ℕ, _*_, _-_, _≤_}
 use lib.ListN.{length, replicate}
 use lib.IntN.{ℤ, pos}
 use Rattle.records.specs.Lists.{All}
-use Rattle.records.specs.Limits.{memoryWidth}
-use Rattle.records.specs.Records.{recordsFrom, image}
+use Rattle.records.specs.Limits.{memoryWidth, maxRecords}
+use Rattle.records.specs.Records.{recordsFrom, image, count}
 use Rattle.geometry.specs.declared.Trapezoid.{Trapezoid}
 use Rattle.geometry.specs.Limit.{coordinateLimit}
 use Rattle.geometry.specs.Fitness.{FitFor}
-use Rattle.geometry.specs.Trapezoids.{trapezoidCodec}
+use Rattle.geometry.specs.Trapezoids.{trapezoidCodec, layerOf}
 use Rattle.overlay.specs.declared.Fill.the-variants.{Written}
 use Rattle.overlay.specs.Code.{FilledAs}
 use Rattle.boolean.specs.declared.Folded.{Folded}
@@ -33,3 +33,16 @@ pub record InHand (d : List ℤ) (n room : ℕ) : Type 0 where
   pub fit : All (FitFor coordinateLimit) (held d n)
   pub within : n ≤ room
   pub wide : memoryWidth * room ≤ length d
+
+-- the trapezoids of a layer's words from number i on
+abbrev pub from : List ℤ → ℕ → List Trapezoid
+from s i = recordsFrom trapezoidCodec (count trapezoidCodec s - i) s i
+
+-- the words of a layer of at most 512 trapezoids, which are fit
+pub record Layer (s : List ℤ) : Type 0 where
+  pub fit : All (FitFor coordinateLimit) (layerOf s)
+  pub few : count trapezoidCodec s ≤ maxRecords
+
+abbrev pub CutsWithin : ℕ → Folded → Type 0
+CutsWithin m (Short cuts) = cuts ≤ m
+CutsWithin m (Done pieces cuts) = cuts ≤ m

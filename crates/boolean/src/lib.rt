@@ -3,19 +3,19 @@ use overlay::Fill;
 use overlay::Placed;
 ghost use mathlib.Core.Path.{_≡_};
 ghost use mathlib.Core.List.{_++_};
-ghost use Prim.Native.Nat.{_+_, _*_, _≤_};
+ghost use Prim.Native.Nat.{_+_, _*_, _<_, _≤_};
 ghost use lib.ListN.{length, take, drop, replicate};
 ghost use lib.IntN.{pos};
-ghost use Rattle.records.specs.Limits.{memoryWidth};
+ghost use Rattle.records.specs.Limits.{memoryWidth, maxRecords};
 ghost use Rattle.records.specs.Lists.{All};
-ghost use Rattle.records.specs.Records.{count, Blank};
+ghost use Rattle.records.specs.Records.{recordAt, count, Blank};
 ghost use Rattle.geometry.specs.Limit.{coordinateLimit};
 ghost use Rattle.geometry.specs.Fitness.{FitFor};
 ghost use Rattle.geometry.specs.Trapezoids.{trapezoidCodec, layerOf};
 ghost use Rattle.overlay.specs.Code.{PlacedAs, Lent};
-ghost use Rattle.boolean.specs.Operations.{less};
-ghost use Rattle.boolean.specs.Space.{lessMarks};
-ghost use Rattle.boolean.specs.Code.{held, InHand, FoldedAs};
+ghost use Rattle.boolean.specs.Operations.{less, lessAll, common, intersection};
+ghost use Rattle.boolean.specs.Space.{lessMarks, lessAllMarks, commonMarks, intersectionMarks};
+ghost use Rattle.boolean.specs.Code.{from, Layer, CutsWithin, held, InHand, FoldedAs};
 
 // What a fold answers: the space was short, after so many overlays; or how many trapezoids it wrote, and the number of overlays.
 pub enum Folded {
@@ -47,6 +47,62 @@ pub fn less_into(hand: &[i32], b: Placed, out: &mut [i32], room: usize) -> Folde
     Folded::Done { pieces: k, cuts: n }
 }
 
+// The parts common to a and each trapezoid of the layer, in order.
+pub fn common_into(a: Placed, layer: &[i32], out: &mut [i32], room: usize) -> Folded
+    requires { ⌜ All (FitFor coordinateLimit) (layerOf (now layer)) ⌝ }
+    requires { ⌜ PlacedAs (a .shape) a × Lent (now out) room ⌝ }
+    ensures { λ r. ⌜ FoldedAs (length (now (out .entry))) room (common (a .shape) (layerOf (now (layer .entry)))) (commonMarks 0 (a .shape) (layerOf (now (layer .entry)))) r (now (out .exit)) ⌝ }
+{
+    let n = layer.len() / records::MEMORY_WIDTH;
+    let mut k = 0;
+    let mut i = 0;
+    while i < n {
+        let t = geometry::load(layer, i);
+        let b = overlay::place(t);
+        let f = overlay::overlay_into(a, b, 3, &mut out[records::MEMORY_WIDTH * k..], room - k);
+        let Fill::Written(m) = f else {
+            records::clear(out);
+            return Folded::Short(i + 1);
+        };
+        k += m;
+        i += 1;
+    }
+    Folded::Done { pieces: k, cuts: n }
+}
+
+// The parts common to each trapezoid of the first layer, in order, and each of the second.
+pub fn intersection_into(first: &[i32], second: &[i32], out: &mut [i32], room: usize) -> Folded
+    requires { ⌜ All (FitFor coordinateLimit) (layerOf (now first)) × All (FitFor coordinateLimit) (layerOf (now second)) ⌝ }
+    requires { ⌜ (length (now first) ≤ 12288) × (length (now second) ≤ 12288) ⌝ }
+    requires { ⌜ Lent (now out) room ⌝ }
+    ensures { λ r. ⌜ FoldedAs (length (now (out .entry))) room (intersection (layerOf (now (first .entry))) (layerOf (now (second .entry)))) (intersectionMarks 0 (layerOf (now (first .entry))) (layerOf (now (second .entry)))) r (now (out .exit)) ⌝ }
+{
+    let n = first.len() / records::MEMORY_WIDTH;
+    let mut k = 0;
+    let mut cuts = 0;
+    let mut i = 0;
+    while i < n {
+        let t = geometry::load(first, i);
+        let a = overlay::place(t);
+        let f = common_into(a, second, &mut out[records::MEMORY_WIDTH * k..], room - k);
+        match f {
+            Folded::Short(c) => {
+                records::clear(out);
+                return Folded::Short(cuts + c);
+            }
+            Folded::Done { pieces: m, cuts: c } => {
+                k += m;
+                cuts += c;
+            }
+        }
+        i += 1;
+    }
+    Folded::Done {
+        pieces: k,
+        cuts: cuts,
+    }
+}
+
 // The first n records of `out` are moved to `work`.
 fn move_into(out: &mut [i32], work: &mut [i32], n: usize)
     requires { ⌜ (memoryWidth * n ≤ length (now out)) × (memoryWidth * n ≤ length (now work)) ⌝ }
@@ -70,4 +126,44 @@ fn lessen(b: Placed, n: usize, out: &mut [i32], work: &mut [i32], room: usize) -
     let f = less_into(&work[..end], b, out, room);
     records::clear(&mut work[..end]);
     f
+}
+
+// The trapezoid with number i of a layer.
+fn placed_at(layer: &[i32], i: usize) -> Placed
+    requires { ⌜ All (FitFor coordinateLimit) (layerOf (now layer)) × (i < count trapezoidCodec (now layer)) ⌝ }
+    ensures { λ r. ⌜ PlacedAs (recordAt trapezoidCodec (now (layer .entry)) i) r ⌝ }
+{
+    overlay::place(geometry::load(layer, i))
+}
+
+// The n trapezoids that `out` holds, less every trapezoid of a layer but the first.
+fn lessen_by_rest(layer: &[i32], n: usize, out: &mut [i32], work: &mut [i32], room: usize) -> Folded
+    requires { ⌜ Layer (now layer) × (1 ≤ count trapezoidCodec (now layer)) × InHand (now out) n room × (room ≤ maxRecords) ⌝ }
+    requires { ⌜ Blank (pos 0) (now work) × (length (now work) ≡ length (now out)) ⌝ }
+    ensures { λ r. ⌜ FoldedAs (length (now (out .entry))) room (lessAll (held (now (out .entry)) n) (from (now (layer .entry)) 1)) (lessAllMarks 0 (held (now (out .entry)) n) (from (now (layer .entry)) 1)) r (now (out .exit)) ⌝ }
+    ensures { λ r. ⌜ CutsWithin (maxRecords * maxRecords) r ⌝ }
+    ensures { λ _. ⌜ Blank (pos 0) (now (work .exit)) ⌝ }
+{
+    let count = layer.len() / records::MEMORY_WIDTH;
+    let mut k = n;
+    let mut made = 0;
+    let mut i = 1;
+    while i < count {
+        let b = placed_at(layer, i);
+        let f = lessen(b, k, out, work, room);
+        match f {
+            Folded::Short(cuts) => {
+                return Folded::Short(made + cuts);
+            }
+            Folded::Done { pieces, cuts } => {
+                k = pieces;
+                made += cuts;
+            }
+        }
+        i += 1;
+    }
+    Folded::Done {
+        pieces: k,
+        cuts: made,
+    }
 }

@@ -1,0 +1,180 @@
+-- The trapezoids in hand less a layer, one after the other: what holds before each, that a turn keeps it, and what it says at each way out.
+use mathlib.Core.Path.{_≡_, refl, sym, _∙_, ap, subst}
+use mathlib.Core.Bool.{Bool, true, false, cond}
+use mathlib.Core.List.{List, [], _∷_, _++_}
+use Prim.Native.Nat.{ℕ, suc, _+_, _*_, _-_, _<_, _≤_}
+use native.Mathlib.Omega.{arith}
+use lib.Dec.{ltb}
+use lib.ListN.{length, replicate}
+use lib.IntN.{ℤ, pos}
+use Rattle.records.specs.Limits.{maxRecords}
+use Rattle.records.specs.Lists.{All}
+use Rattle.records.specs.Records.{recordAt, recordsFrom, image, count, Blank}
+use Rattle.records.proofs.Lists.{all-of, all-right}
+use Rattle.records.proofs.Records.{from-start, from-step, from-none, from-append, length-from}
+use Rattle.records.proofs.Buffer.{image-records}
+use Rattle.geometry.specs.declared.Trapezoid.{Trapezoid}
+use Rattle.geometry.specs.Limit.{coordinateLimit}
+use Rattle.geometry.specs.Fitness.{FitFor}
+use Rattle.geometry.specs.Trapezoids.{trapezoidCodec, layerOf}
+use Rattle.geometry.proofs.Trapezoids.{trapezoid-faithful}
+use Rattle.overlay.specs.Overlay.{overlay, tagged}
+use Rattle.boolean.specs.declared.Folded.{Folded}
+use Rattle.boolean.specs.declared.Folded.the-variants.{Short, Done}
+use Rattle.boolean.specs.Operations.{less, lessAll}
+use Rattle.boolean.specs.Space.{Space, Mark, held, enough, short, plus, space, lessMarks, lessAllMarks}
+use Rattle.boolean.specs.Code.{from, InHand, FoldedAs}
+use Rattle.boolean.specs.Code as code
+use Rattle.boolean.proofs.Kept.{less-fit}
+use Rattle.boolean.proofs.Space.{plus-none, plus-plus, space-enough, space-short}
+
+-- what holds of each trapezoid of a layer holds of number i
+pub all-record : (P : Trapezoid → Type 0) (s : List ℤ) (i : ℕ) → All P (layerOf s) → i < count trapezoidCodec s → P (recordAt trapezoidCodec s i)
+all-record P s i h l =
+    let n = count trapezoidCodec s in
+    let e : i + (n - i) ≡ n = omega (arith, l) in
+    let f : layerOf s ≡ recordsFrom trapezoidCodec i s 0 ++ recordsFrom trapezoidCodec (n - i) s (0 + i) = ap (λ (m : ℕ). recordsFrom trapezoidCodec m s 0) (sym e) ∙ from-append trapezoidCodec i (n - i) s 0 in
+    let z : 0 + i ≡ i = omega arith in
+    let r = all-right P (recordsFrom trapezoidCodec i s 0) (recordsFrom trapezoidCodec (n - i) s (0 + i)) (subst (All P) f h) in
+    subst (All P) (ap (recordsFrom trapezoidCodec (n - i) s) z ∙ from-step trapezoidCodec n s i l) r .0
+
+-- ---- one overlay for each trapezoid in hand, at most
+abbrev cutsIn : Space → ℕ
+cutsIn (enough c) = c
+cutsIn (short c) = c
+
+cuts-plus : (s : Space) → cutsIn (plus 1 s) ≡ 1 + cutsIn s
+cuts-plus (enough c) = refl
+cuts-plus (short c) = refl
+
+less-cuts : (room k : ℕ) (rs : List Trapezoid) (b : Trapezoid) → cutsIn (space room (lessMarks k rs b)) ≤ length rs
+unfolding space lessMarks
+less-cuts room k [] b = omega arith
+less-cuts room k (r ∷ rs) b =
+    let n = k + length (tagged 1 (overlay r b)) in
+    go (ltb room (n + length rs)) (space room (lessMarks n rs b)) (less-cuts room n rs b)
+  where
+    go : (t : Bool) (s : Space) → cutsIn s ≤ length rs → cutsIn (cond t (short 1) (plus 1 s)) ≤ suc (length rs)
+    go true s h = omega arith
+    go false s h = omega (arith, cuts-plus s, h)
+
+-- ---- the definitions, step by step
+all-none : (rs : List Trapezoid) → lessAll rs [] ≡ rs
+unfolding lessAll
+all-none rs = refl
+
+all-one : (rs bs : List Trapezoid) (b : Trapezoid) → lessAll rs (b ∷ bs) ≡ lessAll (less rs b) bs
+unfolding lessAll
+all-one rs bs b = refl
+
+all-marks-none : (room k : ℕ) (rs : List Trapezoid) → space room (lessAllMarks k rs []) ≡ enough 0
+unfolding lessAllMarks space
+all-marks-none room k rs = refl
+
+all-marks-one : (k : ℕ) (rs bs : List Trapezoid) (b : Trapezoid) → lessAllMarks k rs (b ∷ bs) ≡ lessMarks k rs b ++ lessAllMarks k (less rs b) bs
+unfolding lessAllMarks
+all-marks-one k rs bs b = refl
+
+-- ---- the loop
+module _ (W room : ℕ) (layer : List ℤ) (rs : List Trapezoid) where
+  -- k trapezoids are in hand, and `made` overlays have been made, before number i
+  pub record Reducing (out work : List ℤ) (k made i : ℕ) : Type 0 where
+    pub hand : InHand out k room
+    pub yields : lessAll rs (from layer 1) ≡ lessAll (code.held out k) (from layer i)
+    pub marks : space room (lessAllMarks 0 rs (from layer 1)) ≡ plus made (space room (lessAllMarks 0 (code.held out k) (from layer i)))
+    pub few : made ≤ maxRecords * (i - 1)
+    pub some : 1 ≤ i
+    pub upto : i ≤ count trapezoidCodec layer
+    pub fit : All (FitFor coordinateLimit) (from layer i)
+    pub blank : Blank (pos 0) work
+    pub same : length work ≡ length out
+    pub long : length out ≡ W
+
+  module _ (small : room ≤ maxRecords) (short-layer : count trapezoidCodec layer ≤ maxRecords) {out work : List ℤ} {k made i : ℕ} (h : Reducing out work k made i) where
+    pub reduce-stop : count trapezoidCodec layer ≤ i → FoldedAs W room (lessAll rs (from layer 1)) (lessAllMarks 0 rs (from layer 1)) (Done k made) out
+    reduce-stop l =
+        let e : from layer i ≡ [] = from-none trapezoidCodec (count trapezoidCodec layer) layer i l in
+        let y : lessAll rs (from layer 1) ≡ code.held out k = h .yields ∙ ap (lessAll (code.held out k)) e ∙ all-none (code.held out k) in
+        let n : length (code.held out k) ≡ k = length-from trapezoidCodec k out 0 in
+        let z : made + 0 ≡ made = omega arith in (
+          h .marks ∙ ap (λ (ts : List Trapezoid). plus made (space room (lessAllMarks 0 (code.held out k) ts))) e ∙ ap (plus made) (all-marks-none room 0 (code.held out k)) ∙ ap enough z,
+          rw y (sym n, omega (arith, n, h .hand .within), h .hand .is ∙ ap (λ (m : ℕ). image trapezoidCodec m (code.held out k)) (h .long)),
+        )
+
+    module _ (l : i < count trapezoidCodec layer) where
+      abbrev b : Trapezoid
+      b = recordAt trapezoidCodec layer i
+
+      step : from layer i ≡ recordAt trapezoidCodec layer i ∷ from layer (i + 1)
+      step = from-step trapezoidCodec (count trapezoidCodec layer) layer i l
+
+      unrolled : space room (lessAllMarks 0 rs (from layer 1)) ≡ plus made (space room (lessMarks 0 (code.held out k) b ++ lessAllMarks 0 (less (code.held out k) b) (from layer (i + 1))))
+      unrolled = h .marks ∙ ap (λ (ts : List Trapezoid). plus made (space room (lessAllMarks 0 (code.held out k) ts))) step ∙ ap (λ (ms : List Mark). plus made (space room ms)) (all-marks-one 0 (code.held out k) (from layer (i + 1)) b)
+
+      room-for : maxRecords * (i - 1) + maxRecords ≤ maxRecords * i
+      room-for = omega (arith, h .some)
+
+      cuts-few : (c : ℕ) → cutsIn (space room (lessMarks 0 (code.held out k) b)) ≡ c → c ≤ maxRecords
+      cuts-few c e = let n : length (code.held out k) ≡ k = length-from trapezoidCodec k out 0 in omega (arith, e, less-cuts room 0 (code.held out k) b, n, h .hand .within, small)
+
+      made-few : (c : ℕ) → c ≤ maxRecords → made + c ≤ maxRecords * i
+      made-few c m = omega (arith, h .few, room-for, m)
+
+      module _ (f : Folded) (t : List ℤ) (g : FoldedAs (length out) room (less (code.held out k) b) (lessMarks 0 (code.held out k) b) f t) where
+        pub reduce-short : (c : ℕ) → f ≡ Short c → (space room (lessAllMarks 0 rs (from layer 1)) ≡ short (made + c)) × (made + c ≤ maxRecords * i)
+        reduce-short c e =
+            let g = subst (λ (f : Folded). FoldedAs (length out) room (less (code.held out k) b) (lessMarks 0 (code.held out k) b) f t) e g in
+            (unrolled ∙ ap (plus made) (space-short room c (lessMarks 0 (code.held out k) b) (lessAllMarks 0 (less (code.held out k) b) (from layer (i + 1))) (g .0)), made-few c (cuts-few c (ap cutsIn (g .0))))
+
+        pub reduce-turn : (p c : ℕ) → f ≡ Done p c → (w : List ℤ) → Blank (pos 0) w → length w ≡ length work → length t ≡ length out → (Reducing t w p (made + c) (i + 1)) × (made + c ≤ maxRecords * i)
+        reduce-turn p c e w z n m =
+            let g = subst (λ (f : Folded). FoldedAs (length out) room (less (code.held out k) b) (lessMarks 0 (code.held out k) b) f t) e g in
+            let d : code.held t p ≡ less (code.held out k) b
+            = ap (λ (q : ℕ). recordsFrom trapezoidCodec q t 0) (g .1 .0) ∙ ap (λ (u : List ℤ). recordsFrom trapezoidCodec (length (less (code.held out k) b)) u 0) (g .1 .2)
+            ∙ image-records trapezoidCodec trapezoid-faithful (length out) (less (code.held out k) b) (all-of (λ (t : Trapezoid). Unit {0}) (λ t. tt) (less (code.held out k) b)) in
+            let r = made-few c (cuts-few c (ap cutsIn (g .0))) in
+            let fits = subst (All (FitFor coordinateLimit)) step (h .fit) in (
+              record {
+                hand = record {
+                  is = g .1 .2 ∙ (λ j. image trapezoidCodec (sym m j) (sym d j));
+                  fit = subst (All (FitFor coordinateLimit)) (sym d) (less-fit coordinateLimit (code.held out k) b (h .hand .fit) (fits .0));
+                  within = omega (arith, g .1 .0, g .1 .1);
+                  wide = omega (arith, m, h .hand .wide);
+                };
+                yields = h .yields ∙ ap (lessAll (code.held out k)) step ∙ all-one (code.held out k) (from layer (i + 1)) b ∙ ap (λ (ts : List Trapezoid). lessAll ts (from layer (i + 1))) (sym d);
+                marks = unrolled ∙ ap (plus made) (space-enough room c (lessMarks 0 (code.held out k) b) (lessAllMarks 0 (less (code.held out k) b) (from layer (i + 1))) (g .0))
+                    ∙ plus-plus made c (space room (lessAllMarks 0 (less (code.held out k) b) (from layer (i + 1))))
+                    ∙ ap (λ (ts : List Trapezoid). plus (made + c) (space room (lessAllMarks 0 ts (from layer (i + 1))))) (sym d);
+                few = omega (arith, r);
+                some = omega arith;
+                upto = omega (arith, l);
+                fit = fits .1;
+                blank = z;
+                same = n ∙ h .same ∙ sym m;
+                long = m ∙ h .long;
+              },
+              r,
+            )
+
+pub reduce-start : (room : ℕ) (layer out work : List ℤ) (k : ℕ) → InHand out k room → All (FitFor coordinateLimit) (layerOf layer) → 1 ≤ count trapezoidCodec layer → Blank (pos 0) work → length work ≡ length out
+    → Reducing (length out) room layer (code.held out k) out work k 0 1
+reduce-start room layer out work k h f l z n =
+    let e : layerOf layer ≡ recordAt trapezoidCodec layer 0 ∷ from layer 1 = sym (from-start trapezoidCodec (count trapezoidCodec layer) layer) ∙ from-step trapezoidCodec (count trapezoidCodec layer) layer 0 l in
+    record {
+      hand = h;
+      yields = refl;
+      marks = sym (plus-none (space room (lessAllMarks 0 (code.held out k) (from layer 1))));
+      few = omega arith;
+      some = omega arith;
+      upto = l;
+      fit = subst (All (FitFor coordinateLimit)) e f .1;
+      blank = z;
+      same = n;
+      long = refl;
+    }
+
+pub folded-of : (n room : ℕ) (ts : List Trapezoid) (x y : Trapezoid) (f : Folded) (t : List ℤ) → x ≡ y → FoldedAs n room (less ts x) (lessMarks 0 ts x) f t → FoldedAs n room (less ts y) (lessMarks 0 ts y) f t
+folded-of n room ts x y f t e g = subst (λ (z : Trapezoid). FoldedAs n room (less ts z) (lessMarks 0 ts z) f t) e g
+
+pub short-blank : (n room : ℕ) (ts : List Trapezoid) (ms : List Mark) (f : Folded) (t : List ℤ) (c : ℕ) → f ≡ Short c → FoldedAs n room ts ms f t → t ≡ replicate n (pos 0)
+short-blank n room ts ms f t c e g = subst (λ (f : Folded). FoldedAs n room ts ms f t) e g .1
