@@ -97,10 +97,7 @@ pub fn intersection_into(first: &[i32], second: &[i32], out: &mut [i32], room: u
         }
         i += 1;
     }
-    Folded::Done {
-        pieces: k,
-        cuts: cuts,
-    }
+    Folded::Done { pieces: k, cuts }
 }
 
 // The first n records of `out` are moved to `work`.
