@@ -18,8 +18,8 @@ use Rattle.geometry.specs.Trapezoids.{trapezoidCodec, layerOf}
 use Rattle.overlay.specs.declared.Fill.{Fill}
 use Rattle.overlay.specs.declared.Fill.the-variants.{NoRoom, Written}
 use Rattle.overlay.specs.Overlay.{overlay, tagged}
-use Rattle.overlay.specs.Code.{Lent, FilledAs}
-use Rattle.overlay.proofs.Writing.{tail, Writing, write-start, write-stop, write-lent, write-upto, write-turn}
+use Rattle.overlay.specs.Code.{Borrowed, FilledAs}
+use Rattle.overlay.proofs.Writing.{tail, Writing, write-start, write-stop, write-borrowed, write-upto, write-turn}
 use Rattle.boolean.specs.declared.Folded.the-variants.{Done}
 use Rattle.boolean.specs.Operations.{common}
 use Rattle.boolean.specs.Space.{enough, short, plus, space, commonMarks}
@@ -62,7 +62,7 @@ pub record Commoning (W room : ℕ) (a : Trapezoid) (layer : List ℤ) (out : Li
   pub upto : i ≤ count trapezoidCodec layer
   pub fit : All (FitFor coordinateLimit) (from layer i)
 
-pub common-start : (room : ℕ) (a : Trapezoid) (layer : List ℤ) (d : List ℤ) → Lent d room → All (FitFor coordinateLimit) (layerOf layer) → Commoning (length d) room a layer d 0 0
+pub common-start : (room : ℕ) (a : Trapezoid) (layer : List ℤ) (d : List ℤ) → Borrowed d room → All (FitFor coordinateLimit) (layerOf layer) → Commoning (length d) room a layer d 0 0
 common-start room a layer d h f =
     let e : layerOf layer ≡ from layer 0 = sym (from-start trapezoidCodec (count trapezoidCodec layer) layer) in
     record {
@@ -79,8 +79,8 @@ module _ {W room : ℕ} {a : Trapezoid} {layer : List ℤ} {out : List ℤ} {k i
       let n : i + 0 ≡ count trapezoidCodec layer = omega (arith, h .upto, l) in
       (h .marks ∙ ap (λ (ts : List Trapezoid). plus i (space room (commonMarks k a ts))) e ∙ ap (plus i) (marks-none room k a) ∙ ap enough n, write-stop (h .writing) (ap (common a) e ∙ common-none a))
 
-  pub common-lent : Lent (tail out k) (room - k)
-  common-lent = write-lent (h .writing)
+  pub common-borrowed : Borrowed (tail out k) (room - k)
+  common-borrowed = write-borrowed (h .writing)
 
   module _ (l : i < count trapezoidCodec layer) where
     step : from layer i ≡ recordAt trapezoidCodec layer i ∷ from layer (i + 1)

@@ -19,8 +19,8 @@ use Rattle.geometry.specs.Fitness.{FitFor}
 use Rattle.geometry.specs.Trapezoids.{trapezoidCodec, layerOf}
 use Rattle.overlay.specs.declared.Fill.the-variants.{Written}
 use Rattle.overlay.specs.Overlay.{overlay, tagged}
-use Rattle.overlay.specs.Code.{Lent}
-use Rattle.overlay.proofs.Writing.{tail, Writing, write-start, write-stop, write-lent, write-upto, write-turn}
+use Rattle.overlay.specs.Code.{Borrowed}
+use Rattle.overlay.proofs.Writing.{tail, Writing, write-start, write-stop, write-borrowed, write-upto, write-turn}
 use Rattle.boolean.specs.declared.Folded.{Folded}
 use Rattle.boolean.specs.declared.Folded.the-variants.{Short, Done}
 use Rattle.boolean.specs.Operations.{common, intersection}
@@ -89,14 +89,14 @@ made-upto room k a (b ∷ bs) =
     omega (arith, u)
 
 -- ---- the loop
-pub record Intersecting (W room : ℕ) (first : List ℤ) (B : List Trapezoid) (out : List ℤ) (k cuts i : ℕ) : Type 0 where
+pub record Intersecting (W room : ℕ) (first : List ℤ) (B : List Trapezoid) (out : List ℤ) (k overlays i : ℕ) : Type 0 where
   pub writing : Writing W room (intersection (layerOf first) B) (intersection (from first i) B) out k
-  pub marks : space room (intersectionMarks 0 (layerOf first) B) ≡ plus cuts (space room (intersectionMarks k (from first i) B))
-  pub few : cuts ≤ 512 * i
+  pub marks : space room (intersectionMarks 0 (layerOf first) B) ≡ plus overlays (space room (intersectionMarks k (from first i) B))
+  pub few : overlays ≤ 512 * i
   pub upto : i ≤ count trapezoidCodec first
   pub fit : All (FitFor coordinateLimit) (from first i)
 
-pub intersection-start : (room : ℕ) (first : List ℤ) (B : List Trapezoid) (d : List ℤ) → Lent d room → All (FitFor coordinateLimit) (layerOf first) → Intersecting (length d) room first B d 0 0 0
+pub intersection-start : (room : ℕ) (first : List ℤ) (B : List Trapezoid) (d : List ℤ) → Borrowed d room → All (FitFor coordinateLimit) (layerOf first) → Intersecting (length d) room first B d 0 0 0
 intersection-start room first B d h f =
     let e : layerOf first ≡ from first 0 = sym (from-start trapezoidCodec (count trapezoidCodec first) first) in
     record {
@@ -107,15 +107,15 @@ intersection-start room first B d h f =
       fit = subst (All (FitFor coordinateLimit)) e f;
     }
 
-module _ {W room : ℕ} {first : List ℤ} {B : List Trapezoid} {out : List ℤ} {k cuts i : ℕ} (h : Intersecting W room first B out k cuts i) where
-  pub intersection-stop : count trapezoidCodec first ≤ i → FoldedAs W room (intersection (layerOf first) B) (intersectionMarks 0 (layerOf first) B) (Done k cuts) out
+module _ {W room : ℕ} {first : List ℤ} {B : List Trapezoid} {out : List ℤ} {k overlays i : ℕ} (h : Intersecting W room first B out k overlays i) where
+  pub intersection-stop : count trapezoidCodec first ≤ i → FoldedAs W room (intersection (layerOf first) B) (intersectionMarks 0 (layerOf first) B) (Done k overlays) out
   intersection-stop l =
       let e : from first i ≡ [] = from-none trapezoidCodec (count trapezoidCodec first) first i l in
-      let n : cuts + 0 ≡ cuts = omega arith in
-      (h .marks ∙ ap (λ (ts : List Trapezoid). plus cuts (space room (intersectionMarks k ts B))) e ∙ ap (plus cuts) (all-marks-none room k B) ∙ ap enough n, write-stop (h .writing) (ap (λ (ts : List Trapezoid). intersection ts B) e ∙ intersection-none B))
+      let n : overlays + 0 ≡ overlays = omega arith in
+      (h .marks ∙ ap (λ (ts : List Trapezoid). plus overlays (space room (intersectionMarks k ts B))) e ∙ ap (plus overlays) (all-marks-none room k B) ∙ ap enough n, write-stop (h .writing) (ap (λ (ts : List Trapezoid). intersection ts B) e ∙ intersection-none B))
 
-  pub intersection-lent : Lent (tail out k) (room - k)
-  intersection-lent = write-lent (h .writing)
+  pub intersection-borrowed : Borrowed (tail out k) (room - k)
+  intersection-borrowed = write-borrowed (h .writing)
 
   module _ (l : i < count trapezoidCodec first) where
     abbrev here : Trapezoid
@@ -127,8 +127,8 @@ module _ {W room : ℕ} {first : List ℤ} {B : List Trapezoid} {out : List ℤ}
     turn : intersection (from first i) B ≡ common here B ++ intersection (from first (i + 1)) B
     turn = ap (λ (ts : List Trapezoid). intersection ts B) step ∙ intersection-one here (from first (i + 1)) B
 
-    marks-step : space room (intersectionMarks 0 (layerOf first) B) ≡ plus cuts (space room (commonMarks k here B ++ intersectionMarks (k + length (common here B)) (from first (i + 1)) B))
-    marks-step = h .marks ∙ ap (λ (ts : List Trapezoid). plus cuts (space room (intersectionMarks k ts B))) step ∙ ap (λ (ms : List Mark). plus cuts (space room ms)) (all-marks-one k here (from first (i + 1)) B)
+    marks-step : space room (intersectionMarks 0 (layerOf first) B) ≡ plus overlays (space room (commonMarks k here B ++ intersectionMarks (k + length (common here B)) (from first (i + 1)) B))
+    marks-step = h .marks ∙ ap (λ (ts : List Trapezoid). plus overlays (space room (intersectionMarks k ts B))) step ∙ ap (λ (ms : List Mark). plus overlays (space room ms)) (all-marks-one k here (from first (i + 1)) B)
 
     moved : space room (commonMarks k here B) ≡ space (room - k) (commonMarks 0 here B)
     moved = room-shift room k here B (h .writing .upto)
@@ -143,9 +143,9 @@ module _ {W room : ℕ} {first : List ℤ} {B : List Trapezoid} {out : List ℤ}
       done-of : (m c : ℕ) → f ≡ Done m c → FoldedAs (length (tail out k)) (room - k) (common here B) (commonMarks 0 here B) (Done m c) t
       done-of m c e = subst (λ (f : Folded). FoldedAs (length (tail out k)) (room - k) (common here B) (commonMarks 0 here B) f t) e g
 
-      pub intersection-short : (c : ℕ) → f ≡ Short c → space room (intersectionMarks 0 (layerOf first) B) ≡ short (cuts + c)
+      pub intersection-short : (c : ℕ) → f ≡ Short c → space room (intersectionMarks 0 (layerOf first) B) ≡ short (overlays + c)
       intersection-short c e =
-          marks-step ∙ ap (plus cuts) (space-short room c (commonMarks k here B) (intersectionMarks (k + length (common here B)) (from first (i + 1)) B) (moved ∙ short-of c e .0))
+          marks-step ∙ ap (plus overlays) (space-short room c (commonMarks k here B) (intersectionMarks (k + length (common here B)) (from first (i + 1)) B) (moved ∙ short-of c e .0))
 
       pub short-few : (c : ℕ) → f ≡ Short c → c ≤ length B
       short-few c e =
@@ -162,7 +162,7 @@ module _ {W room : ℕ} {first : List ℤ} {B : List Trapezoid} {out : List ℤ}
       pub intersection-upto : (m c : ℕ) → f ≡ Done m c → k + m ≤ room
       intersection-upto m c e = write-upto (h .writing) (common here B) (intersection (from first (i + 1)) B) turn (Written m) t (done-of m c e .1) m refl
 
-      pub intersection-turn : length B ≤ 512 → (m c : ℕ) → f ≡ Done m c → Intersecting W room first B (putMid (memoryWidth * k) (length out - memoryWidth * k) out t) (k + m) (cuts + c) (i + 1)
+      pub intersection-turn : length B ≤ 512 → (m c : ℕ) → f ≡ Done m c → Intersecting W room first B (putMid (memoryWidth * k) (length out - memoryWidth * k) out t) (k + m) (overlays + c) (i + 1)
       intersection-turn b m c e =
           let g′ = done-of m c e in
           let u = done-few m c e in
@@ -170,7 +170,7 @@ module _ {W room : ℕ} {first : List ℤ} {B : List Trapezoid} {out : List ℤ}
           let s = space-enough room c (commonMarks k here B) (intersectionMarks (k + length (common here B)) (from first (i + 1)) B) (moved ∙ g′ .0) in
           record {
             writing = write-turn (h .writing) (common here B) (intersection (from first (i + 1)) B) turn (Written m) t (g′ .1) m refl;
-            marks = marks-step ∙ ap (plus cuts) s ∙ plus-plus cuts c (space room (intersectionMarks (k + length (common here B)) (from first (i + 1)) B)) ∙ ap (λ (x : ℕ). plus (cuts + c) (space room (intersectionMarks x (from first (i + 1)) B))) w;
+            marks = marks-step ∙ ap (plus overlays) s ∙ plus-plus overlays c (space room (intersectionMarks (k + length (common here B)) (from first (i + 1)) B)) ∙ ap (λ (x : ℕ). plus (overlays + c) (space room (intersectionMarks x (from first (i + 1)) B))) w;
             few = omega (arith, h .few, u, b);
             upto = omega (arith, l);
             fit = subst (All (FitFor coordinateLimit)) step (h .fit) .1;

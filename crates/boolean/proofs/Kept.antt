@@ -11,8 +11,8 @@ use Rattle.geometry.specs.Trapezoids.{linesOf}
 use Rattle.geometry.specs.Fitness.{FitFor}
 use Rattle.overlay.specs.Overlay.{overlay, tagged}
 use Rattle.overlay.proofs.Tagged.{tagged-fit, tagged-lines}
-use Rattle.boolean.specs.Operations.{Code, union, intersect, first-less-second, second-less-first, either-not-both, less, lessAll, difference, common, intersection, result, disjointedFrom, disjointed}
-use Rattle.boolean.specs.Statements.{ResultFit, ResultLines, LineOf, LinesFrom, DisjointedFit, DisjointedLines}
+use Rattle.boolean.specs.Operations.{Code, union, intersect, first-less-second, second-less-first, either-not-both, less, lessAll, difference, common, intersection, result, deoverlappedFrom, deoverlapped}
+use Rattle.boolean.specs.Statements.{ResultFit, ResultLines, LineOf, LinesFrom, DeoverlappedFit, DeoverlappedLines}
 
 module _ (R : Trapezoid → Type 0) (keeps : (n : ℕ) (a b : Trapezoid) → R a → R b → All R (tagged n (overlay a b))) where
   pub less-kept : (rs : List Trapezoid) (b : Trapezoid) → All R rs → R b → All R (less rs b)
@@ -47,11 +47,11 @@ module _ (R : Trapezoid → Type 0) (keeps : (n : ℕ) (a b : Trapezoid) → R a
   result-kept second-less-first A B h k = difference-kept B A k h
   result-kept either-not-both A B h k = all-append R (difference A B) (difference B A) (difference-kept A B h k) (difference-kept B A k h)
 
-  pub disjointedFrom-kept : (done A : List Trapezoid) → All R done → All R A → All R (disjointedFrom done A)
-  unfolding disjointedFrom
-  disjointedFrom-kept done [] h k = h
-  disjointedFrom-kept done (a ∷ A) h k =
-      disjointedFrom-kept (done ++ lessAll (a ∷ []) done) A (all-append R done (lessAll (a ∷ []) done) h (lessAll-kept (a ∷ []) done (k .0, tt) h)) (k .1)
+  pub deoverlappedFrom-kept : (done A : List Trapezoid) → All R done → All R A → All R (deoverlappedFrom done A)
+  unfolding deoverlappedFrom
+  deoverlappedFrom-kept done [] h k = h
+  deoverlappedFrom-kept done (a ∷ A) h k =
+      deoverlappedFrom-kept (done ++ lessAll (a ∷ []) done) A (all-append R done (lessAll (a ∷ []) done) h (lessAll-kept (a ∷ []) done (k .0, tt) h)) (k .1)
 
 -- ---- fit
 module _ (L : ℕ) where
@@ -70,8 +70,8 @@ module _ (L : ℕ) where
 pub result-fit : ResultFit
 result-fit L A B hA hB c = result-kept (FitFor L) (keeps-fit L) c A B hA hB
 
-pub disjointed-fit : DisjointedFit
-disjointed-fit L A hA = disjointedFrom-kept (FitFor L) (keeps-fit L) [] A tt hA
+pub deoverlapped-fit : DeoverlappedFit
+deoverlapped-fit L A hA = deoverlappedFrom-kept (FitFor L) (keeps-fit L) [] A tt hA
 
 -- ---- lines
 -- fit, with lines that have Q
@@ -104,7 +104,7 @@ result-lines L A B hA hB c =
     (all-both (FitFor L) (HasLines (A ++ B)) A hA (all-left (HasLines (A ++ B)) A B (own-lines (A ++ B))))
     (all-both (FitFor L) (HasLines (A ++ B)) B hB (all-right (HasLines (A ++ B)) A B (own-lines (A ++ B)))))
 
-pub disjointed-lines : DisjointedLines
-disjointed-lines L A hA =
-    all-map (λ t h. h .1) (disjointed A)
-    (disjointedFrom-kept (FitWith L (LineOf A)) (keeps-lines L (LineOf A)) [] A tt (all-both (FitFor L) (HasLines A) A hA (own-lines A)))
+pub deoverlapped-lines : DeoverlappedLines
+deoverlapped-lines L A hA =
+    all-map (λ t h. h .1) (deoverlapped A)
+    (deoverlappedFrom-kept (FitWith L (LineOf A)) (keeps-lines L (LineOf A)) [] A tt (all-both (FitFor L) (HasLines A) A hA (own-lines A)))

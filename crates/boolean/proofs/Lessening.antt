@@ -19,8 +19,8 @@ use Rattle.overlay.specs.declared.Fill.{Fill}
 use Rattle.overlay.specs.declared.Fill.the-variants.{NoRoom, Written}
 use Rattle.overlay.specs.Overlay.{overlay, tagged}
 use Rattle.overlay.specs.declared.Placed.{Placed}
-use Rattle.overlay.specs.Code.{PlacedAs, Lent, FilledAs}
-use Rattle.overlay.proofs.Writing.{tail, Writing, write-start, write-stop, write-lent, write-turn}
+use Rattle.overlay.specs.Code.{PlacedAs, Borrowed, FilledAs}
+use Rattle.overlay.proofs.Writing.{tail, Writing, write-start, write-stop, write-borrowed, write-turn}
 use Rattle.boolean.specs.declared.Folded.the-variants.{Done}
 use Rattle.boolean.specs.Operations.{less}
 use Rattle.boolean.specs.Space.{enough, short, plus, space, lessMarks}
@@ -55,72 +55,72 @@ module _ (room k : ℕ) (r b : Trapezoid) (rs : List Trapezoid) where
 
 -- ---- the loop
 -- less room is room still
-pub lent-less : (d : List ℤ) (room free : ℕ) → free ≤ room → Lent d room → Lent d free
-lent-less d room free l h = record { blank = h .blank; wide = omega (arith, h .wide, l) }
+pub borrowed-less : (d : List ℤ) (room free : ℕ) → free ≤ room → Borrowed d room → Borrowed d free
+borrowed-less d room free l h = record { blank = h .blank; wide = omega (arith, h .wide, l) }
 
 abbrev pub parts : List ℤ → Trapezoid → ℕ → List Trapezoid
-parts hand b i = tagged 1 (overlay (recordAt trapezoidCodec hand i) b)
+parts remainder b i = tagged 1 (overlay (recordAt trapezoidCodec remainder i) b)
 
-pub record Lessening (W room : ℕ) (hand : List ℤ) (b : Trapezoid) (out : List ℤ) (k i : ℕ) : Type 0 where
-  pub writing : Writing W room (less (layerOf hand) b) (less (from hand i) b) out k
-  pub marks : space room (lessMarks 0 (layerOf hand) b) ≡ plus i (space room (lessMarks k (from hand i) b))
-  pub room-left : k + (count trapezoidCodec hand - i) ≤ room + 1
-  pub upto : i ≤ count trapezoidCodec hand
-  pub fit : All (FitFor coordinateLimit) (from hand i)
+pub record Lessening (W room : ℕ) (remainder : List ℤ) (b : Trapezoid) (out : List ℤ) (k i : ℕ) : Type 0 where
+  pub writing : Writing W room (less (layerOf remainder) b) (less (from remainder i) b) out k
+  pub marks : space room (lessMarks 0 (layerOf remainder) b) ≡ plus i (space room (lessMarks k (from remainder i) b))
+  pub room-left : k + (count trapezoidCodec remainder - i) ≤ room + 1
+  pub upto : i ≤ count trapezoidCodec remainder
+  pub fit : All (FitFor coordinateLimit) (from remainder i)
 
-pub less-start : (room : ℕ) (hand : List ℤ) (b : Trapezoid) (d : List ℤ) → Lent d room → count trapezoidCodec hand ≤ room + 1 → All (FitFor coordinateLimit) (layerOf hand) → Lessening (length d) room hand b d 0 0
-less-start room hand b d h l f =
-    let e : layerOf hand ≡ from hand 0 = sym (from-start trapezoidCodec (count trapezoidCodec hand) hand) in
+pub less-start : (room : ℕ) (remainder : List ℤ) (b : Trapezoid) (d : List ℤ) → Borrowed d room → count trapezoidCodec remainder ≤ room + 1 → All (FitFor coordinateLimit) (layerOf remainder) → Lessening (length d) room remainder b d 0 0
+less-start room remainder b d h l f =
+    let e : layerOf remainder ≡ from remainder 0 = sym (from-start trapezoidCodec (count trapezoidCodec remainder) remainder) in
     record {
-      writing = subst (λ (ts : List Trapezoid). Writing (length d) room (less (layerOf hand) b) (less ts b) d 0) e (write-start (less (layerOf hand) b) d room h);
-      marks = ap (λ (ts : List Trapezoid). space room (lessMarks 0 ts b)) e ∙ sym (plus-none (space room (lessMarks 0 (from hand 0) b)));
+      writing = subst (λ (ts : List Trapezoid). Writing (length d) room (less (layerOf remainder) b) (less ts b) d 0) e (write-start (less (layerOf remainder) b) d room h);
+      marks = ap (λ (ts : List Trapezoid). space room (lessMarks 0 ts b)) e ∙ sym (plus-none (space room (lessMarks 0 (from remainder 0) b)));
       room-left = omega (arith, l);
       upto = omega arith;
       fit = subst (All (FitFor coordinateLimit)) e f;
     }
 
-module _ {W room : ℕ} {hand : List ℤ} {b : Trapezoid} {out : List ℤ} {k i : ℕ} (h : Lessening W room hand b out k i) where
-  pub less-stop : count trapezoidCodec hand ≤ i → FoldedAs W room (less (layerOf hand) b) (lessMarks 0 (layerOf hand) b) (Done k (count trapezoidCodec hand)) out
+module _ {W room : ℕ} {remainder : List ℤ} {b : Trapezoid} {out : List ℤ} {k i : ℕ} (h : Lessening W room remainder b out k i) where
+  pub less-stop : count trapezoidCodec remainder ≤ i → FoldedAs W room (less (layerOf remainder) b) (lessMarks 0 (layerOf remainder) b) (Done k (count trapezoidCodec remainder)) out
   less-stop l =
-      let e : from hand i ≡ [] = from-none trapezoidCodec (count trapezoidCodec hand) hand i l in
-      let n : i + 0 ≡ count trapezoidCodec hand = omega (arith, h .upto, l) in
+      let e : from remainder i ≡ [] = from-none trapezoidCodec (count trapezoidCodec remainder) remainder i l in
+      let n : i + 0 ≡ count trapezoidCodec remainder = omega (arith, h .upto, l) in
       (h .marks ∙ ap (λ (ts : List Trapezoid). plus i (space room (lessMarks k ts b))) e ∙ ap (plus i) (marks-none room k b) ∙ ap enough n, write-stop (h .writing) (ap (λ (ts : List Trapezoid). less ts b) e ∙ less-none b))
 
-  module _ (l : i < count trapezoidCodec hand) where
-    step : from hand i ≡ recordAt trapezoidCodec hand i ∷ from hand (i + 1)
-    step = from-step trapezoidCodec (count trapezoidCodec hand) hand i l
+  module _ (l : i < count trapezoidCodec remainder) where
+    step : from remainder i ≡ recordAt trapezoidCodec remainder i ∷ from remainder (i + 1)
+    step = from-step trapezoidCodec (count trapezoidCodec remainder) remainder i l
 
-    pub less-fit : FitFor coordinateLimit (recordAt trapezoidCodec hand i)
+    pub less-fit : FitFor coordinateLimit (recordAt trapezoidCodec remainder i)
     less-fit = subst (All (FitFor coordinateLimit)) step (h .fit) .0
 
     abbrev free : ℕ
-    free = room - k - (count trapezoidCodec hand - i - 1)
+    free = room - k - (count trapezoidCodec remainder - i - 1)
 
-    pub less-lent : Lent (tail out k) (room - k - (count trapezoidCodec hand - i - 1))
-    less-lent = lent-less (tail out k) (room - k) free (omega arith) (write-lent (h .writing))
+    pub less-borrowed : Borrowed (tail out k) (room - k - (count trapezoidCodec remainder - i - 1))
+    less-borrowed = borrowed-less (tail out k) (room - k) free (omega arith) (write-borrowed (h .writing))
 
-    module _ (f : Fill) (t : List ℤ) (g : FilledAs (length (tail out k)) (room - k - (count trapezoidCodec hand - i - 1)) (parts hand b i) f t) where
-      pub less-short : f ≡ NoRoom → space room (lessMarks 0 (layerOf hand) b) ≡ short (i + 1)
+    module _ (f : Fill) (t : List ℤ) (g : FilledAs (length (tail out k)) (room - k - (count trapezoidCodec remainder - i - 1)) (parts remainder b i) f t) where
+      pub less-short : f ≡ NoRoom → space room (lessMarks 0 (layerOf remainder) b) ≡ short (i + 1)
       less-short e =
-          let g = subst (λ (f : Fill). FilledAs (length (tail out k)) free (parts hand b i) f t) e g in
-          let n = length-from trapezoidCodec (count trapezoidCodec hand - (i + 1)) hand (i + 1) in
-          h .marks ∙ ap (λ (ts : List Trapezoid). plus i (space room (lessMarks k ts b))) step ∙ ap (plus i) (marks-over room k (recordAt trapezoidCodec hand i) b (from hand (i + 1)) (omega (arith, g .0, n, l)))
+          let g = subst (λ (f : Fill). FilledAs (length (tail out k)) free (parts remainder b i) f t) e g in
+          let n = length-from trapezoidCodec (count trapezoidCodec remainder - (i + 1)) remainder (i + 1) in
+          h .marks ∙ ap (λ (ts : List Trapezoid). plus i (space room (lessMarks k ts b))) step ∙ ap (plus i) (marks-over room k (recordAt trapezoidCodec remainder i) b (from remainder (i + 1)) (omega (arith, g .0, n, l)))
 
       pub less-upto : (m : ℕ) → f ≡ Written m → k + m ≤ room
       less-upto m e =
-          let g = subst (λ (f : Fill). FilledAs (length (tail out k)) free (parts hand b i) f t) e g in
+          let g = subst (λ (f : Fill). FilledAs (length (tail out k)) free (parts remainder b i) f t) e g in
           omega (arith, g .0, g .1, h .writing .upto)
 
-      pub less-turn : (m : ℕ) → f ≡ Written m → Lessening W room hand b (putMid (memoryWidth * k) (length out - memoryWidth * k) out t) (k + m) (i + 1)
+      pub less-turn : (m : ℕ) → f ≡ Written m → Lessening W room remainder b (putMid (memoryWidth * k) (length out - memoryWidth * k) out t) (k + m) (i + 1)
       less-turn m e =
-          let g = subst (λ (f : Fill). FilledAs (length (tail out k)) free (parts hand b i) f t) e g in
-          let n = length-from trapezoidCodec (count trapezoidCodec hand - (i + 1)) hand (i + 1) in
-          let u : k + m + (count trapezoidCodec hand - (i + 1)) ≤ room = omega (arith, g .0, g .1, h .room-left, l) in
-          let c : k + length (parts hand b i) ≡ k + m = omega (arith, g .0) in
-          let s = marks-next room k (recordAt trapezoidCodec hand i) b (from hand (i + 1)) (omega (arith, c, n, u)) in
+          let g = subst (λ (f : Fill). FilledAs (length (tail out k)) free (parts remainder b i) f t) e g in
+          let n = length-from trapezoidCodec (count trapezoidCodec remainder - (i + 1)) remainder (i + 1) in
+          let u : k + m + (count trapezoidCodec remainder - (i + 1)) ≤ room = omega (arith, g .0, g .1, h .room-left, l) in
+          let c : k + length (parts remainder b i) ≡ k + m = omega (arith, g .0) in
+          let s = marks-next room k (recordAt trapezoidCodec remainder i) b (from remainder (i + 1)) (omega (arith, c, n, u)) in
           record {
-            writing = write-turn (h .writing) (parts hand b i) (less (from hand (i + 1)) b) (ap (λ (ts : List Trapezoid). less ts b) step ∙ less-one (recordAt trapezoidCodec hand i) b (from hand (i + 1))) (Written m) t (g .0, omega (arith, g .0, g .1), g .2) m refl;
-            marks = h .marks ∙ ap (λ (ts : List Trapezoid). plus i (space room (lessMarks k ts b))) step ∙ ap (plus i) s ∙ plus-plus i 1 (space room (lessMarks (k + length (parts hand b i)) (from hand (i + 1)) b)) ∙ ap (λ (x : ℕ). plus (i + 1) (space room (lessMarks x (from hand (i + 1)) b))) c;
+            writing = write-turn (h .writing) (parts remainder b i) (less (from remainder (i + 1)) b) (ap (λ (ts : List Trapezoid). less ts b) step ∙ less-one (recordAt trapezoidCodec remainder i) b (from remainder (i + 1))) (Written m) t (g .0, omega (arith, g .0, g .1), g .2) m refl;
+            marks = h .marks ∙ ap (λ (ts : List Trapezoid). plus i (space room (lessMarks k ts b))) step ∙ ap (plus i) s ∙ plus-plus i 1 (space room (lessMarks (k + length (parts remainder b i)) (from remainder (i + 1)) b)) ∙ ap (λ (x : ℕ). plus (i + 1) (space room (lessMarks x (from remainder (i + 1)) b))) c;
             room-left = omega (arith, u);
             upto = omega (arith, l);
             fit = subst (All (FitFor coordinateLimit)) step (h .fit) .1;

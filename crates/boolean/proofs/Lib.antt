@@ -3,11 +3,11 @@ pub mod Kept
 pub mod Difference
 pub mod Intersection
 pub mod Results
-pub mod Disjointing
-pub mod Sameness
+pub mod Deoverlapping
+pub mod Equality
 pub mod Space
 pub mod Lessening
-pub mod Handing
+pub mod Moving
 pub mod Reducing
 pub mod Commoning
 pub mod Intersecting

@@ -23,7 +23,7 @@ use Rattle.boolean.specs.declared.Folded.{Folded}
 use Rattle.boolean.specs.declared.Folded.the-variants.{Short, Done}
 use Rattle.boolean.specs.Operations.{less, lessAll}
 use Rattle.boolean.specs.Space.{Space, Mark, held, enough, short, plus, space, lessMarks, lessAllMarks}
-use Rattle.boolean.specs.Code.{from, InHand, FoldedAs}
+use Rattle.boolean.specs.Code.{from, Remaining, FoldedAs}
 use Rattle.boolean.specs.Code as code
 use Rattle.boolean.proofs.Kept.{less-fit}
 use Rattle.boolean.proofs.Space.{plus-none, plus-plus, space-enough, space-short}
@@ -39,24 +39,24 @@ all-record P s i h l =
     subst (All P) (ap (recordsFrom trapezoidCodec (n - i) s) z ∙ from-step trapezoidCodec n s i l) r .0
 
 -- ---- one overlay for each trapezoid in hand, at most
-abbrev cutsIn : Space → ℕ
-cutsIn (enough c) = c
-cutsIn (short c) = c
+abbrev overlaysIn : Space → ℕ
+overlaysIn (enough c) = c
+overlaysIn (short c) = c
 
-cuts-plus : (s : Space) → cutsIn (plus 1 s) ≡ 1 + cutsIn s
-cuts-plus (enough c) = refl
-cuts-plus (short c) = refl
+overlays-plus : (s : Space) → overlaysIn (plus 1 s) ≡ 1 + overlaysIn s
+overlays-plus (enough c) = refl
+overlays-plus (short c) = refl
 
-less-cuts : (room k : ℕ) (rs : List Trapezoid) (b : Trapezoid) → cutsIn (space room (lessMarks k rs b)) ≤ length rs
+less-overlays : (room k : ℕ) (rs : List Trapezoid) (b : Trapezoid) → overlaysIn (space room (lessMarks k rs b)) ≤ length rs
 unfolding space lessMarks
-less-cuts room k [] b = omega arith
-less-cuts room k (r ∷ rs) b =
+less-overlays room k [] b = omega arith
+less-overlays room k (r ∷ rs) b =
     let n = k + length (tagged 1 (overlay r b)) in
-    go (ltb room (n + length rs)) (space room (lessMarks n rs b)) (less-cuts room n rs b)
+    go (ltb room (n + length rs)) (space room (lessMarks n rs b)) (less-overlays room n rs b)
   where
-    go : (t : Bool) (s : Space) → cutsIn s ≤ length rs → cutsIn (cond t (short 1) (plus 1 s)) ≤ suc (length rs)
+    go : (t : Bool) (s : Space) → overlaysIn s ≤ length rs → overlaysIn (cond t (short 1) (plus 1 s)) ≤ suc (length rs)
     go true s h = omega arith
-    go false s h = omega (arith, cuts-plus s, h)
+    go false s h = omega (arith, overlays-plus s, h)
 
 -- ---- the definitions, step by step
 all-none : (rs : List Trapezoid) → lessAll rs [] ≡ rs
@@ -78,19 +78,19 @@ all-marks-one k rs bs b = refl
 -- ---- the loop
 module _ (W room : ℕ) (layer : List ℤ) (rs : List Trapezoid) where
   -- k trapezoids are in hand, and `made` overlays have been made, before number i
-  pub record Reducing (out work : List ℤ) (k made i : ℕ) : Type 0 where
-    pub hand : InHand out k room
+  pub record Reducing (out scratch : List ℤ) (k made i : ℕ) : Type 0 where
+    pub remainder : Remaining out k room
     pub yields : lessAll rs (from layer 1) ≡ lessAll (code.held out k) (from layer i)
     pub marks : space room (lessAllMarks 0 rs (from layer 1)) ≡ plus made (space room (lessAllMarks 0 (code.held out k) (from layer i)))
     pub few : made ≤ maxRecords * (i - 1)
     pub some : 1 ≤ i
     pub upto : i ≤ count trapezoidCodec layer
     pub fit : All (FitFor coordinateLimit) (from layer i)
-    pub blank : Blank (pos 0) work
-    pub same : length work ≡ length out
+    pub blank : Blank (pos 0) scratch
+    pub same : length scratch ≡ length out
     pub long : length out ≡ W
 
-  module _ (small : room ≤ maxRecords) (short-layer : count trapezoidCodec layer ≤ maxRecords) {out work : List ℤ} {k made i : ℕ} (h : Reducing out work k made i) where
+  module _ (small : room ≤ maxRecords) (short-layer : count trapezoidCodec layer ≤ maxRecords) {out scratch : List ℤ} {k made i : ℕ} (h : Reducing out scratch k made i) where
     pub reduce-stop : count trapezoidCodec layer ≤ i → FoldedAs W room (lessAll rs (from layer 1)) (lessAllMarks 0 rs (from layer 1)) (Done k made) out
     reduce-stop l =
         let e : from layer i ≡ [] = from-none trapezoidCodec (count trapezoidCodec layer) layer i l in
@@ -98,7 +98,7 @@ module _ (W room : ℕ) (layer : List ℤ) (rs : List Trapezoid) where
         let n : length (code.held out k) ≡ k = length-from trapezoidCodec k out 0 in
         let z : made + 0 ≡ made = omega arith in (
           h .marks ∙ ap (λ (ts : List Trapezoid). plus made (space room (lessAllMarks 0 (code.held out k) ts))) e ∙ ap (plus made) (all-marks-none room 0 (code.held out k)) ∙ ap enough z,
-          rw y (sym n, omega (arith, n, h .hand .within), h .hand .is ∙ ap (λ (m : ℕ). image trapezoidCodec m (code.held out k)) (h .long)),
+          rw y (sym n, omega (arith, n, h .remainder .within), h .remainder .is ∙ ap (λ (m : ℕ). image trapezoidCodec m (code.held out k)) (h .long)),
         )
 
     module _ (l : i < count trapezoidCodec layer) where
@@ -114,8 +114,8 @@ module _ (W room : ℕ) (layer : List ℤ) (rs : List Trapezoid) where
       room-for : maxRecords * (i - 1) + maxRecords ≤ maxRecords * i
       room-for = omega (arith, h .some)
 
-      cuts-few : (c : ℕ) → cutsIn (space room (lessMarks 0 (code.held out k) b)) ≡ c → c ≤ maxRecords
-      cuts-few c e = let n : length (code.held out k) ≡ k = length-from trapezoidCodec k out 0 in omega (arith, e, less-cuts room 0 (code.held out k) b, n, h .hand .within, small)
+      overlays-few : (c : ℕ) → overlaysIn (space room (lessMarks 0 (code.held out k) b)) ≡ c → c ≤ maxRecords
+      overlays-few c e = let n : length (code.held out k) ≡ k = length-from trapezoidCodec k out 0 in omega (arith, e, less-overlays room 0 (code.held out k) b, n, h .remainder .within, small)
 
       made-few : (c : ℕ) → c ≤ maxRecords → made + c ≤ maxRecords * i
       made-few c m = omega (arith, h .few, room-for, m)
@@ -124,22 +124,22 @@ module _ (W room : ℕ) (layer : List ℤ) (rs : List Trapezoid) where
         pub reduce-short : (c : ℕ) → f ≡ Short c → (space room (lessAllMarks 0 rs (from layer 1)) ≡ short (made + c)) × (made + c ≤ maxRecords * i)
         reduce-short c e =
             let g = subst (λ (f : Folded). FoldedAs (length out) room (less (code.held out k) b) (lessMarks 0 (code.held out k) b) f t) e g in
-            (unrolled ∙ ap (plus made) (space-short room c (lessMarks 0 (code.held out k) b) (lessAllMarks 0 (less (code.held out k) b) (from layer (i + 1))) (g .0)), made-few c (cuts-few c (ap cutsIn (g .0))))
+            (unrolled ∙ ap (plus made) (space-short room c (lessMarks 0 (code.held out k) b) (lessAllMarks 0 (less (code.held out k) b) (from layer (i + 1))) (g .0)), made-few c (overlays-few c (ap overlaysIn (g .0))))
 
-        pub reduce-turn : (p c : ℕ) → f ≡ Done p c → (w : List ℤ) → Blank (pos 0) w → length w ≡ length work → length t ≡ length out → (Reducing t w p (made + c) (i + 1)) × (made + c ≤ maxRecords * i)
+        pub reduce-turn : (p c : ℕ) → f ≡ Done p c → (w : List ℤ) → Blank (pos 0) w → length w ≡ length scratch → length t ≡ length out → (Reducing t w p (made + c) (i + 1)) × (made + c ≤ maxRecords * i)
         reduce-turn p c e w z n m =
             let g = subst (λ (f : Folded). FoldedAs (length out) room (less (code.held out k) b) (lessMarks 0 (code.held out k) b) f t) e g in
             let d : code.held t p ≡ less (code.held out k) b
             = ap (λ (q : ℕ). recordsFrom trapezoidCodec q t 0) (g .1 .0) ∙ ap (λ (u : List ℤ). recordsFrom trapezoidCodec (length (less (code.held out k) b)) u 0) (g .1 .2)
             ∙ image-records trapezoidCodec trapezoid-faithful (length out) (less (code.held out k) b) (all-of (λ (t : Trapezoid). Unit {0}) (λ t. tt) (less (code.held out k) b)) in
-            let r = made-few c (cuts-few c (ap cutsIn (g .0))) in
+            let r = made-few c (overlays-few c (ap overlaysIn (g .0))) in
             let fits = subst (All (FitFor coordinateLimit)) step (h .fit) in (
               record {
-                hand = record {
+                remainder = record {
                   is = g .1 .2 ∙ (λ j. image trapezoidCodec (sym m j) (sym d j));
-                  fit = subst (All (FitFor coordinateLimit)) (sym d) (less-fit coordinateLimit (code.held out k) b (h .hand .fit) (fits .0));
+                  fit = subst (All (FitFor coordinateLimit)) (sym d) (less-fit coordinateLimit (code.held out k) b (h .remainder .fit) (fits .0));
                   within = omega (arith, g .1 .0, g .1 .1);
-                  wide = omega (arith, m, h .hand .wide);
+                  wide = omega (arith, m, h .remainder .wide);
                 };
                 yields = h .yields ∙ ap (lessAll (code.held out k)) step ∙ all-one (code.held out k) (from layer (i + 1)) b ∙ ap (λ (ts : List Trapezoid). lessAll ts (from layer (i + 1))) (sym d);
                 marks = unrolled ∙ ap (plus made) (space-enough room c (lessMarks 0 (code.held out k) b) (lessAllMarks 0 (less (code.held out k) b) (from layer (i + 1))) (g .0))
@@ -156,12 +156,12 @@ module _ (W room : ℕ) (layer : List ℤ) (rs : List Trapezoid) where
               r,
             )
 
-pub reduce-start : (room : ℕ) (layer out work : List ℤ) (k : ℕ) → InHand out k room → All (FitFor coordinateLimit) (layerOf layer) → 1 ≤ count trapezoidCodec layer → Blank (pos 0) work → length work ≡ length out
-    → Reducing (length out) room layer (code.held out k) out work k 0 1
-reduce-start room layer out work k h f l z n =
+pub reduce-start : (room : ℕ) (layer out scratch : List ℤ) (k : ℕ) → Remaining out k room → All (FitFor coordinateLimit) (layerOf layer) → 1 ≤ count trapezoidCodec layer → Blank (pos 0) scratch → length scratch ≡ length out
+    → Reducing (length out) room layer (code.held out k) out scratch k 0 1
+reduce-start room layer out scratch k h f l z n =
     let e : layerOf layer ≡ recordAt trapezoidCodec layer 0 ∷ from layer 1 = sym (from-start trapezoidCodec (count trapezoidCodec layer) layer) ∙ from-step trapezoidCodec (count trapezoidCodec layer) layer 0 l in
     record {
-      hand = h;
+      remainder = h;
       yields = refl;
       marks = sym (plus-none (space room (lessAllMarks 0 (code.held out k) (from layer 1))));
       few = omega arith;

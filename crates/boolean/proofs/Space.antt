@@ -5,7 +5,7 @@ use mathlib.Core.List.{List, [], _∷_, _++_}
 use Prim.Native.Nat.{ℕ, _+_}
 use native.Mathlib.Omega.{arith}
 use lib.Dec.{ltb}
-use Rattle.boolean.specs.Space.{Mark, held, cutsOf, Space, enough, short, plus, space}
+use Rattle.boolean.specs.Space.{Mark, held, overlaysOf, Space, enough, short, plus, space}
 
 -- what follows counts only if what came before had enough
 abbrev pub after : Space → Space → Space
@@ -30,9 +30,9 @@ space-append room [] ns = sym (plus-none (space room ns))
 space-append room (m ∷ ms) ns = go (ltb room (held m)) (space-append room ms ns)
   where
     go : (b : Bool) → space room (ms ++ ns) ≡ after (space room ms) (space room ns)
-        → cond b (short (cutsOf m)) (plus (cutsOf m) (space room (ms ++ ns))) ≡ after (cond b (short (cutsOf m)) (plus (cutsOf m) (space room ms))) (space room ns)
+        → cond b (short (overlaysOf m)) (plus (overlaysOf m) (space room (ms ++ ns))) ≡ after (cond b (short (overlaysOf m)) (plus (overlaysOf m) (space room ms))) (space room ns)
     go true e = refl
-    go false e = ap (plus (cutsOf m)) e ∙ plus-after (cutsOf m) (space room ms) (space room ns)
+    go false e = ap (plus (overlaysOf m)) e ∙ plus-after (overlaysOf m) (space room ms) (space room ns)
 
 pub space-enough : (room m : ℕ) (ms ns : List Mark) → space room ms ≡ enough m → space room (ms ++ ns) ≡ plus m (space room ns)
 space-enough room m ms ns e = space-append room ms ns ∙ ap (λ (s : Space). after s (space room ns)) e

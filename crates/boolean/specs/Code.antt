@@ -20,15 +20,15 @@ use Rattle.boolean.specs.Space.{Mark, enough, short, space}
 -- of a tail of n words, for a fold with the result ts and the marks ms: the space was short after so many overlays, and the tail is blank; or
 -- the tail holds ts and is blank past them
 abbrev pub FoldedAs : ℕ → ℕ → List Trapezoid → List Mark → Folded → List ℤ → Type 0
-FoldedAs n room ts ms (Short cuts) d = (space room ms ≡ short cuts) × (d ≡ replicate n (pos 0))
-FoldedAs n room ts ms (Done pieces cuts) d = (space room ms ≡ enough cuts) × FilledAs n room ts (Written pieces) d
+FoldedAs n room ts ms (Short overlays) d = (space room ms ≡ short overlays) × (d ≡ replicate n (pos 0))
+FoldedAs n room ts ms (Done trapezoids overlays) d = (space room ms ≡ enough overlays) × FilledAs n room ts (Written trapezoids) d
 
 -- the first n trapezoids of a buffer
 abbrev pub held : List ℤ → ℕ → List Trapezoid
 held d n = recordsFrom trapezoidCodec n d 0
 
 -- a buffer that takes `room` trapezoids holds n of them, which are fit, and is blank past them
-pub record InHand (d : List ℤ) (n room : ℕ) : Type 0 where
+pub record Remaining (d : List ℤ) (n room : ℕ) : Type 0 where
   pub is : d ≡ image trapezoidCodec (length d) (held d n)
   pub fit : All (FitFor coordinateLimit) (held d n)
   pub within : n ≤ room
@@ -43,6 +43,6 @@ pub record Layer (s : List ℤ) : Type 0 where
   pub fit : All (FitFor coordinateLimit) (layerOf s)
   pub few : count trapezoidCodec s ≤ maxRecords
 
-abbrev pub CutsWithin : ℕ → Folded → Type 0
-CutsWithin m (Short cuts) = cuts ≤ m
-CutsWithin m (Done pieces cuts) = cuts ≤ m
+abbrev pub OverlaysWithin : ℕ → Folded → Type 0
+OverlaysWithin m (Short overlays) = overlays ≤ m
+OverlaysWithin m (Done trapezoids overlays) = overlays ≤ m

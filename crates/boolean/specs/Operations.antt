@@ -54,9 +54,9 @@ says second-less-first a b = b && not a
 says either-not-both a b = (a && not b) || (b && not a)
 
 -- ---- "each piece in turn, less all that the result already holds, is added"
-unfoldable pub disjointedFrom : List Trapezoid → List Trapezoid → List Trapezoid
-disjointedFrom done [] = done
-disjointedFrom done (a ∷ A) = disjointedFrom (done ++ lessAll (a ∷ []) done) A
+unfoldable pub deoverlappedFrom : List Trapezoid → List Trapezoid → List Trapezoid
+deoverlappedFrom done [] = done
+deoverlappedFrom done (a ∷ A) = deoverlappedFrom (done ++ lessAll (a ∷ []) done) A
 
-abbrev pub disjointed : List Trapezoid → List Trapezoid
-disjointed A = disjointedFrom [] A
+abbrev pub deoverlapped : List Trapezoid → List Trapezoid
+deoverlapped A = deoverlappedFrom [] A

@@ -11,22 +11,22 @@ use Rattle.boolean.specs.Operations.{Code, union, intersect, first-less-
 -- "after some cut or addition of the definition, the result so far plus the pieces in hand": a mark for each cut (overlay) and each addition, in
 -- order, with that sum after it
 pub data Mark : Type 0 where
-  cut : ℕ → Mark
+  overlaid : ℕ → Mark
   addition : ℕ → Mark
 
 abbrev pub held : Mark → ℕ
-held (cut n) = n
+held (overlaid n) = n
 held (addition n) = n
 
-abbrev pub cutsOf : Mark → ℕ
-cutsOf (cut n) = 1
-cutsOf (addition n) = 0
+abbrev pub overlaysOf : Mark → ℕ
+overlaysOf (overlaid n) = 1
+overlaysOf (addition n) = 0
 
 -- ---- the marks of each operation; k is the number of trapezoids in the result so far
 -- the remainder less b: new ones so far are counted in k, and the old ones not yet reached are in hand
 unfoldable pub lessMarks : ℕ → List Trapezoid → Trapezoid → List Mark
 lessMarks k [] b = []
-lessMarks k (r ∷ rs) b = cut (k + length (tagged 1 (overlay r b)) + length rs) ∷ lessMarks (k + length (tagged 1 (overlay r b))) rs b
+lessMarks k (r ∷ rs) b = overlaid (k + length (tagged 1 (overlay r b)) + length rs) ∷ lessMarks (k + length (tagged 1 (overlay r b))) rs b
 
 unfoldable pub lessAllMarks : ℕ → List Trapezoid → List Trapezoid → List Mark
 lessAllMarks k rs [] = []
@@ -43,7 +43,7 @@ differenceMarks k (a ∷ A) B = oneMarks k a B ++ differenceMarks (k + length (l
 -- nothing is in hand
 unfoldable pub commonMarks : ℕ → Trapezoid → List Trapezoid → List Mark
 commonMarks k a [] = []
-commonMarks k a (b ∷ bs) = cut (k + length (tagged 3 (overlay a b))) ∷ commonMarks (k + length (tagged 3 (overlay a b))) a bs
+commonMarks k a (b ∷ bs) = overlaid (k + length (tagged 3 (overlay a b))) ∷ commonMarks (k + length (tagged 3 (overlay a b))) a bs
 
 unfoldable pub intersectionMarks : ℕ → List Trapezoid → List Trapezoid → List Mark
 intersectionMarks k [] B = []
@@ -56,17 +56,17 @@ marks first-less-second A B = differenceMarks 0 A B
 marks second-less-first A B = differenceMarks 0 B A
 marks either-not-both A B = differenceMarks 0 A B ++ differenceMarks (length (difference A B)) B A
 
-unfoldable pub disjointedMarks : List Trapezoid → List Trapezoid → List Mark
-disjointedMarks done [] = []
-disjointedMarks done (a ∷ A) = oneMarks (length done) a done ++ disjointedMarks (done ++ lessAll (a ∷ []) done) A
+unfoldable pub deoverlappedMarks : List Trapezoid → List Trapezoid → List Mark
+deoverlappedMarks done [] = []
+deoverlappedMarks done (a ∷ A) = oneMarks (length done) a done ++ deoverlappedMarks (done ++ lessAll (a ∷ []) done) A
 
 -- "Sameness: A−B, and B−A only if that was empty."
 abbrev pub onlyIfEmpty : List Trapezoid → List Mark → List Mark
 onlyIfEmpty [] ms = ms
 onlyIfEmpty (t ∷ ts) ms = []
 
-abbrev pub samenessMarks : List Trapezoid → List Trapezoid → List Mark
-samenessMarks A B = differenceMarks 0 A B ++ onlyIfEmpty (difference A B) (differenceMarks 0 B A)
+abbrev pub equalityMarks : List Trapezoid → List Trapezoid → List Mark
+equalityMarks A B = differenceMarks 0 A B ++ onlyIfEmpty (difference A B) (differenceMarks 0 B A)
 
 -- ---- in a space of `room` trapezoids
 -- enough, with all overlays made; or not, with those up to the first mark past the room
@@ -80,4 +80,4 @@ plus n (short m) = short (n + m)
 
 unfoldable pub space : ℕ → List Mark → Space
 space room [] = enough 0
-space room (m ∷ ms) = cond (ltb room (held m)) (short (cutsOf m)) (plus (cutsOf m) (space room ms))
+space room (m ∷ ms) = cond (ltb room (held m)) (short (overlaysOf m)) (plus (overlaysOf m) (space room ms))

@@ -12,7 +12,7 @@ use Rattle.geometry.specs.declared.Trapezoid.{Trapezoid}
 use Rattle.geometry.specs.Points.{Point, IsPoint}
 use Rattle.geometry.specs.Trapezoids.{linesOf, LiesInLayer, Disjoint}
 use Rattle.geometry.specs.Fitness.{FitFor}
-use Rattle.boolean.specs.Operations.{Code, result, says, difference, disjointed}
+use Rattle.boolean.specs.Operations.{Code, result, says, difference, deoverlapped}
 
 -- whether a point lies in a layer, as a yes or no
 abbrev pub IsYes : Bool → Type 0 → Type 0
@@ -43,22 +43,22 @@ abbrev pub ResultLines : Type 0
 ResultLines = (L : ℕ) (A B : List Trapezoid) → All (FitFor L) A → All (FitFor L) B → (c : Code) → LinesFrom (A ++ B) (result c A B)
 
 -- disjointing keeps the points, and gives a disjoint layer that is fit
-abbrev pub DisjointedExact : Type 0
-DisjointedExact = (L : ℕ) (A : List Trapezoid) → All (FitFor L) A → (P : Point) → IsPoint P → LiesInLayer P (disjointed A) ↔ LiesInLayer P A
+abbrev pub DeoverlappedExact : Type 0
+DeoverlappedExact = (L : ℕ) (A : List Trapezoid) → All (FitFor L) A → (P : Point) → IsPoint P → LiesInLayer P (deoverlapped A) ↔ LiesInLayer P A
 
-abbrev pub DisjointedDisjoint : Type 0
-DisjointedDisjoint = (L : ℕ) (A : List Trapezoid) → All (FitFor L) A → Disjoint (disjointed A)
+abbrev pub DeoverlappedDisjoint : Type 0
+DeoverlappedDisjoint = (L : ℕ) (A : List Trapezoid) → All (FitFor L) A → Disjoint (deoverlapped A)
 
-abbrev pub DisjointedFit : Type 0
-DisjointedFit = (L : ℕ) (A : List Trapezoid) → All (FitFor L) A → All (FitFor L) (disjointed A)
+abbrev pub DeoverlappedFit : Type 0
+DeoverlappedFit = (L : ℕ) (A : List Trapezoid) → All (FitFor L) A → All (FitFor L) (deoverlapped A)
 
-abbrev pub DisjointedLines : Type 0
-DisjointedLines = (L : ℕ) (A : List Trapezoid) → All (FitFor L) A → LinesFrom A (disjointed A)
+abbrev pub DeoverlappedLines : Type 0
+DeoverlappedLines = (L : ℕ) (A : List Trapezoid) → All (FitFor L) A → LinesFrom A (deoverlapped A)
 
 -- "no rational point lies in one and not in the other"
 abbrev pub SamePoints : List Trapezoid → List Trapezoid → Type 0
 SamePoints A B = (P : Point) → IsPoint P → LiesInLayer P A ↔ LiesInLayer P B
 
 -- both differences are empty exactly if the layers have the same points
-abbrev pub SamenessExact : Type 0
-SamenessExact = (L : ℕ) (A B : List Trapezoid) → All (FitFor L) A → All (FitFor L) B → ((difference A B ≡ []) × (difference B A ≡ [])) ↔ SamePoints A B
+abbrev pub EqualityExact : Type 0
+EqualityExact = (L : ℕ) (A B : List Trapezoid) → All (FitFor L) A → All (FitFor L) B → ((difference A B ≡ []) × (difference B A ≡ [])) ↔ SamePoints A B

@@ -38,7 +38,7 @@ use Rattle.overlay.specs.declared.Fill.the-variants.{NoRoom, Written}
 use Rattle.overlay.specs.Overlaps.{overlaps}
 use Rattle.overlay.specs.Overlay.{Part, sides, events, inRange, parts, subdivision, overlay, tagged}
 use Rattle.overlay.specs.Order.{sideNumbers, HasSides, inFront, strips, orderAt}
-use Rattle.overlay.specs.Code.{EventOf, optionOf, namesOf, NextIs, NextPlaced, ColumnAt, FourSides, Lent, FilledAs}
+use Rattle.overlay.specs.Code.{EventOf, optionOf, namesOf, NextIs, NextPlaced, ColumnAt, FourSides, Borrowed, FilledAs}
 use Rattle.overlay.proofs.Events.{complete}
 use Rattle.overlay.proofs.NumberOrder.{order-members}
 use Rattle.overlay.proofs.Network.{network-exact}
@@ -133,7 +133,7 @@ pub record Filling (A B : Trapezoid) (tag W room : ℕ) (out : List ℤ) (p : Ev
   pub proper : Proper (position (p .base))
   pub column : ColumnAt A B (fractionOf (p .at)) c
 
-module _ (A B : Trapezoid) (tag room : ℕ) (out : List ℤ) (h : Lent out room) where
+module _ (A B : Trapezoid) (tag room : ℕ) (out : List ℤ) (h : Borrowed out room) where
   -- nothing to fill
   pub fill-none : subdivision A B ≡ [] → FilledAs (length out) room (tagged tag (subdivision A B)) (Written 0) out
   fill-none e = rw e (unfold tagged in fill-nothing out room h)

@@ -21,7 +21,7 @@ use Rattle.overlay.specs.declared.Fill.{Fill}
 use Rattle.overlay.specs.declared.Fill.the-variants.{NoRoom, Written}
 use Rattle.overlay.specs.Overlay.{tagOf}
 use Rattle.overlay.specs.Order.{lineOfSide, presentBy, passing, enterA, enterB, inFront, strip, stripsFrom, strips}
-use Rattle.overlay.specs.Code.{Lent, FilledAs}
+use Rattle.overlay.specs.Code.{Borrowed, FilledAs}
 use Rattle.overlay.proofs.Strips.{strips-none, strips-first, strips-end, strips-above, strips-level}
 use Rattle.overlay.proofs.Writing.{tail, Writing, write-start, write-stop, write-full, write-upto, write-turn, fill-nothing}
 
@@ -52,7 +52,7 @@ module _ (tag : ℕ) (A B : Trapezoid) (p q : Base) (fa fb : Bool) where
     pub writing : Writing W room (strips tag A B p q fa fb order) (left lower ina inb (drop k order)) out n
     pub long : length order ≡ 4
 
-  module _ (order : List ℕ) (l : length order ≡ 4) (d : List ℤ) (room : ℕ) (h : Lent d room) where
+  module _ (order : List ℕ) (l : length order ≡ 4) (d : List ℤ) (room : ℕ) (h : Borrowed d room) where
     order-first : order ≡ getD order 0 0 ∷ drop 1 order
     order-first = drop-cons order 0 0 (omega (arith, l))
 

@@ -14,13 +14,13 @@ use Rattle.geometry.specs.Trapezoids.{trapezoidCodec, trapezoidWords}
 use Rattle.geometry.proofs.Trapezoids.{trapezoid-faithful}
 use Rattle.overlay.specs.declared.Fill.{Fill}
 use Rattle.overlay.specs.declared.Fill.the-variants.{NoRoom, Written}
-use Rattle.overlay.specs.Code.{Lent, FilledAs}
+use Rattle.overlay.specs.Code.{Borrowed, FilledAs}
 
 abbrev pub tail : List ℤ → ℕ → List ℤ
 tail out n = midOf (memoryWidth * n) (length out - memoryWidth * n) out
 
 -- ---- one part
-module _ (d : List ℤ) (room : ℕ) (h : Lent d room) where
+module _ (d : List ℤ) (room : ℕ) (h : Borrowed d room) where
   blank-image : d ≡ image trapezoidCodec (length d) []
   blank-image = h .blank ∙ sym (image-none trapezoidCodec trapezoid-faithful (length d))
 
@@ -41,24 +41,24 @@ pub record Writing (W room : ℕ) (goal rest : List Trapezoid) (out : List ℤ) 
   pub wide : memoryWidth * room ≤ W
   pub long : length out ≡ W
 
-pub write-start : (goal : List Trapezoid) (d : List ℤ) (room : ℕ) → Lent d room → Writing (length d) room goal goal d 0
+pub write-start : (goal : List Trapezoid) (d : List ℤ) (room : ℕ) → Borrowed d room → Writing (length d) room goal goal d 0
 write-start goal d room h = record { done = []; all = refl; laid = blank-image d room h; size = refl; upto = omega arith; wide = h .wide; long = refl }
 
 module _ {W room : ℕ} {goal rest : List Trapezoid} {out : List ℤ} {n : ℕ} (h : Writing W room goal rest out n) where
   in-words : memoryWidth * n ≤ W
   in-words = omega (arith, h .upto, h .wide)
 
-  lent-length : length (tail out n) ≡ W - memoryWidth * n
-  lent-length = tail-length trapezoidCodec trapezoid-faithful W n out (h .done) (h .laid) (h .size) in-words
+  borrowed-length : length (tail out n) ≡ W - memoryWidth * n
+  borrowed-length = tail-length trapezoidCodec trapezoid-faithful W n out (h .done) (h .laid) (h .size) in-words
 
   pub write-fits : memoryWidth * n ≤ length out
   write-fits = omega (arith, in-words, h .long)
 
-  pub write-lent : Lent (tail out n) (room - n)
-  write-lent =
+  pub write-borrowed : Borrowed (tail out n) (room - n)
+  write-borrowed =
       record {
         blank = tail-blank trapezoidCodec trapezoid-faithful W n out (h .done) (h .laid) (h .size) in-words;
-        wide = omega (arith, lent-length, h .upto, h .wide);
+        wide = omega (arith, borrowed-length, h .upto, h .wide);
       }
 
   pub write-stop : rest ≡ [] → FilledAs W room goal (Written n) out
@@ -87,7 +87,7 @@ module _ {W room : ℕ} {goal rest : List Trapezoid} {out : List ℤ} {n : ℕ} 
     pub write-turn : (m : ℕ) → f ≡ Written m → Writing W room goal later (putMid (memoryWidth * n) (length out - memoryWidth * n) out t) (n + m)
     write-turn m e =
         let k = subst (λ (f : Fill). FilledAs (length (tail out n)) (room - n) more f t) e g in
-        let u : t ≡ image trapezoidCodec (W - memoryWidth * n) more = rw lent-length at (k .2) in
+        let u : t ≡ image trapezoidCodec (W - memoryWidth * n) more = rw borrowed-length at (k .2) in
         let back = tail-back trapezoidCodec trapezoid-faithful W n out (h .done) (h .laid) (h .size) in-words t more u in
         let j = length-append (h .done) more in
         let s : n + m ≡ length (h .done ++ more) = omega (arith, j, k .0, h .size) in

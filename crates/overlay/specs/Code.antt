@@ -148,7 +148,7 @@ pub record Exchanged (A B : Trapezoid) (x : Fraction) (i j : ℕ) (c r : Column)
 
 -- ---- trapezoids written into a tail
 -- the tail is blank, and `room` trapezoids fit into it
-pub record Lent (d : List ℤ) (room : ℕ) : Type 0 where
+pub record Borrowed (d : List ℤ) (room : ℕ) : Type 0 where
   pub blank : Blank (pos 0) d
   pub wide : memoryWidth * room ≤ length d
 

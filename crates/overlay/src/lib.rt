@@ -18,7 +18,7 @@ ghost use Rattle.geometry.specs.Code.{fractionOf, Small};
 ghost use Rattle.overlay.specs.Overlaps.{crossing, overlapRight, overlaps};
 ghost use Rattle.overlay.specs.Overlay.{tagOf, inRange, subdivision, overlay, tagged};
 ghost use Rattle.overlay.specs.Order.{lineOfSide, presentBy, lessBy, numberLess, passing, inFront, strips};
-ghost use Rattle.overlay.specs.Code.{FourSides, ColumnAt, Exchanged, Lent, FilledAs, PlacedAs, CommonLeft, CommonRight, Pair, crossBetween, CrossingBetween, WellPlaced, OneMore, BaseEvents, AllEvents, EventOf, NextPlaced, after, Better, Sooner, NextIs};
+ghost use Rattle.overlay.specs.Code.{FourSides, ColumnAt, Exchanged, Borrowed, FilledAs, PlacedAs, CommonLeft, CommonRight, Pair, crossBetween, CrossingBetween, WellPlaced, OneMore, BaseEvents, AllEvents, EventOf, NextPlaced, after, Better, Sooner, NextIs};
 
 // A trapezoid with the positions of its bases.
 pub struct Placed {
@@ -366,7 +366,7 @@ pub enum Fill {
 }
 
 fn put(t: Trapezoid, out: &mut [i32], room: usize) -> Fill
-    requires { ⌜ Lent (now out) room ⌝ }
+    requires { ⌜ Borrowed (now out) room ⌝ }
     ensures { λ r. ⌜ FilledAs (length (now (out .entry))) room (t ∷ []) r (now (out .exit)) ⌝ }
 {
     if room == 0 {
@@ -377,7 +377,7 @@ fn put(t: Trapezoid, out: &mut [i32], room: usize) -> Fill
 }
 
 fn put_if(yes: bool, t: Trapezoid, out: &mut [i32], room: usize) -> Fill
-    requires { ⌜ Lent (now out) room ⌝ }
+    requires { ⌜ Borrowed (now out) room ⌝ }
     ensures { λ r. ⌜ FilledAs (length (now (out .entry))) room (inFront yes t []) r (now (out .exit)) ⌝ }
 {
     if yes {
@@ -446,7 +446,7 @@ fn fill_column(
     out: &mut [i32],
     room: usize,
 ) -> Fill
-    requires { ⌜ FitFor coordinateLimit a × FitFor coordinateLimit b × EventOf p × (length (c .order) ≡ 4) × Lent (now out) room ⌝ }
+    requires { ⌜ FitFor coordinateLimit a × FitFor coordinateLimit b × EventOf p × (length (c .order) ≡ 4) × Borrowed (now out) room ⌝ }
     ensures { λ r. ⌜ FilledAs (length (now (out .entry))) room (strips tag a b (p .base) (q .base) (c .in_a) (c .in_b) (c .order)) r (now (out .exit)) ⌝ }
 {
     let order = c.order;
@@ -495,7 +495,7 @@ fn fill_column(
 
 // The trapezoids of all columns that have the tag, from left to right.
 fn fill_columns(a: Placed, b: Placed, tag: u8, out: &mut [i32], room: usize) -> Fill
-    requires { ⌜ Pair a b × (1 ≤ tag) × Lent (now out) room ⌝ }
+    requires { ⌜ Pair a b × (1 ≤ tag) × Borrowed (now out) room ⌝ }
     ensures { λ r. ⌜ FilledAs (length (now (out .entry))) room (tagged tag (subdivision (a .shape) (b .shape))) r (now (out .exit)) ⌝ }
 {
     let v = events_of(a, b);
@@ -542,7 +542,7 @@ fn fill_columns(a: Placed, b: Placed, tag: u8, out: &mut [i32], room: usize) -> 
 
 // The trapezoids of the overlay that have the tag, written into a blank tail of which `room` records may be filled.
 pub fn overlay_into(a: Placed, b: Placed, tag: u8, out: &mut [i32], room: usize) -> Fill
-    requires { ⌜ Pair a b × (1 ≤ tag) × Lent (now out) room ⌝ }
+    requires { ⌜ Pair a b × (1 ≤ tag) × Borrowed (now out) room ⌝ }
     ensures { λ r. ⌜ FilledAs (length (now (out .entry))) room (tagged tag (overlay (a .shape) (b .shape))) r (now (out .exit)) ⌝ }
 {
     if overlapping(a, b) {

@@ -12,7 +12,7 @@ ghost use mathlib.Core.Path.{_≡_};
 ghost use Prim.Native.Nat.{_≤_};
 ghost use Rattle.geometry.specs.Limit.{coordinateLimit};
 ghost use Rattle.geometry.specs.Fitness.{FitFor};
-ghost use Rattle.overlay.specs.Code.{Lent, Pair};
+ghost use Rattle.overlay.specs.Code.{Borrowed, Pair};
 
 const TIMES: usize = 1000000;
 
@@ -89,8 +89,8 @@ fn least(a: usize, b: usize) -> usize
 
 // One overlay. The tail is blank before and after.
 fn once(a: Placed, b: Placed, out: &mut [i32]) -> usize
-    requires { ⌜ Pair a b × Lent (now out) 5 ⌝ }
-    ensures { λ r. ⌜ Lent (now (out .exit)) 5 ⌝ }
+    requires { ⌜ Pair a b × Borrowed (now out) 5 ⌝ }
+    ensures { λ r. ⌜ Borrowed (now (out .exit)) 5 ⌝ }
     ensures few { λ r. ⌜ r ≤ 5 ⌝ }
 {
     let f = overlay::overlay_into(a, b, 1, out, 5);
@@ -100,7 +100,7 @@ fn once(a: Placed, b: Placed, out: &mut [i32]) -> usize
 
 // The two change places each time, so that no turn of the loop repeats the last one.
 fn repeat(a: Placed, b: Placed, out: &mut [i32]) -> usize
-    requires { ⌜ Pair a b × Lent (now out) 5 ⌝ }
+    requires { ⌜ Pair a b × Borrowed (now out) 5 ⌝ }
 {
     let mut p = a;
     let mut q = b;

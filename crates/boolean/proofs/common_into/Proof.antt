@@ -4,7 +4,7 @@ use native.Mathlib.Omega.{arith}
 use lib.ListN.{length}
 use lib.IntN.{pos}
 use borrow.Author.Needs.{needs}
-use Rattle.boolean.proofs.Commoning.{Commoning, common-start, common-stop, common-lent, common-fit, common-short, common-upto, common-turn, common-filled}
+use Rattle.boolean.proofs.Commoning.{Commoning, common-start, common-stop, common-borrowed, common-fit, common-short, common-upto, common-turn, common-filled}
 use Rattle.boolean.proofs.Lessening.{placed}
 use Rattle.overlay.proofs.Writing.{tail}
 use Rattle.geometry.specs.Fitness.{FitFor}
@@ -73,7 +73,7 @@ sub-overlay-into-2 c =
 overlay-into-requires : tie.Need-overlay-into-requires Inv-loop μ-loop
 overlay-into-requires c κs =
     let l = c .before .before .before .before in
-    (record { first = l .before .pre .1 .0; second = placed (c .before .place .ensures) }, omega arith, common-lent (l .loop .inv))
+    (record { first = l .before .pre .1 .0; second = placed (c .before .place .ensures) }, omega arith, common-borrowed (l .loop .inv))
 
 enum-known-f : tie.Need-enum-known-f Inv-loop μ-loop
 enum-known-f c = search needs

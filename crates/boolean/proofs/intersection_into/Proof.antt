@@ -4,7 +4,7 @@ use native.Mathlib.Omega.{arith}
 use lib.ListN.{length}
 use lib.IntN.{pos}
 use borrow.Author.Needs.{needs}
-use Rattle.boolean.proofs.Intersecting.{Intersecting, intersection-start, intersection-stop, intersection-lent, intersection-fit, intersection-short, intersection-upto, intersection-turn, short-few, done-few, layer-few, common-folded}
+use Rattle.boolean.proofs.Intersecting.{Intersecting, intersection-start, intersection-stop, intersection-borrowed, intersection-fit, intersection-short, intersection-upto, intersection-turn, short-few, done-few, layer-few, common-folded}
 use Rattle.boolean.proofs.Lessening.{placed}
 use Rattle.overlay.proofs.Writing.{tail}
 use Rattle.geometry.specs.Fitness.{FitFor}
@@ -25,10 +25,10 @@ use Rattle.overlay.proofs.place.Reads as place-reads
 use Rattle.records.proofs.clear.Reads as clear-reads
 
 abbrev Inv-loop : tie.InvT-loop
-Inv-loop first second out₀ room n k₀ cuts₀ i₀ out k cuts i = Intersecting (length out₀) room first (layerOf second) out k cuts i
+Inv-loop first second out₀ room n k₀ cuts₀ i₀ out k overlays i = Intersecting (length out₀) room first (layerOf second) out k overlays i
 
 abbrev μ-loop : tie.MeasureT-loop
-μ-loop first second out₀ room n k₀ cuts₀ i₀ out k cuts i = n - i
+μ-loop first second out₀ room n k₀ cuts₀ i₀ out k overlays i = n - i
 
 loop-holds : tie.Need-loop-holds Inv-loop μ-loop
 loop-holds c =
@@ -73,7 +73,7 @@ sub-common-into-2 c =
 common-into-requires : tie.Need-common-into-requires Inv-loop μ-loop
 common-into-requires c κs =
     let l = c .before .before .before .before in
-    (l .before .pre .0 .1, (placed (c .before .place .ensures), intersection-lent (l .loop .inv)))
+    (l .before .pre .0 .1, (placed (c .before .place .ensures), intersection-borrowed (l .loop .inv)))
 
 enum-known-f : tie.Need-enum-known-f Inv-loop μ-loop
 enum-known-f c = search needs
@@ -135,8 +135,8 @@ add-k c =
     let u = intersection-upto (p .inv) (q .before .before .loop-test .taken) (f .result) (f .last .1 .1 .0) g _ _ (c .before .f2 .given .1) in
     omega (arith, u, p .inv .writing .wide, s .good .1 .1 .0)
 
-add-cuts : tie.Need-add-cuts Inv-loop μ-loop
-add-cuts c =
+add-overlays : tie.Need-add-overlays Inv-loop μ-loop
+add-overlays c =
     let o = c .before .before .before .before in
     let q = o .before .before in
     let l = q .before .before .before in
@@ -200,7 +200,7 @@ intersection-into-spec =
     returns
     enum-known-f-2
     add-k
-    add-cuts
+    add-overlays
     add-i
     loop-less
     loop-again

@@ -13,7 +13,7 @@ use Rattle.geometry.specs.Trapezoids.{trapezoidCodec}
 use Rattle.overlay.proofs.Writing.{tail}
 use Rattle.geometry.specs.Limit.{coordinateLimit}
 use Rattle.geometry.specs.Fitness.{FitFor}
-use Rattle.boolean.proofs.Lessening.{Lessening, less-start, less-stop, less-fit, less-lent, less-short, less-upto, less-turn, filled-of, placed}
+use Rattle.boolean.proofs.Lessening.{Lessening, less-start, less-stop, less-fit, less-borrowed, less-short, less-upto, less-turn, filled-of, placed}
 use Rattle.boolean.proofs.less_into.Statement.{statement}
 use Rattle.boolean.proofs.less_into.Tie as tie
 use Rattle.boolean.proofs.less_into.Reads as reads
@@ -24,15 +24,15 @@ use Rattle.overlay.proofs.place.Reads as place-reads
 use Rattle.records.proofs.clear.Reads as clear-reads
 
 abbrev Inv-loop : tie.InvT-loop
-Inv-loop hand b out₀ room n k₀ i₀ out k i = Lessening (length out₀) room hand (b .shape) out k i
+Inv-loop remainder b out₀ room n k₀ i₀ out k i = Lessening (length out₀) room remainder (b .shape) out k i
 
 abbrev μ-loop : tie.MeasureT-loop
-μ-loop hand b out₀ room n k₀ i₀ out k i = n - i
+μ-loop remainder b out₀ room n k₀ i₀ out k i = n - i
 
 loop-holds : tie.Need-loop-holds Inv-loop μ-loop
 loop-holds c =
     let a = c .args in
-    less-start (a .room) (a .hand .now) (a .b .shape) (a .out .now) (c .pre .1 .1) (c .pre .0 .1) (c .pre .0 .0)
+    less-start (a .room) (a .remainder .now) (a .b .shape) (a .out .now) (c .pre .1 .1) (c .pre .0 .1) (c .pre .0 .0)
 
 load-requires : tie.Need-load-requires Inv-loop μ-loop
 load-requires c κs =
@@ -88,7 +88,7 @@ part-overlay-into-end c =
 overlay-into-requires : tie.Need-overlay-into-requires Inv-loop μ-loop
 overlay-into-requires c κs =
     let s = c .before .before .before .before .before in
-    (record { first = placed (c .before .place .ensures); second = s .pre .1 .0 }, omega arith, less-lent (c .before .before .before .before .loop .inv) (c .before .before .before .loop-test .taken))
+    (record { first = placed (c .before .place .ensures); second = s .pre .1 .0 }, omega arith, less-borrowed (c .before .before .before .before .loop .inv) (c .before .before .before .loop-test .taken))
 
 enum-known-f : tie.Need-enum-known-f Inv-loop μ-loop
 enum-known-f c = search needs
@@ -117,7 +117,7 @@ returns c =
     let s = l .before in
     let p = l .loop in
     let f = o .overlay-into in
-    let h = s .args .hand .now in
+    let h = s .args .remainder .now in
     let g = filled-of (length (tail (p .out) (p .k))) (s .args .room - p .k - (count trapezoidCodec h - p .i - 1)) (q .place .result .shape) (recordAt trapezoidCodec h (p .i)) (s .args .b .shape) (f .result) (f .last .1 .1 .1 .0) (q .place .ensures .shape ∙ q .before .load .ensures) (f .ensures) in
     let n : length (c .before .clear .last .0) ≡ length (s .args .out .now) = same-length c in
     let z = blank-of (pos 0) (c .before .clear .last .0) (length (putMid (memoryWidth * l .loop .k) (length (l .loop .out) - memoryWidth * l .loop .k) (l .loop .out) (o .overlay-into .last .1 .1 .1 .0))) (c .before .clear .ensures) in
@@ -131,7 +131,7 @@ add-k c =
     let s = l .before in
     let p = l .loop in
     let f = o .overlay-into in
-    let h = s .args .hand .now in
+    let h = s .args .remainder .now in
     let g = filled-of (length (tail (p .out) (p .k))) (s .args .room - p .k - (count trapezoidCodec h - p .i - 1)) (q .place .result .shape) (recordAt trapezoidCodec h (p .i)) (s .args .b .shape) (f .result) (f .last .1 .1 .1 .0) (q .place .ensures .shape ∙ q .before .load .ensures) (f .ensures) in
     let u = less-upto (l .loop .inv) (q .before .before .loop-test .taken) (f .result) (f .last .1 .1 .1 .0) g _ (c .before .f .given .1) in
     omega (arith, u, l .loop .inv .writing .wide, s .good .1 .1 .0)
@@ -150,7 +150,7 @@ loop-again c =
     let s = l .before in
     let p = l .loop in
     let f = o .overlay-into in
-    let h = s .args .hand .now in
+    let h = s .args .remainder .now in
     let g = filled-of (length (tail (p .out) (p .k))) (s .args .room - p .k - (count trapezoidCodec h - p .i - 1)) (q .place .result .shape) (recordAt trapezoidCodec h (p .i)) (s .args .b .shape) (f .result) (f .last .1 .1 .1 .0) (q .place .ensures .shape ∙ q .before .load .ensures) (f .ensures) in
     less-turn (l .loop .inv) (q .before .before .loop-test .taken) (f .result) (f .last .1 .1 .1 .0) g _ (c .before .f .given .1)
 

@@ -1,5 +1,5 @@
 use borrow.Author.Needs.{needs}
-use Rattle.boolean.proofs.Handing.{hand-length, hand-fit, hand-count, hand-lent, hand-folded, hand-back}
+use Rattle.boolean.proofs.Moving.{remainder-length, remainder-fit, remainder-count, remainder-borrowed, remainder-folded, remainder-back}
 use Rattle.boolean.proofs.lessen.Statement.{statement}
 use Rattle.boolean.proofs.lessen.Tie as tie
 use Rattle.boolean.proofs.lessen.Reads as reads
@@ -22,14 +22,14 @@ slice-aggregate-less-into c =
     let m = c .before .before .before .move-into in
     let s = c .before .before .before .before .before .before in
     let a = s .args in
-    hand-length (a .out .now) (a .work .now) (m .last .0) (m .last .1 .0) (a .n) (a .room) (s .pre .0 .1) (s .pre .1 .0) (s .pre .1 .1) (m .ensures .0) (m .ensures .1)
+    remainder-length (a .out .now) (a .scratch .now) (m .last .0) (m .last .1 .0) (a .n) (a .room) (s .pre .0 .1) (s .pre .1 .0) (s .pre .1 .1) (m .ensures .0) (m .ensures .1)
 
 less-into-requires : tie.Need-less-into-requires
 less-into-requires c κs =
     let m = c .before .before .before .before .move-into in
     let s = c .before .before .before .before .before .before .before in
     let a = s .args in
-    ((hand-fit (a .out .now) (a .work .now) (m .last .0) (m .last .1 .0) (a .n) (a .room) (s .pre .0 .1) (s .pre .1 .0) (s .pre .1 .1) (m .ensures .0) (m .ensures .1), hand-count (a .out .now) (a .work .now) (m .last .0) (m .last .1 .0) (a .n) (a .room) (s .pre .0 .1) (s .pre .1 .0) (s .pre .1 .1) (m .ensures .0) (m .ensures .1)), (s .pre .0 .0, hand-lent (a .out .now) (a .work .now) (m .last .0) (m .last .1 .0) (a .n) (a .room) (s .pre .0 .1) (s .pre .1 .0) (s .pre .1 .1) (m .ensures .0) (m .ensures .1)))
+    ((remainder-fit (a .out .now) (a .scratch .now) (m .last .0) (m .last .1 .0) (a .n) (a .room) (s .pre .0 .1) (s .pre .1 .0) (s .pre .1 .1) (m .ensures .0) (m .ensures .1), remainder-count (a .out .now) (a .scratch .now) (m .last .0) (m .last .1 .0) (a .n) (a .room) (s .pre .0 .1) (s .pre .1 .0) (s .pre .1 .1) (m .ensures .0) (m .ensures .1)), (s .pre .0 .0, remainder-borrowed (a .out .now) (a .scratch .now) (m .last .0) (m .last .1 .0) (a .n) (a .room) (s .pre .0 .1) (s .pre .1 .0) (s .pre .1 .1) (m .ensures .0) (m .ensures .1)))
 
 slice-relend-prefix-clear : tie.Need-slice-relend-prefix-clear
 slice-relend-prefix-clear c = search needs
@@ -39,7 +39,7 @@ slice-aggregate-clear c =
     let m = c .before .before .before .before .before .before .before .move-into in
     let s = c .before .before .before .before .before .before .before .before .before .before in
     let a = s .args in
-    hand-length (a .out .now) (a .work .now) (m .last .0) (m .last .1 .0) (a .n) (a .room) (s .pre .0 .1) (s .pre .1 .0) (s .pre .1 .1) (m .ensures .0) (m .ensures .1)
+    remainder-length (a .out .now) (a .scratch .now) (m .last .0) (m .last .1 .0) (a .n) (a .room) (s .pre .0 .1) (s .pre .1 .0) (s .pre .1 .1) (m .ensures .0) (m .ensures .1)
 
 clear-requires : tie.Need-clear-requires
 clear-requires c κs = search needs
@@ -56,7 +56,7 @@ returns c =
     let s = c .before .before .before .before .before .before .before .before .before .before .before .before in
     let a = s .args in
     let f = c .before .before .before .before .less-into in
-    (hand-folded (a .out .now) (a .work .now) (m .last .0) (m .last .1 .0) (a .n) (a .room) (s .pre .0 .1) (s .pre .1 .0) (s .pre .1 .1) (m .ensures .0) (m .ensures .1) (a .b .shape) (f .result) (f .last .1 .1 .0) (f .ensures), hand-back (a .out .now) (a .work .now) (m .last .0) (m .last .1 .0) (a .n) (a .room) (s .pre .0 .1) (s .pre .1 .0) (s .pre .1 .1) (m .ensures .0) (m .ensures .1) (c .before .clear .last .0) (c .before .clear .ensures))
+    (remainder-folded (a .out .now) (a .scratch .now) (m .last .0) (m .last .1 .0) (a .n) (a .room) (s .pre .0 .1) (s .pre .1 .0) (s .pre .1 .1) (m .ensures .0) (m .ensures .1) (a .b .shape) (f .result) (f .last .1 .1 .0) (f .ensures), remainder-back (a .out .now) (a .scratch .now) (m .last .0) (m .last .1 .0) (a .n) (a .room) (s .pre .0 .1) (s .pre .1 .0) (s .pre .1 .1) (m .ensures .0) (m .ensures .1) (c .before .clear .last .0) (c .before .clear .ensures))
 
 pub lessen-spec : {M : Type 1} → statement M
 lessen-spec =

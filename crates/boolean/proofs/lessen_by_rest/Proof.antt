@@ -17,15 +17,15 @@ use Rattle.boolean.proofs.lessen.Reads as lessen-reads
 use Rattle.boolean.proofs.placed_at.Reads as placed-at-reads
 
 abbrev Inv-loop : tie.InvT-loop
-Inv-loop layer n out₀ work₀ room count k₀ made₀ i₀ out work k made i = Reducing (length out₀) room layer (held out₀ n) out work k made i
+Inv-loop layer n out₀ work₀ room count k₀ made₀ i₀ out scratch k made i = Reducing (length out₀) room layer (held out₀ n) out scratch k made i
 
 abbrev μ-loop : tie.MeasureT-loop
-μ-loop layer n out₀ work₀ room count k₀ made₀ i₀ out work k made i = count - i
+μ-loop layer n out₀ work₀ room count k₀ made₀ i₀ out scratch k made i = count - i
 
 loop-holds : tie.Need-loop-holds Inv-loop μ-loop
 loop-holds c =
     let a = c .args in
-    reduce-start (a .room) (a .layer .now) (a .out .now) (a .work .now) (a .n) (c .pre .0 .2) (c .pre .0 .0 .fit) (c .pre .0 .1) (c .pre .1 .0) (c .pre .1 .1)
+    reduce-start (a .room) (a .layer .now) (a .out .now) (a .scratch .now) (a .n) (c .pre .0 .2) (c .pre .0 .0 .fit) (c .pre .0 .1) (c .pre .1 .0) (c .pre .1 .1)
 
 placed-at-requires : tie.Need-placed-at-requires Inv-loop μ-loop
 placed-at-requires c κs =
@@ -34,7 +34,7 @@ placed-at-requires c κs =
 lessen-requires : tie.Need-lessen-requires Inv-loop μ-loop
 lessen-requires c κs =
     let h = c .before .before .before .before .loop .inv in
-    ((placed (c .before .before .placed-at .ensures), h .hand), (h .blank, h .same))
+    ((placed (c .before .before .placed-at .ensures), h .remainder), (h .blank, h .same))
 
 enum-known-f : tie.Need-enum-known-f Inv-loop μ-loop
 enum-known-f c = search needs

@@ -26,10 +26,10 @@ slice-relend-prefix-copy : tie.Need-slice-relend-prefix-copy
 slice-relend-prefix-copy c = search needs
 
 slice-aggregate-copy-2 : tie.Need-slice-aggregate-copy-2
-slice-aggregate-copy-2 c = let s = c .before .before in sym (length-take-le (memoryWidth * s .args .n) (s .args .work .now) (s .pre .1))
+slice-aggregate-copy-2 c = let s = c .before .before in sym (length-take-le (memoryWidth * s .args .n) (s .args .scratch .now) (s .pre .1))
 
 copy-requires : tie.Need-copy-requires
-copy-requires c κs = let s = c .before .before in length-take-le (memoryWidth * s .args .n) (s .args .out .now) (s .pre .0) ∙ sym (length-take-le (memoryWidth * s .args .n) (s .args .work .now) (s .pre .1))
+copy-requires c κs = let s = c .before .before in length-take-le (memoryWidth * s .args .n) (s .args .out .now) (s .pre .0) ∙ sym (length-take-le (memoryWidth * s .args .n) (s .args .scratch .now) (s .pre .1))
 
 slice-relend-prefix-clear : tie.Need-slice-relend-prefix-clear
 slice-relend-prefix-clear c = search needs
@@ -51,7 +51,7 @@ returns c =
     let s = c .before .before .before .before .before .before .before in
     let e = memoryWidth * s .args .n in
     let l = length-take-le e (s .args .out .now) (s .pre .0) in
-    (ap (λ (t : List ℤ). t ++ drop e (s .args .out .now)) (c .before .clear .ensures ∙ ap (λ (m : ℕ). replicate m (pos 0)) l), ap (λ (t : List ℤ). t ++ drop e (s .args .work .now)) (c .before .before .before .before .copy .ensures))
+    (ap (λ (t : List ℤ). t ++ drop e (s .args .out .now)) (c .before .clear .ensures ∙ ap (λ (m : ℕ). replicate m (pos 0)) l), ap (λ (t : List ℤ). t ++ drop e (s .args .scratch .now)) (c .before .before .before .before .copy .ensures))
 
 pub move-into-spec : {M : Type 1} → statement M
 move-into-spec =

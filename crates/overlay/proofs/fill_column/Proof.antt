@@ -12,7 +12,7 @@ use Rattle.records.proofs.Buffer.{blank-of}
 use Rattle.overlay.specs.Order.{lineOfSide}
 use Rattle.overlay.proofs.SideOrder.{side-grid}
 use Rattle.overlay.proofs.Stacking.{no-of, yes-of, Stacking, stack-none, stack-start, stack-last, stack-end, stack-full, stack-upto, stack-next}
-use Rattle.overlay.proofs.Writing.{write-lent}
+use Rattle.overlay.proofs.Writing.{write-borrowed}
 use Rattle.overlay.proofs.fill_column.Statement.{statement}
 use Rattle.overlay.proofs.fill_column.Tie as tie
 use Rattle.overlay.proofs.fill_column.Reads as reads
@@ -117,7 +117,7 @@ sub-put-if-2 c = search needs
 
 put-if-requires : tie.Need-put-if-requires Inv-loop μ-loop
 put-if-requires c κs =
-    write-lent (c .before .before .before .before .before .before .before .before .loop .inv .writing)
+    write-borrowed (c .before .before .before .before .before .before .before .before .loop .inv .writing)
 
 enum-known-f : tie.Need-enum-known-f Inv-loop μ-loop
 enum-known-f c = search needs

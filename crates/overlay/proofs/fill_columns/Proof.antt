@@ -9,7 +9,7 @@ use Rattle.records.specs.Limits.{memoryWidth}
 use Rattle.records.proofs.Buffer.{blank-of}
 use Rattle.overlay.proofs.EventArray.{event-of}
 use Rattle.overlay.proofs.Filling.{left, first-four, column-four, no-event, first-proper, first-event, last-event, later-proper, later-event, fewer, found-event, Filling, fill-none, fill-start, fill-stop, fill-full, fill-upto, fill-turn}
-use Rattle.overlay.proofs.Writing.{write-lent}
+use Rattle.overlay.proofs.Writing.{write-borrowed}
 use Rattle.overlay.proofs.fill_columns.Statement.{statement}
 use Rattle.overlay.proofs.fill_columns.Tie as tie
 use Rattle.overlay.proofs.fill_columns.Reads as reads
@@ -114,7 +114,7 @@ fill-column-requires c κs =
     let ha = s .pre .0 .first .fit in
     let hb = s .pre .0 .second .fit in
     let h = l .loop .inv in
-    (ha, hb, h .event, column-four ha hb _ _ (h .column) .long, write-lent (h .writing))
+    (ha, hb, h .event, column-four ha hb _ _ (h .column) .long, write-borrowed (h .writing))
 
 enum-known-f : tie.Need-enum-known-f Inv-loop μ-loop
 enum-known-f c = search needs

@@ -1,14 +1,14 @@
 use mathlib.Core.Path.{_≡_}
 use Prim.Native.Nat.{_*_, _-_, _≤_}
 use lib.ListN.{length}
-use Rattle.overlay.specs.Code.{PlacedAs, Lent}
+use Rattle.overlay.specs.Code.{PlacedAs, Borrowed}
 use borrow.Author.Needs.{needs}
 use Rattle.overlay_speed.proofs.repeat.Statement.{statement}
 use Rattle.overlay_speed.proofs.repeat.Tie as tie
 
 abbrev Inv-loop : tie.InvT-loop
 Inv-loop out₀ p₀ q₀ total₀ i₀ out p q total i =
-    (i ≤ 1000000) × (total ≤ 5 * i) × PlacedAs (p .shape) p × PlacedAs (q .shape) q × Lent out 5 × (length out ≡ length out₀)
+    (i ≤ 1000000) × (total ≤ 5 * i) × PlacedAs (p .shape) p × PlacedAs (q .shape) q × Borrowed out 5 × (length out ≡ length out₀)
 
 abbrev μ-loop : tie.MeasureT-loop
 μ-loop out₀ p₀ q₀ total₀ i₀ out p q total i = 1000000 - i

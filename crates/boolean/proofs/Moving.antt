@@ -17,23 +17,23 @@ use Rattle.geometry.specs.Limit.{coordinateLimit}
 use Rattle.geometry.specs.Fitness.{FitFor}
 use Rattle.geometry.specs.Trapezoids.{trapezoidCodec, layerOf}
 use Rattle.geometry.proofs.Trapezoids.{trapezoid-faithful}
-use Rattle.overlay.specs.Code.{Lent}
+use Rattle.overlay.specs.Code.{Borrowed}
 use Rattle.boolean.specs.declared.Folded.{Folded}
 use Rattle.boolean.specs.Operations.{less}
 use Rattle.boolean.specs.Space.{lessMarks}
-use Rattle.boolean.specs.Code.{held, InHand, FoldedAs}
+use Rattle.boolean.specs.Code.{held, Remaining, FoldedAs}
 
 -- d and w before, d' and w' after the move
-module _ (d w d' w' : List ℤ) (n room : ℕ) (h : InHand d n room) (blank : Blank (pos 0) w) (same : length w ≡ length d)
-    (out : d' ≡ replicate (memoryWidth * n) (pos 0) ++ drop (memoryWidth * n) d) (work : w' ≡ take (memoryWidth * n) d ++ drop (memoryWidth * n) w) where
+module _ (d w d' w' : List ℤ) (n room : ℕ) (h : Remaining d n room) (blank : Blank (pos 0) w) (same : length w ≡ length d)
+    (out : d' ≡ replicate (memoryWidth * n) (pos 0) ++ drop (memoryWidth * n) d) (scratch : w' ≡ take (memoryWidth * n) d ++ drop (memoryWidth * n) w) where
   abbrev end : ℕ
   end = memoryWidth * n
 
-  pub hand-words : memoryWidth * n ≤ length d
-  hand-words = omega (arith, h .within, h .wide)
+  pub remainder-words : memoryWidth * n ≤ length d
+  remainder-words = omega (arith, h .within, h .wide)
 
-  pub hand-work : memoryWidth * n ≤ length w
-  hand-work = omega (arith, hand-words, same)
+  pub remainder-scratch : memoryWidth * n ≤ length w
+  remainder-scratch = omega (arith, remainder-words, same)
 
   size : memoryWidth * length (held d n) ≡ end
   size = ap (λ (m : ℕ). memoryWidth * m) (length-from trapezoidCodec n d 0)
@@ -47,48 +47,48 @@ module _ (d w d' w' : List ℤ) (n room : ℕ) (h : InHand d n room) (blank : Bl
       ∙ ap (λ (m : ℕ). replicate (length d - m) (pos 0)) size
 
   first-words : length (take end d) ≡ end
-  first-words = length-take-le end d hand-words
+  first-words = length-take-le end d remainder-words
 
   moved : take end w' ≡ take end d
-  moved = ap (take end) work ∙ take-at (take end d) (drop end w) end first-words
+  moved = ap (take end) scratch ∙ take-at (take end d) (drop end w) end first-words
 
-  pub hand-length : memoryWidth * n ≡ length (take (memoryWidth * n) w')
-  hand-length = sym (ap length moved ∙ first-words)
+  pub remainder-length : memoryWidth * n ≡ length (take (memoryWidth * n) w')
+  remainder-length = sym (ap length moved ∙ first-words)
 
-  pub hand-layer : layerOf (take (memoryWidth * n) w') ≡ held d n
-  hand-layer =
+  pub remainder-layer : layerOf (take (memoryWidth * n) w') ≡ held d n
+  remainder-layer =
       ap layerOf (moved ∙ front)
       ∙ records-words trapezoidCodec trapezoid-faithful (held d n) (all-of (λ (t : Trapezoid). Unit {0}) (λ t. tt) (held d n))
 
-  pub hand-fit : All (FitFor coordinateLimit) (layerOf (take (memoryWidth * n) w'))
-  hand-fit = subst (All (FitFor coordinateLimit)) (sym hand-layer) (h .fit)
+  pub remainder-fit : All (FitFor coordinateLimit) (layerOf (take (memoryWidth * n) w'))
+  remainder-fit = subst (All (FitFor coordinateLimit)) (sym remainder-layer) (h .fit)
 
-  pub hand-count : count trapezoidCodec (take (memoryWidth * n) w') ≤ room + 1
-  hand-count =
-      let e : count trapezoidCodec (take end w') ≡ n = sym (length-from trapezoidCodec (count trapezoidCodec (take end w')) (take end w') 0) ∙ ap length hand-layer ∙ length-from trapezoidCodec n d 0 in
+  pub remainder-count : count trapezoidCodec (take (memoryWidth * n) w') ≤ room + 1
+  remainder-count =
+      let e : count trapezoidCodec (take end w') ≡ n = sym (length-from trapezoidCodec (count trapezoidCodec (take end w')) (take end w') 0) ∙ ap length remainder-layer ∙ length-from trapezoidCodec n d 0 in
       omega (arith, e, h .within)
 
   cleared : d' ≡ replicate (length d) (pos 0)
   cleared =
-      let e : end + (length d - end) ≡ length d = omega (arith, hand-words) in
+      let e : end + (length d - end) ≡ length d = omega (arith, remainder-words) in
       out ∙ ap (λ (t : List ℤ). replicate end (pos 0) ++ t) rest ∙ replicate-append-replicate end (length d - end) (pos 0) ∙ ap (λ (m : ℕ). replicate m (pos 0)) e
 
-  pub hand-out : length d' ≡ length d
-  hand-out = ap length cleared ∙ length-replicate (length d) (pos 0)
+  pub remainder-out : length d' ≡ length d
+  remainder-out = ap length cleared ∙ length-replicate (length d) (pos 0)
 
-  pub hand-lent : Lent d' room
-  hand-lent = record { blank = blank-of (pos 0) d' (length d) cleared; wide = omega (arith, hand-out, h .wide) }
+  pub remainder-borrowed : Borrowed d' room
+  remainder-borrowed = record { blank = blank-of (pos 0) d' (length d) cleared; wide = omega (arith, remainder-out, h .wide) }
 
   -- the scratch area is cleared again
-  pub hand-back : (t : List ℤ) → t ≡ replicate (length (take (memoryWidth * n) w')) (pos 0) → Blank (pos 0) (t ++ drop (memoryWidth * n) w')
-  hand-back t e =
-      let f : drop end w' ≡ replicate (length w - end) (pos 0) = ap (drop end) work ∙ drop-at (take end d) (drop end w) end first-words ∙ ap (drop end) blank ∙ drop-blank (pos 0) end (length w) in
-      let g : t ≡ replicate end (pos 0) = e ∙ ap (λ (m : ℕ). replicate m (pos 0)) (sym hand-length) in
+  pub remainder-back : (t : List ℤ) → t ≡ replicate (length (take (memoryWidth * n) w')) (pos 0) → Blank (pos 0) (t ++ drop (memoryWidth * n) w')
+  remainder-back t e =
+      let f : drop end w' ≡ replicate (length w - end) (pos 0) = ap (drop end) scratch ∙ drop-at (take end d) (drop end w) end first-words ∙ ap (drop end) blank ∙ drop-blank (pos 0) end (length w) in
+      let g : t ≡ replicate end (pos 0) = e ∙ ap (λ (m : ℕ). replicate m (pos 0)) (sym remainder-length) in
       blank-of (pos 0) (t ++ drop end w') (end + (length w - end)) (ap (λ (u : List ℤ). u ++ drop end w') g ∙ ap (λ (u : List ℤ). replicate end (pos 0) ++ u) f ∙ replicate-append-replicate end (length w - end) (pos 0))
 
-  pub hand-folded : (b : Trapezoid) (r : Folded) (t : List ℤ)
+  pub remainder-folded : (b : Trapezoid) (r : Folded) (t : List ℤ)
       → FoldedAs (length d') room (less (layerOf (take (memoryWidth * n) w')) b) (lessMarks 0 (layerOf (take (memoryWidth * n) w')) b) r t
       → FoldedAs (length d) room (less (held d n) b) (lessMarks 0 (held d n) b) r t
-  hand-folded b r t g =
-      subst (λ (m : ℕ). FoldedAs m room (less (held d n) b) (lessMarks 0 (held d n) b) r t) hand-out
-      (subst (λ (ts : List Trapezoid). FoldedAs (length d') room (less ts b) (lessMarks 0 ts b) r t) hand-layer g)
+  remainder-folded b r t g =
+      subst (λ (m : ℕ). FoldedAs m room (less (held d n) b) (lessMarks 0 (held d n) b) r t) remainder-out
+      (subst (λ (ts : List Trapezoid). FoldedAs (length d') room (less ts b) (lessMarks 0 ts b) r t) remainder-layer g)

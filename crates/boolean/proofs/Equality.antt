@@ -10,7 +10,7 @@ use Rattle.geometry.specs.Trapezoids.{LiesInLayer}
 use Rattle.geometry.specs.Fitness.{FitFor}
 use Rattle.geometry.proofs.Fitness.{fit-holds-point}
 use Rattle.boolean.specs.Operations.{difference}
-use Rattle.boolean.specs.Statements.{SamenessExact}
+use Rattle.boolean.specs.Statements.{EqualityExact}
 use Rattle.boolean.proofs.Layers.{in-or-out}
 use Rattle.boolean.proofs.Kept.{difference-fit}
 use Rattle.boolean.proofs.Difference.{difference-in, in-difference}
@@ -30,8 +30,8 @@ module _ (L : ℕ) where
   in-empty A B hA hB f =
       no-points (difference A B) (difference-fit L A B hA hB) (λ P hP h. let k = difference-in L P hP A B hA hB h in k .1 (f P hP (k .0)))
 
-pub sameness-exact : SamenessExact
-sameness-exact L A B hA hB = (
+pub equality-exact : EqualityExact
+equality-exact L A B hA hB = (
   (λ h P hP. (empty-in L A B hA hB (h .0) P hP, empty-in L B A hB hA (h .1) P hP)),
   (λ f. (in-empty L A B hA hB (λ P hP. f P hP .0), in-empty L B A hB hA (λ P hP. f P hP .1))),
 )

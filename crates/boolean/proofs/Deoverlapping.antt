@@ -8,8 +8,8 @@ use Rattle.geometry.specs.declared.Trapezoid.{Trapezoid}
 use Rattle.geometry.specs.Points.{Point, IsPoint}
 use Rattle.geometry.specs.Trapezoids.{LiesInLayer, Disjoint}
 use Rattle.geometry.specs.Fitness.{FitFor}
-use Rattle.boolean.specs.Operations.{lessAll, disjointedFrom}
-use Rattle.boolean.specs.Statements.{DisjointedExact, DisjointedDisjoint}
+use Rattle.boolean.specs.Operations.{lessAll, deoverlappedFrom}
+use Rattle.boolean.specs.Statements.{DeoverlappedExact, DeoverlappedDisjoint}
 use Rattle.boolean.proofs.Layers.{Inside, in-or-out, disjoint-append}
 use Rattle.boolean.proofs.Kept.{lessAll-fit}
 use Rattle.boolean.proofs.Difference.{lessAll-in, in-lessAll, one-disjoint, one-within}
@@ -23,11 +23,11 @@ module _ (L : ℕ) where
   more-disjoint done a hd ha d =
       disjoint-append done (lessAll (a ∷ []) done) d (one-disjoint L a done ha hd) (λ P hP x y. lessAll-in L P hP (a ∷ []) done (ha, tt) hd y .1 x)
 
-  disjointedFrom-disjoint : (done A : List Trapezoid) → All (FitFor L) done → All (FitFor L) A → Disjoint done → Disjoint (disjointedFrom done A)
-  unfolding disjointedFrom
-  disjointedFrom-disjoint done [] hd hA d = d
-  disjointedFrom-disjoint done (a ∷ A) hd hA d =
-      disjointedFrom-disjoint (done ++ lessAll (a ∷ []) done) A (more-fit done a hd (hA .0)) (hA .1) (more-disjoint done a hd (hA .0) d)
+  deoverlappedFrom-disjoint : (done A : List Trapezoid) → All (FitFor L) done → All (FitFor L) A → Disjoint done → Disjoint (deoverlappedFrom done A)
+  unfolding deoverlappedFrom
+  deoverlappedFrom-disjoint done [] hd hA d = d
+  deoverlappedFrom-disjoint done (a ∷ A) hd hA d =
+      deoverlappedFrom-disjoint (done ++ lessAll (a ∷ []) done) A (more-fit done a hd (hA .0)) (hA .1) (more-disjoint done a hd (hA .0) d)
 
   module _ (P : Point) (hP : IsPoint P) where
     more-in : (done : List Trapezoid) (a : Trapezoid) → All (FitFor L) done → FitFor L a → LiesInLayer P (done ++ lessAll (a ∷ []) done)
@@ -44,32 +44,32 @@ module _ (L : ℕ) where
           | inr n ↦ any-right (Inside P) done (lessAll (a ∷ []) done) (in-lessAll L P hP (a ∷ []) done (ha, tt) hd (inl h) n)
         ]
 
-    disjointedFrom-in : (done A : List Trapezoid) → All (FitFor L) done → All (FitFor L) A → LiesInLayer P (disjointedFrom done A)
+    deoverlappedFrom-in : (done A : List Trapezoid) → All (FitFor L) done → All (FitFor L) A → LiesInLayer P (deoverlappedFrom done A)
         → LiesInLayer P done ⊎ LiesInLayer P A
-    unfolding disjointedFrom
-    disjointedFrom-in done [] hd hA h = inl h
-    disjointedFrom-in done (a ∷ A) hd hA h =
-        elim (disjointedFrom-in (done ++ lessAll (a ∷ []) done) A (more-fit done a hd (hA .0)) (hA .1) h) [
+    unfolding deoverlappedFrom
+    deoverlappedFrom-in done [] hd hA h = inl h
+    deoverlappedFrom-in done (a ∷ A) hd hA h =
+        elim (deoverlappedFrom-in (done ++ lessAll (a ∷ []) done) A (more-fit done a hd (hA .0)) (hA .1) h) [
           | inl k ↦ elim (more-in done a hd (hA .0) k) [ inl i ↦ inl i | inr i ↦ inr (inl i) ]
           | inr k ↦ inr (inr k)
         ]
 
-    in-disjointedFrom : (done A : List Trapezoid) → All (FitFor L) done → All (FitFor L) A → LiesInLayer P done ⊎ LiesInLayer P A
-        → LiesInLayer P (disjointedFrom done A)
-    unfolding disjointedFrom
-    in-disjointedFrom done [] hd hA h = elim h [ inl k ↦ k | inr k ↦ absurd k ]
-    in-disjointedFrom done (a ∷ A) hd hA h =
-        in-disjointedFrom (done ++ lessAll (a ∷ []) done) A (more-fit done a hd (hA .0)) (hA .1)
+    in-deoverlappedFrom : (done A : List Trapezoid) → All (FitFor L) done → All (FitFor L) A → LiesInLayer P done ⊎ LiesInLayer P A
+        → LiesInLayer P (deoverlappedFrom done A)
+    unfolding deoverlappedFrom
+    in-deoverlappedFrom done [] hd hA h = elim h [ inl k ↦ k | inr k ↦ absurd k ]
+    in-deoverlappedFrom done (a ∷ A) hd hA h =
+        in-deoverlappedFrom (done ++ lessAll (a ∷ []) done) A (more-fit done a hd (hA .0)) (hA .1)
         (elim h [
           | inl k ↦ inl (in-more done a hd (hA .0) (inl k))
           | inr k ↦ elim k [ inl i ↦ inl (in-more done a hd (hA .0) (inr i)) | inr i ↦ inr i ]
         ])
 
-pub disjointed-exact : DisjointedExact
-disjointed-exact L A hA P hP = (
-  (λ h. elim (disjointedFrom-in L P hP [] A tt hA h) [ inl k ↦ absurd k | inr k ↦ k ]),
-  (λ h. in-disjointedFrom L P hP [] A tt hA (inr h)),
+pub deoverlapped-exact : DeoverlappedExact
+deoverlapped-exact L A hA P hP = (
+  (λ h. elim (deoverlappedFrom-in L P hP [] A tt hA h) [ inl k ↦ absurd k | inr k ↦ k ]),
+  (λ h. in-deoverlappedFrom L P hP [] A tt hA (inr h)),
 )
 
-pub disjointed-disjoint : DisjointedDisjoint
-disjointed-disjoint L A hA = disjointedFrom-disjoint L [] A tt hA tt
+pub deoverlapped-disjoint : DeoverlappedDisjoint
+deoverlapped-disjoint L A hA = deoverlappedFrom-disjoint L [] A tt hA tt
