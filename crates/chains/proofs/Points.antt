@@ -1,0 +1,86 @@
+-- The tally tells of each held layer whether a point lies in it.
+use mathlib.Core.Path.{_≡_, sym, _∙_, ap}
+use mathlib.Core.Bool.{Bool, true, false, _||_}
+use mathlib.Core.List.{List, [], _∷_, _++_}
+use mathlib.Core.Logic.{_⊎_, inl, inr}
+use Prim.Native.Nat.{ℕ, zero, suc, _+_}
+use lib.Dec.{T}
+use lib.ListN.{length, length-append}
+use Rattle.geometry.specs.Limit.{coordinateLimit}
+use Rattle.geometry.specs.Points.{Point, IsPoint}
+use Rattle.geometry.specs.Trapezoids.{liesIn, LiesInLayer}
+use Rattle.boolean.specs.Statements.{IsYes}
+use Rattle.boolean.proofs.Results.{result-exact}
+use Rattle.chains.specs.Chains.{Layer, layerAt, Step, succeeds, added, resultOf, stepped, run, toldOf, told, entryAt, said, evaluate, liesInLayer, fed}
+use Rattle.chains.proofs.Steps.{success-gives}
+
+pub lies-exact : (P : Point) (A : Layer) → IsYes (liesInLayer P A) (LiesInLayer P A)
+lies-exact P [] = ((λ h. h), (λ h. h))
+lies-exact P (t ∷ A) = go (liesIn P t) (liesInLayer P A) (lies-exact P A)
+  where
+    go : (a b : Bool) → IsYes b (LiesInLayer P A) → IsYes (a || b) (T a ⊎ LiesInLayer P A)
+    go true b h = ((λ k. inl tt), (λ k. tt))
+    go false b h = ((λ k. inr (h .0 k)), (λ k. elim k [ inl x ↦ absurd x | inr y ↦ h .1 y ]))
+
+-- ---- an entry for each layer, that tells whether the point lies in it
+abbrev Tells : Point → List Bool → List Layer → Type 0
+Tells P [] [] = Unit {0}
+Tells P [] (A ∷ layers) = ⊥
+Tells P (y ∷ ys) [] = ⊥
+Tells P (y ∷ ys) (A ∷ layers) = IsYes y (LiesInLayer P A) × Tells P ys layers
+
+tells-fed : (P : Point) (layers : List Layer) → Tells P (fed P layers) layers
+tells-fed P [] = tt
+tells-fed P (A ∷ layers) = (lies-exact P A, tells-fed P layers)
+
+tells-at : (P : Point) (ys : List Bool) (layers : List Layer) → Tells P ys layers → (n : ℕ) → IsYes (entryAt ys n) (LiesInLayer P (layerAt layers n))
+tells-at P [] [] h n = ((λ k. k), (λ k. k))
+tells-at P [] (A ∷ layers) h n = absurd h
+tells-at P (y ∷ ys) [] h n = absurd h
+tells-at P (y ∷ ys) (A ∷ layers) h zero = h .0
+tells-at P (y ∷ ys) (A ∷ layers) h (suc n) = tells-at P ys layers (h .1) n
+
+tells-more : (P : Point) (ys : List Bool) (layers : List Layer) (y : Bool) (A : Layer) → Tells P ys layers → IsYes y (LiesInLayer P A)
+    → Tells P (ys ++ (y ∷ [])) (layers ++ (A ∷ []))
+tells-more P [] [] y A h k = (k, tt)
+tells-more P [] (B ∷ layers) y A h k = absurd h
+tells-more P (x ∷ ys) [] y A h k = absurd h
+tells-more P (x ∷ ys) (B ∷ layers) y A h k = (h .0, tells-more P ys layers y A (h .1) k)
+
+module _ (P : Point) (hP : IsPoint P) where
+  -- a success's entry tells of its result
+  tells-result : (ys : List Bool) (layers : List Layer) (s : Step) → Tells P ys layers → T (succeeds layers s)
+      → IsYes (said ys (toldOf s (succeeds layers s))) (LiesInLayer P (resultOf layers s))
+  unfolding resultOf
+  tells-result ys layers s h t =
+      let k = success-gives layers s t .call in
+      result-exact coordinateLimit (layerAt layers (s .first)) (layerAt layers (s .second)) (k .first) (k .second) P hP (s .code) (entryAt ys (s .first)) (entryAt ys (s .second))
+      (tells-at P ys layers h (s .first))
+      (tells-at P ys layers h (s .second))
+
+  tells-added : (b : Bool) (ys : List Bool) (layers : List Layer) (y : Bool) (A : Layer) → Tells P ys layers → (T b → IsYes y (LiesInLayer P A))
+      → Tells P (added b ys y) (added b layers A)
+  tells-added true ys layers y A h f = tells-more P ys layers y A h (f tt)
+  tells-added false ys layers y A h f = h
+
+  tells-run : (ys : List Bool) (layers : List Layer) (steps : List Step) → Tells P ys layers → Tells P (evaluate ys (told layers steps)) (run layers steps)
+  unfolding run told evaluate
+  tells-run ys layers [] h = h
+  tells-run ys layers (s ∷ steps) h =
+      tells-run (added (succeeds layers s) ys (said ys (toldOf s (succeeds layers s)))) (stepped layers s) steps
+      (tells-added (succeeds layers s) ys layers _ (resultOf layers s) h (tells-result ys layers s h))
+
+  pub run-points : (start : List Layer) (steps : List Step) (n : ℕ) → IsYes (entryAt (evaluate (fed P start) (told start steps)) n) (LiesInLayer P (layerAt (run start steps) n))
+  run-points start steps n = tells-at P (evaluate (fed P start) (told start steps)) (run start steps) (tells-run (fed P start) start steps (tells-fed P start)) n
+
+-- ---- the tally has an entry for each held layer
+added-length : (b : Bool) (ys : List Bool) (layers : List Layer) (y : Bool) (A : Layer) → length ys ≡ length layers → length (added b ys y) ≡ length (added b layers A)
+added-length true ys layers y A e = length-append ys (y ∷ []) ∙ ap (λ (n : ℕ). n + 1) e ∙ sym (length-append layers (A ∷ []))
+added-length false ys layers y A e = e
+
+pub evaluate-length : (ys : List Bool) (layers : List Layer) (steps : List Step) → length ys ≡ length layers → length (evaluate ys (told layers steps)) ≡ length (run layers steps)
+unfolding run told evaluate
+evaluate-length ys layers [] e = e
+evaluate-length ys layers (s ∷ steps) e =
+    evaluate-length (added (succeeds layers s) ys (said ys (toldOf s (succeeds layers s)))) (stepped layers s) steps
+    (added-length (succeeds layers s) ys layers _ (resultOf layers s) e)

@@ -1,0 +1,66 @@
+-- Raised numbers find in a list what the numbers found before `other` was put in after the starting elements.
+use mathlib.Core.Path.{_≡_, refl, sym, _∙_, ap}
+use mathlib.Core.Bool.{Bool, true, false, not, cond}
+use mathlib.Core.List.{List, [], _∷_, _++_, append-assoc}
+use Prim.Native.Nat.{ℕ, _+_, _-_, _<_, _≤_}
+use native.Mathlib.Omega.{arith}
+use lib.Dec.{T, ltb, ltb→lt, nltb→le, lt→ltb}
+use lib.ListN.{length, getD, length-append, List·getD-append}
+use Rattle.chains.specs.Chains.{added, raised}
+use Rattle.chains.proofs.Lists.{getD-past}
+
+-- tests that say yes to the same
+equal-tests : (a b : Bool) → (T a → T b) → (T b → T a) → a ≡ b
+equal-tests true true f g = refl
+equal-tests true false f g = absurd (f tt)
+equal-tests false true f g = absurd (g tt)
+equal-tests false false f g = refl
+
+module _ {A : Type 0} where
+  pub added-append : (b : Bool) (xs ys : List A) (x : A) → added b (xs ++ ys) x ≡ xs ++ added b ys x
+  added-append true xs ys x = append-assoc xs ys (x ∷ [])
+  added-append false xs ys x = refl
+
+  module _ (start other more : List A) (n : ℕ) where
+    -- the element with the raised number
+    pub raised-at : (d : A) → getD ((start ++ other) ++ more) (raised (length start) (length other) n) d ≡ getD (start ++ more) n d
+    raised-at d = go (ltb n (length start)) (ltb→lt n (length start)) (nltb→le n (length start))
+      where
+        go : (b : Bool) → (T b → n < length start) → (T (not b) → length start ≤ n)
+            → getD ((start ++ other) ++ more) (cond b n (n + length other)) d ≡ getD (start ++ more) n d
+        go true f g =
+            let h = f tt in
+            let k : n < length (start ++ other) = omega (arith, length-append start other) in
+            List·getD-append (start ++ other) more d n k ∙ List·getD-append start other d n h ∙ sym (List·getD-append start more d n h)
+        go false f g =
+            let h = g tt in
+            let e : n ≡ length start + (n - length start) = omega arith in
+            let l : n + length other ≡ length (start ++ other) + (n - length start) = omega (arith, length-append start other) in
+            ap (λ (i : ℕ). getD ((start ++ other) ++ more) i d) l
+            ∙ getD-past (start ++ other) more (n - length start) d
+            ∙ sym (ap (λ (i : ℕ). getD (start ++ more) i d) e ∙ getD-past start more (n - length start) d)
+
+    -- it is a number of the list exactly if the number was
+    pub raised-in : ltb (raised (length start) (length other) n) (length ((start ++ other) ++ more)) ≡ ltb n (length (start ++ more))
+    raised-in = go (ltb n (length start)) (ltb→lt n (length start)) (nltb→le n (length start))
+      where
+        go : (b : Bool) → (T b → n < length start) → (T (not b) → length start ≤ n)
+            → ltb (cond b n (n + length other)) (length ((start ++ other) ++ more)) ≡ ltb n (length (start ++ more))
+        go true f g =
+            let h = f tt in
+            let k : n < length ((start ++ other) ++ more) = omega (arith, length-append (start ++ other) more, length-append start other) in
+            let l : n < length (start ++ more) = omega (arith, length-append start more) in
+            equal-tests (ltb n (length ((start ++ other) ++ more))) (ltb n (length (start ++ more)))
+            (λ t. lt→ltb n (length (start ++ more)) l)
+            (λ t. lt→ltb n (length ((start ++ other) ++ more)) k)
+        go false f g =
+            equal-tests (ltb (n + length other) (length ((start ++ other) ++ more))) (ltb n (length (start ++ more)))
+            (λ t.
+            let h = ltb→lt (n + length other) (length ((start ++ other) ++ more)) t in
+            let l : n < length (start ++ more) = omega (arith, length-append (start ++ other) more, length-append start other, length-append start more) in
+            lt→ltb n (length (start ++ more)) l)
+            (λ t.
+            let h = ltb→lt n (length (start ++ more)) t in
+            let k : n + length other < length ((start ++ other) ++ more)
+            = omega (arith, length-append (start ++ other) more, length-append start other, length-append start more) in
+            lt→ltb (n + length other) (length ((start ++ other) ++ more)) k)

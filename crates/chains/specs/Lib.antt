@@ -1,0 +1,3 @@
+-- Chains of set operations (paper 01: chains), and what is proved of them.
+pub mod Chains
+pub mod Statements

@@ -1,0 +1,1 @@
+// Chains of set operations on layers of trapezoids: definitions and laws only.
