@@ -9,7 +9,7 @@ use lib.IntN.{ℤ}
 use borrow.Rule.Slice.PartMut.{putMid}
 use borrow.Author.Tests.{lt-ltb, le-ltb, ltb-true, ltb-false}
 use lib.Dec.{ltb}
-use Rattle.records.specs.Limits.{memoryWidth}
+use Rattle.records.specs.Limits.{memoryWidth, maxRecords}
 use Rattle.records.specs.Lists.{All}
 use Rattle.records.specs.Records.{recordAt, count}
 use Rattle.records.proofs.Records.{from-start, from-step, from-none, length-from}
@@ -92,7 +92,7 @@ made-upto room k a (b ∷ bs) =
 pub record Intersecting (W room : ℕ) (first : List ℤ) (B : List Trapezoid) (out : List ℤ) (k overlays i : ℕ) : Type 0 where
   pub writing : Writing W room (intersection (layerOf first) B) (intersection (from first i) B) out k
   pub marks : space room (intersectionMarks 0 (layerOf first) B) ≡ plus overlays (space room (intersectionMarks k (from first i) B))
-  pub few : overlays ≤ 512 * i
+  pub few : overlays ≤ maxRecords * i
   pub upto : i ≤ count trapezoidCodec first
   pub fit : All (FitFor coordinateLimit) (from first i)
 
@@ -162,7 +162,7 @@ module _ {W room : ℕ} {first : List ℤ} {B : List Trapezoid} {out : List ℤ}
       pub intersection-upto : (m c : ℕ) → f ≡ Done m c → k + m ≤ room
       intersection-upto m c e = write-upto (h .writing) (common here B) (intersection (from first (i + 1)) B) turn (Written m) t (done-of m c e .1) m refl
 
-      pub intersection-turn : length B ≤ 512 → (m c : ℕ) → f ≡ Done m c → Intersecting W room first B (putMid (memoryWidth * k) (length out - memoryWidth * k) out t) (k + m) (overlays + c) (i + 1)
+      pub intersection-turn : length B ≤ maxRecords → (m c : ℕ) → f ≡ Done m c → Intersecting W room first B (putMid (memoryWidth * k) (length out - memoryWidth * k) out t) (k + m) (overlays + c) (i + 1)
       intersection-turn b m c e =
           let g′ = done-of m c e in
           let u = done-few m c e in
@@ -179,7 +179,7 @@ module _ {W room : ℕ} {first : List ℤ} {B : List Trapezoid} {out : List ℤ}
 pub common-folded : (n room : ℕ) (x y : Trapezoid) (B : List Trapezoid) (f : Folded) (t : List ℤ) → x ≡ y → FoldedAs n room (common x B) (commonMarks 0 x B) f t → FoldedAs n room (common y B) (commonMarks 0 y B) f t
 common-folded n room x y B f t e g = subst (λ (z : Trapezoid). FoldedAs n room (common z B) (commonMarks 0 z B) f t) e g
 
-pub layer-few : (s : List ℤ) → length s ≤ 12288 → length (layerOf s) ≤ 512
+pub layer-few : (s : List ℤ) → count trapezoidCodec s ≤ maxRecords → length (layerOf s) ≤ maxRecords
 layer-few s l =
     let n = length-from trapezoidCodec (count trapezoidCodec s) s 0 in
     omega (arith, n, l)

@@ -28,28 +28,28 @@ use Rattle.boolean.specs.Code.{from, FoldedAs}
 use Rattle.boolean.proofs.Space.{plus-none, plus-plus}
 
 -- ---- the definitions, step by step
-less-none : (b : Trapezoid) → less [] b ≡ []
+pub less-none : (b : Trapezoid) → less [] b ≡ []
 unfolding less
 less-none b = refl
 
-less-one : (r b : Trapezoid) (rs : List Trapezoid) → less (r ∷ rs) b ≡ tagged 1 (overlay r b) ++ less rs b
+pub less-one : (r b : Trapezoid) (rs : List Trapezoid) → less (r ∷ rs) b ≡ tagged 1 (overlay r b) ++ less rs b
 unfolding less
 less-one r b rs = refl
 
-marks-none : (room k : ℕ) (b : Trapezoid) → space room (lessMarks k [] b) ≡ enough 0
+pub marks-none : (room k : ℕ) (b : Trapezoid) → space room (lessMarks k [] b) ≡ enough 0
 unfolding space lessMarks
 marks-none room k b = refl
 
 module _ (room k : ℕ) (r b : Trapezoid) (rs : List Trapezoid) where
   -- so many after this overlay
-  abbrev sum : ℕ
+  abbrev pub sum : ℕ
   sum = k + length (tagged 1 (overlay r b)) + length rs
 
-  marks-over : room < sum → space room (lessMarks k (r ∷ rs) b) ≡ short 1
+  pub marks-over : room < sum → space room (lessMarks k (r ∷ rs) b) ≡ short 1
   unfolding space lessMarks
   marks-over l = rw (lt-ltb room sum l)
 
-  marks-next : sum ≤ room → space room (lessMarks k (r ∷ rs) b) ≡ plus 1 (space room (lessMarks (k + length (tagged 1 (overlay r b))) rs b))
+  pub marks-next : sum ≤ room → space room (lessMarks k (r ∷ rs) b) ≡ plus 1 (space room (lessMarks (k + length (tagged 1 (overlay r b))) rs b))
   unfolding space lessMarks
   marks-next l = rw (le-ltb room sum l)
 

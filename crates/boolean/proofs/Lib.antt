@@ -11,3 +11,9 @@ pub mod Moving
 pub mod Reducing
 pub mod Commoning
 pub mod Intersecting
+pub mod Answers
+pub mod One
+pub mod Shifting
+pub mod Subtracting
+pub mod Combining
+pub mod Comparing

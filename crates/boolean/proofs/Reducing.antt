@@ -59,19 +59,19 @@ less-overlays room k (r ∷ rs) b =
     go false s h = omega (arith, overlays-plus s, h)
 
 -- ---- the definitions, step by step
-all-none : (rs : List Trapezoid) → lessAll rs [] ≡ rs
+pub all-none : (rs : List Trapezoid) → lessAll rs [] ≡ rs
 unfolding lessAll
 all-none rs = refl
 
-all-one : (rs bs : List Trapezoid) (b : Trapezoid) → lessAll rs (b ∷ bs) ≡ lessAll (less rs b) bs
+pub all-one : (rs bs : List Trapezoid) (b : Trapezoid) → lessAll rs (b ∷ bs) ≡ lessAll (less rs b) bs
 unfolding lessAll
 all-one rs bs b = refl
 
-all-marks-none : (room k : ℕ) (rs : List Trapezoid) → space room (lessAllMarks k rs []) ≡ enough 0
+pub all-marks-none : (room k : ℕ) (rs : List Trapezoid) → space room (lessAllMarks k rs []) ≡ enough 0
 unfolding lessAllMarks space
 all-marks-none room k rs = refl
 
-all-marks-one : (k : ℕ) (rs bs : List Trapezoid) (b : Trapezoid) → lessAllMarks k rs (b ∷ bs) ≡ lessMarks k rs b ++ lessAllMarks k (less rs b) bs
+pub all-marks-one : (k : ℕ) (rs bs : List Trapezoid) (b : Trapezoid) → lessAllMarks k rs (b ∷ bs) ≡ lessMarks k rs b ++ lessAllMarks k (less rs b) bs
 unfolding lessAllMarks
 all-marks-one k rs bs b = refl
 

@@ -1,7 +1,7 @@
 -- What the functions answer and write, by the definitions.
 use mathlib.Core.Path.{_≡_}
-use mathlib.Core.List.{List}
-use Prim.Native.Nat.{ℕ, _*_, _-_, _≤_}
+use mathlib.Core.List.{List, [], _∷_}
+use Prim.Native.Nat.{ℕ, _+_, _*_, _-_, _<_, _≤_}
 use lib.ListN.{length, replicate}
 use lib.IntN.{ℤ, pos}
 use Rattle.records.specs.Lists.{All}
@@ -15,7 +15,10 @@ use Rattle.overlay.specs.declared.Fill.the-variants.{Written}
 use Rattle.overlay.specs.Code.{FilledAs}
 use Rattle.boolean.specs.declared.Folded.{Folded}
 use Rattle.boolean.specs.declared.Folded.the-variants.{Short, Done}
-use Rattle.boolean.specs.Space.{Mark, enough, short, space}
+use Rattle.boolean.specs.declared.Compared.{Compared}
+use Rattle.boolean.specs.declared.Compared.the-variants.{TooShort, Same, Differs}
+use Rattle.boolean.specs.Operations.{difference}
+use Rattle.boolean.specs.Space.{Mark, enough, short, space, equalityMarks}
 
 -- of a tail of n words, for a fold with the result ts and the marks ms: the space was short after so many overlays, and the tail is blank; or
 -- the tail holds ts and is blank past them
@@ -34,6 +37,12 @@ pub record Remaining (d : List ℤ) (n room : ℕ) : Type 0 where
   pub within : n ≤ room
   pub wide : memoryWidth * room ≤ length d
 
+-- a buffer that takes `room` trapezoids holds n of them, and is blank past them
+pub record Holding (d : List ℤ) (n room : ℕ) : Type 0 where
+  pub is : d ≡ image trapezoidCodec (length d) (held d n)
+  pub within : n ≤ room
+  pub wide : memoryWidth * room ≤ length d
+
 -- the trapezoids of a layer's words from number i on
 abbrev pub from : List ℤ → ℕ → List Trapezoid
 from s i = recordsFrom trapezoidCodec (count trapezoidCodec s - i) s i
@@ -43,6 +52,38 @@ pub record Layer (s : List ℤ) : Type 0 where
   pub fit : All (FitFor coordinateLimit) (layerOf s)
   pub few : count trapezoidCodec s ≤ maxRecords
 
+-- ---- the number of overlays
+-- the most that are made for one trapezoid in hand, for a layer of them, and for an operation
+abbrev pub overlaysOfOne : ℕ
+overlaysOfOne = maxRecords * maxRecords + 1
+
+abbrev pub overlaysOfLayer : ℕ
+overlaysOfLayer = maxRecords * overlaysOfOne
+
+abbrev pub maxOverlays : ℕ
+maxOverlays = 2 * overlaysOfLayer
+
+-- an answer with n more
+abbrev pub withOverlays : ℕ → Folded → Folded
+withOverlays n (Short overlays) = Short (n + overlays)
+withOverlays n (Done trapezoids overlays) = Done trapezoids (n + overlays)
+
 abbrev pub OverlaysWithin : ℕ → Folded → Type 0
 OverlaysWithin m (Short overlays) = overlays ≤ m
 OverlaysWithin m (Done trapezoids overlays) = overlays ≤ m
+
+-- ---- equality
+-- the side that trapezoids are left on: 0 if any are left of the first less the second
+abbrev pub Side : List Trapezoid → List Trapezoid → ℕ → Type 0
+Side [] us side = (0 < length us) × (side ≡ 1)
+Side (t ∷ ts) us side = side ≡ 0
+
+abbrev pub ComparedAs : ℕ → List Trapezoid → List Trapezoid → Compared → Type 0
+ComparedAs room A B (TooShort overlays) = space room (equalityMarks A B) ≡ short overlays
+ComparedAs room A B (Same overlays) = (space room (equalityMarks A B) ≡ enough overlays) × (difference A B ≡ []) × (difference B A ≡ [])
+ComparedAs room A B (Differs side overlays) = (space room (equalityMarks A B) ≡ enough overlays) × Side (difference A B) (difference B A) side
+
+abbrev pub ComparedWithin : ℕ → Compared → Type 0
+ComparedWithin m (TooShort overlays) = overlays ≤ m
+ComparedWithin m (Same overlays) = overlays ≤ m
+ComparedWithin m (Differs side overlays) = overlays ≤ m

@@ -2,7 +2,7 @@
 use overlay::Fill;
 use overlay::Placed;
 ghost use mathlib.Core.Path.{_≡_};
-ghost use mathlib.Core.List.{_++_};
+ghost use mathlib.Core.List.{[], _∷_, _++_};
 ghost use Prim.Native.Nat.{_+_, _*_, _<_, _≤_};
 ghost use lib.ListN.{length, take, drop, replicate};
 ghost use lib.IntN.{pos};
@@ -12,15 +12,23 @@ ghost use Rattle.records.specs.Records.{recordAt, count, Blank};
 ghost use Rattle.geometry.specs.Limit.{coordinateLimit};
 ghost use Rattle.geometry.specs.Fitness.{FitFor};
 ghost use Rattle.geometry.specs.Trapezoids.{trapezoidCodec, layerOf};
-ghost use Rattle.overlay.specs.Code.{PlacedAs, Borrowed};
-ghost use Rattle.boolean.specs.Operations.{less, lessAll, common, intersection};
-ghost use Rattle.boolean.specs.Space.{lessMarks, lessAllMarks, commonMarks, intersectionMarks};
-ghost use Rattle.boolean.specs.Code.{from, Layer, OverlaysWithin, held, Remaining, FoldedAs};
+ghost use Rattle.overlay.specs.Code.{PlacedAs, Pair, Borrowed};
+ghost use Rattle.boolean.specs.Operations.{union, either-not-both, codeAt, result, less, lessAll, difference, common, intersection};
+ghost use Rattle.boolean.specs.Space.{addition, enough, space, marks, lessMarks, lessAllMarks, oneMarks, differenceMarks, commonMarks, intersectionMarks};
+ghost use Rattle.boolean.specs.Code.{from, Layer, overlaysOfOne, overlaysOfLayer, maxOverlays, withOverlays, OverlaysWithin, held, Remaining, Holding, FoldedAs, ComparedAs, ComparedWithin};
 
 // What a fold answers: the space was short, after so many overlays; or how many trapezoids it wrote, and the number of overlays.
 pub enum Folded {
     Short(usize),
     Done { trapezoids: usize, overlays: usize },
+}
+
+// What the equality test answers: the space was short; no trapezoid is left on either side; or some are left on side 0 (the
+// first layer less the second), or else on side 1.
+pub enum Compared {
+    TooShort(usize),
+    Same(usize),
+    Differs { side: u32, overlays: usize },
 }
 
 // Each trapezoid in hand, in order, replaced by its parts that are not in b. Those not yet reached count against the room.
@@ -78,10 +86,9 @@ pub fn common_into(a: Placed, layer: &[i32], out: &mut [i32], room: usize) -> Fo
 
 // The parts common to each trapezoid of the first layer, in order, and each of the second.
 pub fn intersection_into(first: &[i32], second: &[i32], out: &mut [i32], room: usize) -> Folded
-    requires { ⌜ All (FitFor coordinateLimit) (layerOf (now first)) × All (FitFor coordinateLimit) (layerOf (now second)) ⌝ }
-    requires { ⌜ (length (now first) ≤ 12288) × (length (now second) ≤ 12288) ⌝ }
-    requires { ⌜ Borrowed (now out) room ⌝ }
+    requires { ⌜ Layer (now first) × Layer (now second) × Borrowed (now out) room ⌝ }
     ensures { λ r. ⌜ FoldedAs (length (now (out .entry))) room (intersection (layerOf (now (first .entry))) (layerOf (now (second .entry)))) (intersectionMarks 0 (layerOf (now (first .entry))) (layerOf (now (second .entry)))) r (now (out .exit)) ⌝ }
+    ensures { λ r. ⌜ OverlaysWithin overlaysOfLayer r ⌝ }
 {
     let n = first.len() / records::MEMORY_WIDTH;
     let mut k = 0;
@@ -112,7 +119,7 @@ pub fn intersection_into(first: &[i32], second: &[i32], out: &mut [i32], room: u
     }
 }
 
-// The first n records of `out` are moved to `work`.
+// The first n records of `out` are moved to `scratch`.
 fn move_into(out: &mut [i32], scratch: &mut [i32], n: usize)
     requires { ⌜ (memoryWidth * n ≤ length (now out)) × (memoryWidth * n ≤ length (now scratch)) ⌝ }
     ensures { λ _. ⌜ now (out .exit) ≡ replicate (memoryWidth * n) (pos 0) ++ drop (memoryWidth * n) (now (out .entry)) ⌝ }
@@ -183,5 +190,266 @@ fn lessen_by_rest(
     Folded::Done {
         trapezoids: k,
         overlays: made,
+    }
+}
+
+// The same answer with more overlays.
+fn more_overlays(n: usize, f: Folded) -> Folded
+    requires { ⌜ (n ≤ maxOverlays) × OverlaysWithin maxOverlays f ⌝ }
+    ensures { λ r. ⌜ r ≡ withOverlays n f ⌝ }
+{
+    match f {
+        Folded::Short(overlays) => Folded::Short(n + overlays),
+        Folded::Done {
+            trapezoids,
+            overlays,
+        } => Folded::Done {
+            trapezoids,
+            overlays: n + overlays,
+        },
+    }
+}
+
+// One trapezoid in hand, less one other.
+fn first_into(a: Placed, b: Placed, out: &mut [i32], room: usize) -> Folded
+    requires { ⌜ Pair a b × Borrowed (now out) room ⌝ }
+    ensures { λ r. ⌜ FoldedAs (length (now (out .entry))) room (less (a .shape ∷ []) (b .shape)) (lessMarks 0 (a .shape ∷ []) (b .shape)) r (now (out .exit)) ⌝ }
+{
+    let f = overlay::overlay_into(a, b, 1, out, room);
+    match f {
+        Fill::NoRoom => Folded::Short(1),
+        Fill::Written(n) => Folded::Done {
+            trapezoids: n,
+            overlays: 1,
+        },
+    }
+}
+
+// One trapezoid added whole.
+fn add_whole(a: Placed, out: &mut [i32], room: usize) -> Folded
+    requires { ⌜ Borrowed (now out) room ⌝ }
+    ensures { λ r. ⌜ FoldedAs (length (now (out .entry))) room (a .shape ∷ []) (addition 1 ∷ []) r (now (out .exit)) ⌝ }
+{
+    if room == 0 {
+        return Folded::Short(0);
+    }
+    geometry::store(out, a.shape);
+    Folded::Done {
+        trapezoids: 1,
+        overlays: 0,
+    }
+}
+
+// One trapezoid in hand, less a layer, and what remains of it added.
+fn one_into(a: Placed, layer: &[i32], out: &mut [i32], scratch: &mut [i32], room: usize) -> Folded
+    requires { ⌜ PlacedAs (a .shape) a × Layer (now layer) × Borrowed (now out) room × (room ≤ maxRecords) ⌝ }
+    requires { ⌜ Blank (pos 0) (now scratch) × (length (now scratch) ≡ length (now out)) ⌝ }
+    ensures { λ r. ⌜ FoldedAs (length (now (out .entry))) room (lessAll (a .shape ∷ []) (layerOf (now (layer .entry)))) (oneMarks 0 (a .shape) (layerOf (now (layer .entry)))) r (now (out .exit)) ⌝ }
+    ensures { λ r. ⌜ OverlaysWithin overlaysOfOne r ⌝ }
+    ensures { λ _. ⌜ Blank (pos 0) (now (scratch .exit)) ⌝ }
+{
+    if layer.len() < records::MEMORY_WIDTH {
+        return add_whole(a, out, room);
+    }
+    let b = placed_at(layer, 0);
+    let f = first_into(a, b, out, room);
+    let Folded::Done {
+        trapezoids: n,
+        overlays: made,
+    } = f
+    else {
+        return f;
+    };
+    let g = lessen_by_rest(layer, n, out, scratch, room);
+    more_overlays(made, g)
+}
+
+// The trapezoids of the first layer, each less the second layer, added past the `start` trapezoids that `out` holds.
+fn difference_into(
+    start: usize,
+    first: &[i32],
+    second: &[i32],
+    out: &mut [i32],
+    scratch: &mut [i32],
+    room: usize,
+) -> Folded
+    requires { ⌜ Layer (now first) × Layer (now second) × Holding (now out) start room × (room ≤ maxRecords) ⌝ }
+    requires { ⌜ Blank (pos 0) (now scratch) × (length (now scratch) ≡ length (now out)) ⌝ }
+    ensures { λ r. ⌜ FoldedAs (length (now (out .entry))) room (held (now (out .entry)) start ++ difference (layerOf (now (first .entry))) (layerOf (now (second .entry)))) (differenceMarks start (layerOf (now (first .entry))) (layerOf (now (second .entry)))) r (now (out .exit)) ⌝ }
+    ensures { λ r. ⌜ OverlaysWithin overlaysOfLayer r ⌝ }
+    ensures { λ _. ⌜ Blank (pos 0) (now (scratch .exit)) ⌝ }
+{
+    let n = first.len() / records::MEMORY_WIDTH;
+    let mut k = start;
+    let mut made = 0;
+    let mut i = 0;
+    while i < n {
+        let a = placed_at(first, i);
+        let free = records::MEMORY_WIDTH * k;
+        let f = one_into(a, second, &mut out[free..], &mut scratch[free..], room - k);
+        match f {
+            Folded::Short(overlays) => {
+                records::clear(out);
+                return Folded::Short(made + overlays);
+            }
+            Folded::Done {
+                trapezoids,
+                overlays,
+            } => {
+                k += trapezoids;
+                made += overlays;
+            }
+        }
+        i += 1;
+    }
+    Folded::Done {
+        trapezoids: k,
+        overlays: made,
+    }
+}
+
+// The first layer, and then the second less the first.
+fn union_into(
+    first: &[i32],
+    second: &[i32],
+    out: &mut [i32],
+    scratch: &mut [i32],
+    room: usize,
+) -> Folded
+    requires { ⌜ Layer (now first) × Layer (now second) × Borrowed (now out) room × (room ≤ maxRecords) ⌝ }
+    requires { ⌜ Blank (pos 0) (now scratch) × (length (now scratch) ≡ length (now out)) ⌝ }
+    ensures { λ r. ⌜ FoldedAs (length (now (out .entry))) room (result union (layerOf (now (first .entry))) (layerOf (now (second .entry)))) (marks union (layerOf (now (first .entry))) (layerOf (now (second .entry)))) r (now (out .exit)) ⌝ }
+    ensures { λ r. ⌜ OverlaysWithin overlaysOfLayer r ⌝ }
+    ensures { λ _. ⌜ Blank (pos 0) (now (scratch .exit)) ⌝ }
+{
+    let n = first.len() / records::MEMORY_WIDTH;
+    if room < n {
+        return Folded::Short(0);
+    }
+    let end = records::MEMORY_WIDTH * n;
+    records::copy(&first[..end], &mut out[..end]);
+    difference_into(n, second, first, out, scratch, room)
+}
+
+// The first layer less the second, and then the second less the first.
+fn either_into(
+    first: &[i32],
+    second: &[i32],
+    out: &mut [i32],
+    scratch: &mut [i32],
+    room: usize,
+) -> Folded
+    requires { ⌜ Layer (now first) × Layer (now second) × Borrowed (now out) room × (room ≤ maxRecords) ⌝ }
+    requires { ⌜ Blank (pos 0) (now scratch) × (length (now scratch) ≡ length (now out)) ⌝ }
+    ensures { λ r. ⌜ FoldedAs (length (now (out .entry))) room (result either-not-both (layerOf (now (first .entry))) (layerOf (now (second .entry)))) (marks either-not-both (layerOf (now (first .entry))) (layerOf (now (second .entry)))) r (now (out .exit)) ⌝ }
+    ensures { λ r. ⌜ OverlaysWithin maxOverlays r ⌝ }
+    ensures { λ _. ⌜ Blank (pos 0) (now (scratch .exit)) ⌝ }
+{
+    let f = difference_into(0, first, second, out, scratch, room);
+    let Folded::Done {
+        trapezoids: n,
+        overlays: made,
+    } = f
+    else {
+        return f;
+    };
+    let g = difference_into(n, second, first, out, scratch, room);
+    more_overlays(made, g)
+}
+
+// The set operation with the code's number.
+pub fn combine_into(
+    code: u32,
+    first: &[i32],
+    second: &[i32],
+    out: &mut [i32],
+    scratch: &mut [i32],
+    room: usize,
+) -> Folded
+    requires { ⌜ (code < 5) × Layer (now first) × Layer (now second) ⌝ }
+    requires { ⌜ Borrowed (now out) room × (room ≤ maxRecords) ⌝ }
+    requires { ⌜ Blank (pos 0) (now scratch) × (length (now scratch) ≡ length (now out)) ⌝ }
+    ensures { λ r. ⌜ FoldedAs (length (now (out .entry))) room (result (codeAt code) (layerOf (now (first .entry))) (layerOf (now (second .entry)))) (marks (codeAt code) (layerOf (now (first .entry))) (layerOf (now (second .entry)))) r (now (out .exit)) ⌝ }
+    ensures { λ r. ⌜ OverlaysWithin maxOverlays r ⌝ }
+    ensures { λ _. ⌜ Blank (pos 0) (now (scratch .exit)) ⌝ }
+{
+    if code == 0 {
+        return union_into(first, second, out, scratch, room);
+    }
+    if code == 1 {
+        return intersection_into(first, second, out, room);
+    }
+    if code == 2 {
+        return difference_into(0, first, second, out, scratch, room);
+    }
+    if code == 3 {
+        return difference_into(0, second, first, out, scratch, room);
+    }
+    either_into(first, second, out, scratch, room)
+}
+
+// The equality test where nothing is left of the first layer less the second, which took `made` overlays.
+fn second_side(
+    made: usize,
+    first: &[i32],
+    second: &[i32],
+    out: &mut [i32],
+    scratch: &mut [i32],
+    room: usize,
+) -> Compared
+    requires { ⌜ Layer (now first) × Layer (now second) × Borrowed (now out) room × (room ≤ maxRecords) ⌝ }
+    requires { ⌜ Blank (pos 0) (now scratch) × (length (now scratch) ≡ length (now out)) ⌝ }
+    requires { ⌜ (difference (layerOf (now first)) (layerOf (now second)) ≡ []) × (space room (differenceMarks 0 (layerOf (now first)) (layerOf (now second))) ≡ enough made) × (made ≤ overlaysOfLayer) ⌝ }
+    ensures { λ r. ⌜ ComparedAs room (layerOf (now (first .entry))) (layerOf (now (second .entry))) r ⌝ }
+    ensures { λ r. ⌜ ComparedWithin maxOverlays r ⌝ }
+    ensures { λ _. ⌜ Blank (pos 0) (now (out .exit)) × Blank (pos 0) (now (scratch .exit)) ⌝ }
+{
+    let f = difference_into(0, second, first, out, scratch, room);
+    match f {
+        Folded::Short(overlays) => Compared::TooShort(made + overlays),
+        Folded::Done {
+            trapezoids,
+            overlays,
+        } => {
+            records::clear(out);
+            if trapezoids == 0 {
+                return Compared::Same(made + overlays);
+            }
+            Compared::Differs {
+                side: 1,
+                overlays: made + overlays,
+            }
+        }
+    }
+}
+
+// Whether no point lies in one of the layers and not in the other.
+pub fn equal_into(
+    first: &[i32],
+    second: &[i32],
+    out: &mut [i32],
+    scratch: &mut [i32],
+    room: usize,
+) -> Compared
+    requires { ⌜ Layer (now first) × Layer (now second) ⌝ }
+    requires { ⌜ Borrowed (now out) room × (room ≤ maxRecords) ⌝ }
+    requires { ⌜ Blank (pos 0) (now scratch) × (length (now scratch) ≡ length (now out)) ⌝ }
+    ensures { λ r. ⌜ ComparedAs room (layerOf (now (first .entry))) (layerOf (now (second .entry))) r ⌝ }
+    ensures { λ r. ⌜ ComparedWithin maxOverlays r ⌝ }
+    ensures { λ _. ⌜ Blank (pos 0) (now (out .exit)) × Blank (pos 0) (now (scratch .exit)) ⌝ }
+{
+    let f = difference_into(0, first, second, out, scratch, room);
+    match f {
+        Folded::Short(overlays) => Compared::TooShort(overlays),
+        Folded::Done {
+            trapezoids,
+            overlays,
+        } => {
+            records::clear(out);
+            if trapezoids == 0 {
+                return second_side(overlays, first, second, out, scratch, room);
+            }
+            Compared::Differs { side: 0, overlays }
+        }
     }
 }

@@ -1,54 +1,97 @@
--- All that is promised of a chain.
-use mathlib.Core.Path.{sym, subst}
+-- All that is promised of a chain, and of two chains from one start.
+use mathlib.Core.Path.{_≡_, sym, _∙_, ap, subst}
+use mathlib.Core.Bool.{Bool}
 use mathlib.Core.List.{List}
 use Prim.Native.Nat.{ℕ}
 use lib.Dec.{T}
-use lib.ListN.{length-map}
+use lib.ListN.{length, drop, length-map}
 use Rattle.records.specs.Lists.{All}
-use Rattle.geometry.specs.Limit.{coordinateLimit}
-use Rattle.geometry.specs.Trapezoids.{Disjoint}
-use Rattle.boolean.specs.Statements.{SamePoints}
-use Rattle.boolean.proofs.Equality.{equality-exact}
-use Rattle.chains.specs.Chains.{Layer, layerAt, Step, run, liesInLayer, fed, merged}
-use Rattle.chains.specs.Statements.{AgreeAcross, Promised, Joined, EveryChain}
-use Rattle.chains.proofs.Steps.{run-disjoint, run-kept, results-fit}
+use Rattle.geometry.specs.Points.{Point, IsPoint}
+use Rattle.geometry.specs.Trapezoids.{layerOf, LiesInLayer}
+use Rattle.boolean.specs.Operations.{liesInLayer}
+use Rattle.boolean.specs.Statements.{IsYes, SamePoints}
+use Rattle.chains.specs.Chains.{Layer, layerAt, run, Step, told, evaluate, Call, stepsOf, held, Contracts, entryAt, fed, tally, merged}
+use Rattle.chains.specs.Statements.{DisjointLayer, FitLayer, startingTrapezoids, Agree, NeverDiffers, Promised, Joined, EveryChain}
+use Rattle.chains.proofs.Steps.{run-disjoint, found-fit}
+use Rattle.chains.proofs.Calls.{held-runs, calls-defined, held-kept}
 use Rattle.chains.proofs.Points.{run-points, evaluate-length}
-use Rattle.chains.proofs.Lines.{run-lines}
-use Rattle.chains.proofs.Merged.{merged-holds, first-layer, second-layer, first-entry, second-entry}
+use Rattle.chains.proofs.Lines.{LayerLines, run-lines}
+use Rattle.chains.proofs.Merged.{mergedSteps, merged-holds, first-layer, second-layer, first-entry, second-entry}
+use Rattle.chains.proofs.Contracts.{merged-contracts, merged-steps}
+use Rattle.chains.proofs.Same.{same-exactly, never-differs}
+
+-- ---- points
+held-points : (start : List Layer) (calls : List Call) → Contracts start calls → (P : Point) → IsPoint P → (n : ℕ)
+    → IsYes (entryAt (tally (fed P start) start calls) n) (LiesInLayer P (layerOf (layerAt (held start calls) n)))
+held-points start calls h P hP n =
+    subst (λ (now : List Layer). IsYes (entryAt (tally (fed P start) start calls) n) (LiesInLayer P (layerOf (layerAt now n)))) (sym (held-runs start calls h)) (run-points P hP start (stepsOf calls) n)
 
 -- layers whose set expressions agree have the same points
-pub agree-points : (start : List Layer) (one two : List Step) (m n : ℕ) → AgreeAcross start one two m n → SamePoints (layerAt (run start one) m) (layerAt (run start two) n)
-agree-points start one two m n h P hP =
-    let e = h (fed P start) (length-map start (liesInLayer P)) in
-    let a = run-points P hP start one m in
-    let b = run-points P hP start two n in
+agree-points : (start : List Layer) (one two : List Call) → Contracts start one → Contracts start two → (m n : ℕ) → Agree start one two m n
+    → SamePoints (layerOf (layerAt (held start one) m)) (layerOf (layerAt (held start two) n))
+agree-points start one two h k m n agree P hP =
+    let e = agree (fed P start) (length-map start (λ (A : Layer). liesInLayer P (layerOf A))) in
+    let a = held-points start one h P hP m in
+    let b = held-points start two k P hP n in
     ((λ x. b .0 (subst T e (a .1 x))), (λ y. a .0 (subst T (sym e) (b .1 y))))
 
-promised : (start : List Layer) → All Disjoint start → (steps : List Step) → Promised start steps
-promised start disjoint steps =
+agreed : (start : List Layer) (one two : List Call) → Contracts start one → Contracts start two → (m n : ℕ) → Agree start one two m n
+    → NeverDiffers (layerAt (held start one) m) (layerAt (held start two) n)
+agreed start one two h k m n agree = never-differs (layerAt (held start one) m) (layerAt (held start two) n) (agree-points start one two h k m n agree)
+
+-- ---- one chain
+promised : (start : List Layer) → All DisjointLayer start → (calls : List Call) → Contracts start calls → Promised start calls
+promised start disjoint calls h =
+    let are = held-runs start calls h in
     record {
-      kept = run-kept start steps;
-      points = λ P hP n. run-points P hP start steps n;
-      entries = λ ys e. evaluate-length ys start steps e;
-      disjoint = run-disjoint start steps disjoint;
-      lines = run-lines start steps;
-      fit = results-fit start steps;
-      same = λ m n hm hn. equality-exact coordinateLimit (layerAt (run start steps) m) (layerAt (run start steps) n) hm hn;
-      agreed = λ m n hm hn h. equality-exact coordinateLimit (layerAt (run start steps) m) (layerAt (run start steps) n) hm hn .1 (agree-points start steps steps m n h);
+      defined = calls-defined start calls h;
+      are = are;
+      unchanged = held-kept start calls h;
+      points = held-points start calls h;
+      entries = λ ys e. evaluate-length ys start (stepsOf calls) e ∙ ap length (sym are);
+      disjoint = subst (All DisjointLayer) (sym are) (run-disjoint start (stepsOf calls) disjoint);
+      lines = subst (All (LayerLines (startingTrapezoids start))) (sym are) (run-lines start (stepsOf calls));
+      fit = subst (λ (now : List Layer). All FitLayer (drop (length start) now)) (sym are) (found-fit start (stepsOf calls));
+      same = λ m n. same-exactly (layerAt (held start calls) m) (layerAt (held start calls) n);
+      agreed = agreed start calls calls h h;
     }
 
-joined : (start : List Layer) → All Disjoint start → (one two : List Step) → Joined start one two
-joined start disjoint one two =
-    record {
-      promised = promised start disjoint (merged start one two);
-      holds = merged-holds start one two;
-      first-layer = first-layer start one two;
-      second-layer = second-layer start one two;
-      first-entry = first-entry start one two;
-      second-entry = second-entry start one two;
-      same = λ m n hm hn. equality-exact coordinateLimit (layerAt (run start one) m) (layerAt (run start two) n) hm hn;
-      agreed = λ m n hm hn h. equality-exact coordinateLimit (layerAt (run start one) m) (layerAt (run start two) n) hm hn .1 (agree-points start one two m n h);
-    }
+-- ---- two chains
+module _ (start : List Layer) (one two : List Call) (h : Contracts start one) (k : Contracts start two) where
+  abbrev both : List Call
+  both = merged start one two
+
+  abbrev steps : List Step
+  steps = mergedSteps start (stepsOf one) (stepsOf two)
+
+  contracts : Contracts start both
+  contracts = merged-contracts start one two h k
+
+  held-one : held start one ≡ run start (stepsOf one)
+  held-one = held-runs start one h
+
+  held-two : held start two ≡ run start (stepsOf two)
+  held-two = held-runs start two k
+
+  held-both : held start both ≡ run start steps
+  held-both = held-runs start both contracts ∙ ap (run start) (merged-steps start one two h)
+
+  tally-both : (ys : List Bool) → tally ys start both ≡ evaluate ys (told start steps)
+  tally-both ys = ap (λ (ss : List Step). evaluate ys (told start ss)) (merged-steps start one two h)
+
+  joined : All DisjointLayer start → Joined start one two
+  joined disjoint =
+      record {
+        contracts = contracts;
+        promised = promised start disjoint both contracts;
+        holds = rw (held-both, held-one, held-two) (merged-holds start (stepsOf one) (stepsOf two));
+        first-layer = λ n l. rw (held-both, held-one) (first-layer start (stepsOf one) (stepsOf two) n (rw held-one at l));
+        second-layer = λ n. rw (held-both, held-one, held-two) (second-layer start (stepsOf one) (stepsOf two) n);
+        first-entry = λ ys e n l. rw (tally-both ys) (first-entry start (stepsOf one) (stepsOf two) ys e n (rw held-one at l));
+        second-entry = λ ys e n. rw (tally-both ys, held-one) (second-entry start (stepsOf one) (stepsOf two) ys e n);
+        same = λ m n. same-exactly (layerAt (held start one) m) (layerAt (held start two) n);
+        agreed = agreed start one two h k;
+      }
 
 pub every-chain : EveryChain
-every-chain start disjoint = (promised start disjoint, joined start disjoint)
+every-chain start disjoint = (promised start disjoint, λ one two h k. joined start one two h k disjoint)

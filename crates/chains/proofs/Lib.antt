@@ -1,8 +1,12 @@
 pub mod Lists
 pub mod Room
+pub mod Success
 pub mod Steps
+pub mod Calls
 pub mod Points
 pub mod Lines
 pub mod Raised
 pub mod Merged
+pub mod Contracts
+pub mod Same
 pub mod Chains

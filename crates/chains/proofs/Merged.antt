@@ -5,10 +5,10 @@ use mathlib.Core.List.{List, [], _∷_, _++_, map, append-assoc, append-nil}
 use Prim.Native.Nat.{ℕ, _<_}
 use native.Mathlib.Omega.{arith}
 use lib.ListN.{length, drop, length-append, List·getD-append}
-use Rattle.chains.specs.Chains.{Layer, layerAt, Step, succeeds, added, resultOf, stepped, run, results, Told, toldOf, told, entryAt, said, evaluate, raised, renumbered, merged}
+use Rattle.chains.specs.Chains.{Layer, layerAt, Step, outcomeOf, called, succeeds, added, resultOf, stepped, run, Told, toldOf, told, entryAt, said, evaluate, raised, renumberedStep}
 use Rattle.chains.proofs.Lists.{drop-front}
 use Rattle.chains.proofs.Raised.{added-append, raised-at, raised-in}
-use Rattle.chains.proofs.Steps.{run-kept}
+use Rattle.chains.proofs.Steps.{found, run-kept}
 use Rattle.chains.proofs.Points.{evaluate-length}
 
 -- ---- the steps of one list after those of another
@@ -29,30 +29,29 @@ evaluate-append entries (s ∷ ss) ts = evaluate-append (added (s .success) entr
 
 -- ---- steps, alone and with the layers `other` put in after the starting layers
 module _ (start other : List Layer) where
-  abbrev joined : List Layer → List Layer
+  abbrev pub joined : List Layer → List Layer
   joined more = (start ++ other) ++ more
 
-  abbrev renamed : Step → Step
-  renamed s = renumbered (length start) (length other) s
+  abbrev pub renamed : Step → Step
+  renamed s = renumberedStep (length start) (length other) s
 
-  renamed-succeeds : (more : List Layer) (s : Step) → succeeds (joined more) (renamed s) ≡ succeeds (start ++ more) s
-  unfolding succeeds
-  renamed-succeeds more s =
-      rw (raised-in start other more (s .first), raised-in start other more (s .second), raised-at start other more (s .first) [], raised-at start other more (s .second) []) refl
+  pub renamed-called : (more : List Layer) (s : Step) → called (joined more) (renamed s) ≡ called (start ++ more) s
+  unfolding called
+  renamed-called more s = rw (raised-in start other more (s .first), raised-in start other more (s .second)) refl
 
-  renamed-result : (more : List Layer) (s : Step) → resultOf (joined more) (renamed s) ≡ resultOf (start ++ more) s
-  unfolding resultOf
-  renamed-result more s = rw (raised-at start other more (s .first) [], raised-at start other more (s .second) []) refl
+  pub renamed-outcome : (more : List Layer) (s : Step) → outcomeOf (joined more) (renamed s) ≡ outcomeOf (start ++ more) s
+  unfolding outcomeOf
+  renamed-outcome more s = rw (raised-at start other more (s .first) [], raised-at start other more (s .second) []) refl
 
   -- what a step adds
-  abbrev grown : List Layer → Step → List Layer
-  grown more s = added (succeeds (start ++ more) s) more (resultOf (start ++ more) s)
+  abbrev after : List Layer → Step → List Layer
+  after more s = added (succeeds (start ++ more) s) more (resultOf (start ++ more) s)
 
-  renamed-stepped : (more : List Layer) (s : Step) → stepped (joined more) (renamed s) ≡ joined (grown more s)
+  renamed-stepped : (more : List Layer) (s : Step) → stepped (joined more) (renamed s) ≡ joined (after more s)
   renamed-stepped more s =
-      rw (renamed-succeeds more s, renamed-result more s) (added-append (succeeds (start ++ more) s) (start ++ other) more (resultOf (start ++ more) s))
+      rw (renamed-called more s, renamed-outcome more s) (added-append (succeeds (start ++ more) s) (start ++ other) more (resultOf (start ++ more) s))
 
-  alone-stepped : (more : List Layer) (s : Step) → stepped (start ++ more) s ≡ start ++ grown more s
+  alone-stepped : (more : List Layer) (s : Step) → stepped (start ++ more) s ≡ start ++ after more s
   alone-stepped more s = added-append (succeeds (start ++ more) s) start more (resultOf (start ++ more) s)
 
   record Adds (more : List Layer) (steps : List Step) : Type 0 where
@@ -64,7 +63,7 @@ module _ (start other : List Layer) where
   unfolding run
   adds more [] = record { all = more; with-other = refl; alone = refl }
   adds more (s ∷ steps) =
-      let k = adds (grown more s) steps in
+      let k = adds (after more s) steps in
       record {
         all = k .all;
         with-other = ap (λ (layers : List Layer). run layers (map renamed steps)) (renamed-stepped more s) ∙ k .with-other;
@@ -81,8 +80,8 @@ told-renamed : (start other more : List Layer) (steps : List Step)
 unfolding told
 told-renamed start other more [] = refl
 told-renamed start other more (s ∷ steps) =
-    rw (renamed-succeeds start other more s, renamed-result start other more s, added-append (succeeds (start ++ more) s) (start ++ other) more (resultOf (start ++ more) s), alone-stepped start other more s)
-    (ap (λ (ts : List Told). toldOf (renamed start other s) (succeeds (start ++ more) s) ∷ ts) (told-renamed start other (grown start other more s) steps))
+    rw (renamed-called start other more s, renamed-outcome start other more s, added-append (succeeds (start ++ more) s) (start ++ other) more (resultOf (start ++ more) s), alone-stepped start other more s)
+    (ap (λ (ts : List Told). toldOf (renamed start other s) (succeeds (start ++ more) s) ∷ ts) (told-renamed start other (after start other more s) steps))
 
 module _ (fedOnes others : List Bool) where
   record Entries (more : List Bool) (ts : List Told) : Type 0 where
@@ -121,7 +120,10 @@ evaluate-grows ys (t ∷ ts) = go (t .success) (λ b. evaluate-grows (added b ys
 -- ---- two chains
 module _ (start : List Layer) (one two : List Step) where
   abbrev other : List Layer
-  other = results start one
+  other = found start one
+
+  abbrev pub mergedSteps : List Step
+  mergedSteps = one ++ map (renamed start other) two
 
   k : Adds start other [] two
   k = adds start other [] two
@@ -129,7 +131,7 @@ module _ (start : List Layer) (one two : List Step) where
   after-one : run start one ≡ joined start other []
   after-one = run-kept start one ∙ sym (append-nil (start ++ other))
 
-  both : run start (merged start one two) ≡ joined start other (k .all)
+  both : run start mergedSteps ≡ joined start other (k .all)
   both =
       run-append start one (map (renamed start other) two)
       ∙ ap (λ (layers : List Layer). run layers (map (renamed start other) two)) after-one
@@ -138,19 +140,19 @@ module _ (start : List Layer) (one two : List Step) where
   alone : run start two ≡ start ++ k .all
   alone = ap (λ (layers : List Layer). run layers two) (sym (append-nil start)) ∙ k .alone
 
-  added-are : results start two ≡ k .all
+  added-are : found start two ≡ k .all
   added-are = ap (drop (length start)) alone ∙ drop-front start (k .all)
 
-  pub merged-holds : run start (merged start one two) ≡ run start one ++ results start two
+  pub merged-holds : run start mergedSteps ≡ run start one ++ found start two
   merged-holds =
       both
       ∙ ap (λ (layers : List Layer). layers ++ k .all) (sym (run-kept start one))
       ∙ ap (λ (more : List Layer). run start one ++ more) (sym added-are)
 
-  pub first-layer : (n : ℕ) → n < length (run start one) → layerAt (run start (merged start one two)) n ≡ layerAt (run start one) n
-  first-layer n h = ap (λ (layers : List Layer). layerAt layers n) merged-holds ∙ List·getD-append (run start one) (results start two) [] n h
+  pub first-layer : (n : ℕ) → n < length (run start one) → layerAt (run start mergedSteps) n ≡ layerAt (run start one) n
+  first-layer n h = ap (λ (layers : List Layer). layerAt layers n) merged-holds ∙ List·getD-append (run start one) (found start two) [] n h
 
-  pub second-layer : (n : ℕ) → layerAt (run start (merged start one two)) (raised (length start) (length (results start one)) n) ≡ layerAt (run start two) n
+  pub second-layer : (n : ℕ) → layerAt (run start mergedSteps) (raised (length start) (length (found start one)) n) ≡ layerAt (run start two) n
   second-layer n =
       ap (λ (layers : List Layer). layerAt layers (raised (length start) (length other) n)) both
       ∙ raised-at start other (k .all) n []
@@ -179,7 +181,7 @@ module _ (start : List Layer) (one two : List Step) where
     i : Entries ys (g .more) [] (told start two)
     i = entries ys (g .more) [] (told start two)
 
-    both-told : evaluate ys (told start (merged start one two)) ≡ (ys ++ g .more) ++ i .all
+    both-told : evaluate ys (told start mergedSteps) ≡ (ys ++ g .more) ++ i .all
     both-told =
         ap (evaluate ys) (told-append start one (map (renamed start other) two))
         ∙ evaluate-append ys (told start one) (told (run start one) (map (renamed start other) two))
@@ -190,7 +192,7 @@ module _ (start : List Layer) (one two : List Step) where
     alone-told : evaluate ys (told start two) ≡ ys ++ i .all
     alone-told = ap (λ (now : List Bool). evaluate now (told start two)) (sym (append-nil ys)) ∙ i .alone
 
-    pub first-entry : (n : ℕ) → n < length (run start one) → entryAt (evaluate ys (told start (merged start one two))) n ≡ entryAt (evaluate ys (told start one)) n
+    pub first-entry : (n : ℕ) → n < length (run start one) → entryAt (evaluate ys (told start mergedSteps)) n ≡ entryAt (evaluate ys (told start one)) n
     first-entry n h =
         let l = evaluate-length ys start one e in
         let a = ap length (g .is) in
@@ -198,7 +200,7 @@ module _ (start : List Layer) (one two : List Step) where
         ap (λ (now : List Bool). entryAt now n) both-told ∙ List·getD-append (ys ++ g .more) (i .all) false n m ∙ ap (λ (now : List Bool). entryAt now n) (sym (g .is))
 
     pub second-entry : (n : ℕ)
-        → entryAt (evaluate ys (told start (merged start one two))) (raised (length start) (length (results start one)) n) ≡ entryAt (evaluate ys (told start two)) n
+        → entryAt (evaluate ys (told start mergedSteps)) (raised (length start) (length (found start one)) n) ≡ entryAt (evaluate ys (told start two)) n
     second-entry n =
         ap (λ (now : List Bool). entryAt now (raised (length start) (length other) n)) both-told
         ∙ ap (λ (j : ℕ). entryAt ((ys ++ g .more) ++ i .all) (raised j (length other) n)) (sym e)

@@ -1,20 +1,23 @@
--- The tally tells of each held layer whether a point lies in it.
-use mathlib.Core.Path.{_≡_, sym, _∙_, ap}
+-- The tally tells of each layer of a chain whether a point lies in it.
+use mathlib.Core.Path.{_≡_, refl, sym, subst, _∙_, ap}
 use mathlib.Core.Bool.{Bool, true, false, _||_}
 use mathlib.Core.List.{List, [], _∷_, _++_}
 use mathlib.Core.Logic.{_⊎_, inl, inr}
 use Prim.Native.Nat.{ℕ, zero, suc, _+_}
 use lib.Dec.{T}
 use lib.ListN.{length, length-append}
+use Rattle.records.specs.Records.{recordsFrom}
 use Rattle.geometry.specs.Limit.{coordinateLimit}
 use Rattle.geometry.specs.Points.{Point, IsPoint}
-use Rattle.geometry.specs.Trapezoids.{liesIn, LiesInLayer}
+use Rattle.geometry.specs.declared.Trapezoid.{Trapezoid}
+use Rattle.geometry.specs.Trapezoids.{layerOf, liesIn, LiesInLayer}
+use Rattle.boolean.specs.Operations.{codeAt, liesInLayer}
 use Rattle.boolean.specs.Statements.{IsYes}
 use Rattle.boolean.proofs.Results.{result-exact}
-use Rattle.chains.specs.Chains.{Layer, layerAt, Step, succeeds, added, resultOf, stepped, run, toldOf, told, entryAt, said, evaluate, liesInLayer, fed}
-use Rattle.chains.proofs.Steps.{success-gives}
+use Rattle.chains.specs.Chains.{Layer, layerAt, Step, succeeds, added, resultOf, stepped, run, toldOf, told, entryAt, said, evaluate, fed}
+use Rattle.chains.proofs.Success.{success-gives}
 
-pub lies-exact : (P : Point) (A : Layer) → IsYes (liesInLayer P A) (LiesInLayer P A)
+lies-exact : (P : Point) (A : List Trapezoid) → IsYes (liesInLayer P A) (LiesInLayer P A)
 lies-exact P [] = ((λ h. h), (λ h. h))
 lies-exact P (t ∷ A) = go (liesIn P t) (liesInLayer P A) (lies-exact P A)
   where
@@ -27,20 +30,24 @@ abbrev Tells : Point → List Bool → List Layer → Type 0
 Tells P [] [] = Unit {0}
 Tells P [] (A ∷ layers) = ⊥
 Tells P (y ∷ ys) [] = ⊥
-Tells P (y ∷ ys) (A ∷ layers) = IsYes y (LiesInLayer P A) × Tells P ys layers
+Tells P (y ∷ ys) (A ∷ layers) = IsYes y (LiesInLayer P (layerOf A)) × Tells P ys layers
 
 tells-fed : (P : Point) (layers : List Layer) → Tells P (fed P layers) layers
 tells-fed P [] = tt
-tells-fed P (A ∷ layers) = (lies-exact P A, tells-fed P layers)
+tells-fed P (A ∷ layers) = (lies-exact P (layerOf A), tells-fed P layers)
 
-tells-at : (P : Point) (ys : List Bool) (layers : List Layer) → Tells P ys layers → (n : ℕ) → IsYes (entryAt ys n) (LiesInLayer P (layerAt layers n))
-tells-at P [] [] h n = ((λ k. k), (λ k. k))
+no-words : layerOf [] ≡ []
+unfolding recordsFrom
+no-words = refl
+
+tells-at : (P : Point) (ys : List Bool) (layers : List Layer) → Tells P ys layers → (n : ℕ) → IsYes (entryAt ys n) (LiesInLayer P (layerOf (layerAt layers n)))
+tells-at P [] [] h n = ((λ k. absurd k), (λ k. absurd (subst (LiesInLayer P) no-words k)))
 tells-at P [] (A ∷ layers) h n = absurd h
 tells-at P (y ∷ ys) [] h n = absurd h
 tells-at P (y ∷ ys) (A ∷ layers) h zero = h .0
 tells-at P (y ∷ ys) (A ∷ layers) h (suc n) = tells-at P ys layers (h .1) n
 
-tells-more : (P : Point) (ys : List Bool) (layers : List Layer) (y : Bool) (A : Layer) → Tells P ys layers → IsYes y (LiesInLayer P A)
+tells-more : (P : Point) (ys : List Bool) (layers : List Layer) (y : Bool) (A : Layer) → Tells P ys layers → IsYes y (LiesInLayer P (layerOf A))
     → Tells P (ys ++ (y ∷ [])) (layers ++ (A ∷ []))
 tells-more P [] [] y A h k = (k, tt)
 tells-more P [] (B ∷ layers) y A h k = absurd h
@@ -50,15 +57,15 @@ tells-more P (x ∷ ys) (B ∷ layers) y A h k = (h .0, tells-more P ys layers y
 module _ (P : Point) (hP : IsPoint P) where
   -- a success's entry tells of its result
   tells-result : (ys : List Bool) (layers : List Layer) (s : Step) → Tells P ys layers → T (succeeds layers s)
-      → IsYes (said ys (toldOf s (succeeds layers s))) (LiesInLayer P (resultOf layers s))
-  unfolding resultOf
+      → IsYes (said ys (toldOf s (succeeds layers s))) (LiesInLayer P (layerOf (resultOf layers s)))
   tells-result ys layers s h t =
       let k = success-gives layers s t .call in
-      result-exact coordinateLimit (layerAt layers (s .first)) (layerAt layers (s .second)) (k .first) (k .second) P hP (s .code) (entryAt ys (s .first)) (entryAt ys (s .second))
+      subst (λ (ts : List Trapezoid). IsYes (said ys (toldOf s (succeeds layers s))) (LiesInLayer P ts)) (sym (k .is))
+      (result-exact coordinateLimit (layerOf (layerAt layers (s .first))) (layerOf (layerAt layers (s .second))) (k .first) (k .second) P hP (codeAt (s .code)) (entryAt ys (s .first)) (entryAt ys (s .second))
       (tells-at P ys layers h (s .first))
-      (tells-at P ys layers h (s .second))
+      (tells-at P ys layers h (s .second)))
 
-  tells-added : (b : Bool) (ys : List Bool) (layers : List Layer) (y : Bool) (A : Layer) → Tells P ys layers → (T b → IsYes y (LiesInLayer P A))
+  tells-added : (b : Bool) (ys : List Bool) (layers : List Layer) (y : Bool) (A : Layer) → Tells P ys layers → (T b → IsYes y (LiesInLayer P (layerOf A)))
       → Tells P (added b ys y) (added b layers A)
   tells-added true ys layers y A h f = tells-more P ys layers y A h (f tt)
   tells-added false ys layers y A h f = h
@@ -70,10 +77,10 @@ module _ (P : Point) (hP : IsPoint P) where
       tells-run (added (succeeds layers s) ys (said ys (toldOf s (succeeds layers s)))) (stepped layers s) steps
       (tells-added (succeeds layers s) ys layers _ (resultOf layers s) h (tells-result ys layers s h))
 
-  pub run-points : (start : List Layer) (steps : List Step) (n : ℕ) → IsYes (entryAt (evaluate (fed P start) (told start steps)) n) (LiesInLayer P (layerAt (run start steps) n))
+  pub run-points : (start : List Layer) (steps : List Step) (n : ℕ) → IsYes (entryAt (evaluate (fed P start) (told start steps)) n) (LiesInLayer P (layerOf (layerAt (run start steps) n)))
   run-points start steps n = tells-at P (evaluate (fed P start) (told start steps)) (run start steps) (tells-run (fed P start) start steps (tells-fed P start)) n
 
--- ---- the tally has an entry for each held layer
+-- ---- the tally has an entry for each layer
 added-length : (b : Bool) (ys : List Bool) (layers : List Layer) (y : Bool) (A : Layer) → length ys ≡ length layers → length (added b ys y) ≡ length (added b layers A)
 added-length true ys layers y A e = length-append ys (y ∷ []) ∙ ap (λ (n : ℕ). n + 1) e ∙ sym (length-append layers (A ∷ []))
 added-length false ys layers y A e = e

@@ -11,7 +11,10 @@ use Rattle.geometry.specs.declared.Trapezoid.{Trapezoid}
 use Rattle.overlay.specs.Overlay.{overlay, tagged}
 use Rattle.boolean.specs.Operations.{Code, union, intersect, first-less-second, second-less-first, either-not-both, lessAll, difference, common, intersection, result}
 use Rattle.boolean.specs.Space.{Mark, held, overlaysOf, addition, Space, enough, short, plus, space, marks, lessAllMarks, oneMarks, differenceMarks, commonMarks, intersectionMarks}
-use Rattle.chains.specs.Chains.{isEnough}
+
+abbrev pub isEnough : Space → Bool
+isEnough (enough cuts) = true
+isEnough (short cuts) = false
 
 -- no more is held than there is room for
 abbrev Held : ℕ → Mark → Type 0

@@ -1,93 +1,112 @@
--- Chains: what steps add to a list of layers, the tally, two chains as one, and sameness. A layer is here the list of its trapezoids.
+-- Chains: calls of the set operations and what they add to a list of layers, the tally, two chains as one, and the sameness test. A layer is here the
+-- list of its words, of any number and content.
 use mathlib.Core.Path.{_≡_}
-use mathlib.Core.Bool.{Bool, true, false, _&&_, _||_, cond}
+use mathlib.Core.Bool.{Bool, true, false, _&&_, cond}
 use mathlib.Core.List.{List, [], _∷_, _++_, map}
-use Prim.Native.Nat.{ℕ, _+_}
-use lib.Dec.{leb, ltb}
-use lib.ListN.{length, getD, drop}
-use Rattle.geometry.specs.declared.Trapezoid.{Trapezoid}
-use Rattle.geometry.specs.declared.Checked.{Checked}
-use Rattle.geometry.specs.declared.Checked.the-variants.{Passed, Refused}
-use Rattle.geometry.specs.Limit.{coordinateLimit}
+use Prim.Native.Nat.{ℕ, _+_, _*_}
+use lib.Dec.{T, ltb}
+use lib.ListN.{length, getD, take, drop}
+use lib.IntN.{ℤ}
+use Rattle.records.specs.Limits.{memoryWidth}
 use Rattle.geometry.specs.Points.{Point}
-use Rattle.geometry.specs.Trapezoids.{liesIn}
-use Rattle.geometry.specs.Fitness.{firstRefusal}
-use Rattle.boolean.specs.Operations.{Code, result, says, difference}
-use Rattle.boolean.specs.Space.{Space, enough, short, space, marks, equalityMarks}
+use Rattle.geometry.specs.Trapezoids.{layerOf}
+use Rattle.boolean.specs.Operations.{codeAt, says, liesInLayer}
+use Rattle.loxurfa.specs.declared.Combined.{Combined}
+use Rattle.loxurfa.specs.declared.Equality.{Equality}
+use Rattle.loxurfa.specs.Answers.{Answer, refused, done, combinedAnswer, EqualityAnswer, refused-equality, same, differs, equalityAnswer}
+use Rattle.loxurfa.specs.Outcomes.{Outcome, observed, combined, equalOutcome}
 
 abbrev pub Layer : Type 0
-Layer = List Trapezoid
-
--- "A layer is a list of 0 to 512 pieces."
-abbrev pub layerLimit : ℕ
-layerLimit = 512
+Layer = List ℤ
 
 -- the layer with the number n; empty if the list holds no such number
 abbrev pub layerAt : List Layer → ℕ → Layer
 layerAt layers n = getD layers n []
 
 -- "A step is one call of a set operation: a code, the numbers of its layers A and B, which may be equal, and an output and work area of its own."
--- The room is the number of records in the output, and in the work area.
+-- Output and work area are the words that they hold before.
 pub record Step : Type 0 where
-  pub code : Code
+  pub code : ℕ
   pub first : ℕ
   pub second : ℕ
-  pub room : ℕ
+  pub out : List ℤ
+  pub scratch : List ℤ
 
--- ---- success
-abbrev pub isPassed : Checked → Bool
-isPassed Passed = true
-isPassed (Refused n place) = false
+-- ---- success, by the definition
+-- "It is lent A and B as the list holds them."
+unfoldable pub outcomeOf : List Layer → Step → Outcome Answer
+outcomeOf layers s = combined (s .code) (layerAt layers (s .first)) (layerAt layers (s .second)) (s .out) (s .scratch)
 
-abbrev pub isEnough : Space → Bool
-isEnough (enough overlays) = true
-isEnough (short overlays) = false
-
--- row 1, of the layers and the output: none has more than 512 records
-abbrev pub sized : ℕ → Layer → Layer → Bool
-sized room A B = leb (length A) layerLimit && (leb (length B) layerLimit && leb room layerLimit)
-
--- rows 7 to 11: "A's pieces before B's, numbered on from A"
-abbrev pub passes : Layer → Layer → Bool
-passes A B = isPassed (firstRefusal coordinateLimit 0 (A ++ B))
-
--- no row refuses the call of a set operation
-unfoldable pub accepted : Code → ℕ → Layer → Layer → Bool
-accepted c room A B = sized room A B && (passes A B && isEnough (space room (marks c A B)))
-
--- both numbers are in the list
-abbrev pub named : ℕ → ℕ → ℕ → Bool
-named count m n = ltb m count && ltb n count
+abbrev pub isDone : Answer → Bool
+isDone (refused number place) = false
+isDone (done pieces cuts) = true
 
 -- "A step naming a number not in the list isn't called and adds nothing."
-unfoldable pub succeeds : List Layer → Step → Bool
-succeeds layers s = named (length layers) (s .first) (s .second) && accepted (s .code) (s .room) (layerAt layers (s .first)) (layerAt layers (s .second))
+unfoldable pub called : List Layer → Step → Bool
+called layers s = ltb (s .first) (length layers) && ltb (s .second) (length layers)
+
+abbrev pub succeeds : List Layer → Step → Bool
+succeeds layers s = called layers s && isDone (outcomeOf layers s .answer)
 
 -- ---- the layers held
--- "A success adds its result to the end of the list"; "a refused step adds nothing"
+-- "the first records of its output, as many as its answer counts pieces"
+abbrev pub recordsOf : Answer → List ℤ → Layer
+recordsOf (refused number place) out = []
+recordsOf (done pieces cuts) out = take (memoryWidth * pieces) out
+
+-- "A success adds its result to the end of the list"; "A refused step adds nothing"
 abbrev pub added : {A : Type 0} → Bool → List A → A → List A
 added true xs x = xs ++ (x ∷ [])
 added false xs x = xs
 
-unfoldable pub resultOf : List Layer → Step → Layer
-resultOf layers s = result (s .code) (layerAt layers (s .first)) (layerAt layers (s .second))
+abbrev pub resultOf : List Layer → Step → Layer
+resultOf layers s = recordsOf (outcomeOf layers s .answer) (outcomeOf layers s .out)
 
 abbrev pub stepped : List Layer → Step → List Layer
 stepped layers s = added (succeeds layers s) layers (resultOf layers s)
 
--- the layers held after a list of steps
+-- the layers that paper 01 defines after a list of steps
 unfoldable pub run : List Layer → List Step → List Layer
 run layers [] = layers
 run layers (s ∷ steps) = run (stepped layers s) steps
 
+-- ---- calls that were made
+-- a step, what its call answered, and the words that its output and work area held then
+pub record Call : Type 0 where
+  pub step : Step
+  pub answer : Combined
+  pub out : List ℤ
+  pub scratch : List ℤ
+
+abbrev pub stepsOf : List Call → List Step
+stepsOf calls = map (λ (c : Call). c .step) calls
+
+-- the contract of `combine`, of a call on these layers
+abbrev pub Kept : List Layer → Call → Type 0
+Kept layers c = observed (combinedAnswer (c .answer)) (c .out) (c .scratch) ≡ outcomeOf layers (c .step)
+
+-- what a call adds, by what it answered and wrote
+abbrev pub grown : List Layer → Call → List Layer
+grown layers c = added (called layers (c .step) && isDone (combinedAnswer (c .answer))) layers (recordsOf (combinedAnswer (c .answer)) (c .out))
+
+-- the layers held after a list of calls
+unfoldable pub held : List Layer → List Call → List Layer
+held layers [] = layers
+held layers (c ∷ calls) = held (grown layers c) calls
+
 -- the results among them: those past the starting layers
-abbrev pub results : List Layer → List Step → List Layer
-results start steps = drop (length start) (run start steps)
+abbrev pub results : List Layer → List Call → List Layer
+results start calls = drop (length start) (held start calls)
+
+-- each call that was made kept the contract, on the layers held then
+unfoldable pub Contracts : List Layer → List Call → Type 0
+Contracts layers [] = Unit {0}
+Contracts layers (c ∷ calls) = (T (called layers (c .step)) → Kept layers c) × Contracts (grown layers c) calls
 
 -- ---- the tally
 -- "each step's code and two numbers, and whether this paper makes the call a success"
 pub record Told : Type 0 where
-  pub code : Code
+  pub code : ℕ
   pub first : ℕ
   pub second : ℕ
   pub success : Bool
@@ -106,38 +125,56 @@ entryAt entries n = getD entries n false
 
 -- by "a and b its entries at the two numbers"
 abbrev pub said : List Bool → Told → Bool
-said entries t = says (t .code) (entryAt entries (t .first)) (entryAt entries (t .second))
+said entries t = says (codeAt (t .code)) (entryAt entries (t .first)) (entryAt entries (t .second))
 
 -- "It is a list of yes or no, at first those fed." "a success adds one entry"; "Any other step adds nothing."
 unfoldable pub evaluate : List Bool → List Told → List Bool
 evaluate entries [] = entries
 evaluate entries (t ∷ ts) = evaluate (added (t .success) entries (said entries t)) ts
 
--- "A point lies in a layer if it lies in one of its pieces", as a yes or no
-abbrev pub liesInLayer : Point → Layer → Bool
-liesInLayer P [] = false
-liesInLayer P (t ∷ ts) = liesIn P t || liesInLayer P ts
-
 -- "fed whether it lies in each starting layer"
 abbrev pub fed : Point → List Layer → List Bool
-fed P start = map (liesInLayer P) start
+fed P start = map (λ (A : Layer). liesInLayer P (layerOf A)) start
+
+-- the tally of a chain, whatever it is fed
+abbrev pub tally : List Bool → List Layer → List Call → List Bool
+tally entries start calls = evaluate entries (told start (stepsOf calls))
 
 -- ---- two chains from the same layers
 -- "each layer number in them past the starting layers raised by the count of the first's results"
 abbrev pub raised : ℕ → ℕ → ℕ → ℕ
 raised starting count n = cond (ltb n starting) n (n + count)
 
-abbrev pub renumbered : ℕ → ℕ → Step → Step
-renumbered starting count s = record { code = s .code; first = raised starting count (s .first); second = raised starting count (s .second); room = s .room }
+abbrev pub renumberedStep : ℕ → ℕ → Step → Step
+renumberedStep starting count s =
+    record { code = s .code; first = raised starting count (s .first); second = raised starting count (s .second); out = s .out; scratch = s .scratch }
+
+abbrev pub renumbered : ℕ → ℕ → Call → Call
+renumbered starting count c = record { step = renumberedStep starting count (c .step); answer = c .answer; out = c .out; scratch = c .scratch }
 
 -- "Two chains from the same layers are one chain, the second's steps after the first's"
-abbrev pub merged : List Layer → List Step → List Step → List Step
+abbrev pub merged : List Layer → List Call → List Call → List Call
 merged start one two = one ++ map (renumbered (length start) (length (results start one))) two
 
--- ---- "Sameness: A−B, and B−A only if that was empty." It answers same exactly if both are
-abbrev pub Equal : Layer → Layer → Type 0
-Equal A B = (difference A B ≡ []) × (difference B A ≡ [])
+-- ---- the sameness test
+-- "The sameness test has an output and work area of its own too." What they hold before and then, and what it answered
+pub record Test : Type 0 where
+  pub out : List ℤ
+  pub scratch : List ℤ
+  pub answer : Equality
+  pub out-then : List ℤ
+  pub scratch-then : List ℤ
 
--- no row refuses the sameness test, with an output and work area of `room` records
-unfoldable pub comparable : ℕ → Layer → Layer → Bool
-comparable room A B = sized room A B && (passes A B && isEnough (space room (equalityMarks A B)))
+-- the contract of `equal`, of a test of two layers
+abbrev pub Tested : Layer → Layer → Test → Type 0
+Tested A B t = observed (equalityAnswer (t .answer)) (t .out-then) (t .scratch-then) ≡ equalOutcome A B (t .out) (t .scratch)
+
+abbrev pub isRefused : EqualityAnswer → Bool
+isRefused (refused-equality number place) = true
+isRefused (same cuts) = false
+isRefused (differs side cuts) = false
+
+abbrev pub isSame : EqualityAnswer → Bool
+isSame (refused-equality number place) = false
+isSame (same cuts) = true
+isSame (differs side cuts) = false

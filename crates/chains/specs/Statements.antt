@@ -1,87 +1,94 @@
--- What is proved of chains of any length, from disjoint starting layers. The theorem is `every-chain` in proofs/Chains.antt; `comparable-fit` is in
--- proofs/Steps.antt.
+-- Demand 3: what is proved of chains of any length, from disjoint starting layers. The theorem is `every-chain` in proofs/Chains.antt.
 use mathlib.Core.Path.{_≡_}
-use mathlib.Core.Bool.{Bool}
+use mathlib.Core.Bool.{Bool, not}
 use mathlib.Core.List.{List, [], _∷_, _++_}
-use mathlib.Core.Logic.{_↔_}
-use Prim.Native.Nat.{ℕ, _≤_, _<_}
+use Prim.Native.Nat.{ℕ, _<_}
 use lib.Dec.{T}
 use lib.ListN.{length}
 use Rattle.records.specs.Lists.{All}
+use Rattle.records.specs.Limits.{sized}
+use Rattle.geometry.specs.declared.Trapezoid.{Trapezoid}
+use Rattle.geometry.specs.declared.Checked.the-variants.{Passed}
 use Rattle.geometry.specs.Limit.{coordinateLimit}
 use Rattle.geometry.specs.Points.{Point, IsPoint}
-use Rattle.geometry.specs.Trapezoids.{LiesInLayer, Disjoint}
-use Rattle.geometry.specs.Fitness.{FitFor}
+use Rattle.geometry.specs.Trapezoids.{layerOf, LiesInLayer, Disjoint}
+use Rattle.geometry.specs.Fitness.{firstRefusal}
 use Rattle.boolean.specs.Statements.{IsYes, LinesFrom, SamePoints}
-use Rattle.chains.specs.Chains.{Layer, layerLimit, layerAt, Step, run, results, told, evaluate, entryAt, fed, raised, merged, Equal, comparable}
+use Rattle.loxurfa.specs.Answers.{equalityAnswer}
+use Rattle.chains.specs.Chains.{Layer, layerAt, called, stepped, run, Call, stepsOf, Kept, held, results, Contracts, entryAt, fed, tally, raised, merged, Test, Tested, isRefused, isSame}
 
--- rows 7 to 11 find nothing in its pieces
-abbrev pub FitTrapezoids : Layer → Type 0
-FitTrapezoids A = All (FitFor coordinateLimit) A
+-- of a layer's words: no rational point lies in two of its trapezoids
+abbrev pub DisjointLayer : Layer → Type 0
+DisjointLayer A = Disjoint (layerOf A)
 
 -- "A result is fit as input if row 1 accepts its length and rows 7 to 11 find nothing in its pieces."
 pub record FitLayer (A : Layer) : Type 0 where
-  pub short : length A ≤ layerLimit
-  pub trapezoids : FitTrapezoids A
-
--- where the sameness test is not refused, rows 7 to 11 find nothing in either layer
-abbrev pub ComparableFit : Type 0
-ComparableFit = (room : ℕ) (A B : Layer) → T (comparable room A B) → FitTrapezoids A × FitTrapezoids B
+  pub size : T (sized (length A))
+  pub rows : firstRefusal coordinateLimit 0 (layerOf A) ≡ Passed
 
 -- "A starting piece is a piece of a starting layer"
-abbrev pub startingTrapezoids : List Layer → Layer
+abbrev pub startingTrapezoids : List Layer → List Trapezoid
 startingTrapezoids [] = []
-startingTrapezoids (A ∷ start) = A ++ startingTrapezoids start
+startingTrapezoids (A ∷ start) = layerOf A ++ startingTrapezoids start
 
--- "The set expressions of two layers agree if the tally ends with equal entries for them whatever yes or no each starting layer is given."
-abbrev pub Agree : List Layer → List Step → ℕ → ℕ → Type 0
-Agree start steps m n =
-    (fedEntries : List Bool) → length fedEntries ≡ length start → entryAt (evaluate fedEntries (told start steps)) m ≡ entryAt (evaluate fedEntries (told start steps)) n
+-- each call that was made answered and wrote what paper 01 defines, on the layers that paper 01 defines
+unfoldable pub Defined : List Layer → List Call → Type 0
+Defined layers [] = Unit {0}
+Defined layers (c ∷ calls) = (T (called layers (c .step)) → Kept layers c) × Defined (stepped layers (c .step)) calls
+
+-- "The set expressions of two layers agree if the tally ends with equal entries for them whatever yes or no each starting layer is given." Of a layer
+-- of one chain and a layer of another, each with its own tally
+abbrev pub Agree : List Layer → List Call → List Call → ℕ → ℕ → Type 0
+Agree start one two m n = (entries : List Bool) → length entries ≡ length start → entryAt (tally entries start one) m ≡ entryAt (tally entries start two) n
+
+-- of any sameness test of two layers: where it is not refused it says same exactly if no rational point lies in one and not in the other
+abbrev pub SameExactly : Layer → Layer → Type 0
+SameExactly A B = (t : Test) → Tested A B t → T (not (isRefused (equalityAnswer (t .answer)))) → IsYes (isSame (equalityAnswer (t .answer))) (SamePoints (layerOf A) (layerOf B))
+
+-- where it is not refused it says same
+abbrev pub NeverDiffers : Layer → Layer → Type 0
+NeverDiffers A B = (t : Test) → Tested A B t → T (not (isRefused (equalityAnswer (t .answer)))) → T (isSame (equalityAnswer (t .answer)))
 
 -- all that is promised of a chain
-pub record Promised (start : List Layer) (steps : List Step) : Type 0 where
-  -- no step changes a layer already in the list
-  pub kept : run start steps ≡ start ++ results start steps
+pub record Promised (start : List Layer) (calls : List Call) : Type 0 where
+  -- every call answers and writes what paper 01 defines, and so the layers held are those that it defines
+  pub defined : Defined start calls
+  pub are : held start calls ≡ run start (stepsOf calls)
+  -- "no step changes a layer already in the list"
+  pub unchanged : held start calls ≡ start ++ results start calls
   -- a point lies in a held layer exactly if the set words say so
-  pub points : (P : Point) → IsPoint P → (n : ℕ) → IsYes (entryAt (evaluate (fed P start) (told start steps)) n) (LiesInLayer P (layerAt (run start steps) n))
+  pub points : (P : Point) → IsPoint P → (n : ℕ) → IsYes (entryAt (tally (fed P start) start calls) n) (LiesInLayer P (layerOf (layerAt (held start calls) n)))
   -- the tally has an entry for each held layer
-  pub entries : (fedEntries : List Bool) → length fedEntries ≡ length start → length (evaluate fedEntries (told start steps)) ≡ length (run start steps)
-  pub disjoint : All Disjoint (run start steps)
+  pub entries : (entries : List Bool) → length entries ≡ length start → length (tally entries start calls) ≡ length (held start calls)
+  pub disjoint : All DisjointLayer (held start calls)
   -- every line in a held layer is a line of a starting piece, word for word
-  pub lines : All (LinesFrom (startingTrapezoids start)) (run start steps)
+  pub lines : All (λ (A : Layer). LinesFrom (startingTrapezoids start) (layerOf A)) (held start calls)
   -- no result is unfit as input
-  pub fit : All FitLayer (results start steps)
-  -- between any two held layers that rows 7 to 11 let pass: same exactly if no rational point lies in one and not in the other
-  pub same : (m n : ℕ) → FitTrapezoids (layerAt (run start steps) m) → FitTrapezoids (layerAt (run start steps) n)
-      → Equal (layerAt (run start steps) m) (layerAt (run start steps) n) ↔ SamePoints (layerAt (run start steps) m) (layerAt (run start steps) n)
-  -- and same if their set expressions agree
-  pub agreed : (m n : ℕ) → FitTrapezoids (layerAt (run start steps) m) → FitTrapezoids (layerAt (run start steps) n)
-      → Agree start steps m n → Equal (layerAt (run start steps) m) (layerAt (run start steps) n)
-
--- the same of a layer of one chain and a layer of another, each with its own tally
-abbrev pub AgreeAcross : List Layer → List Step → List Step → ℕ → ℕ → Type 0
-AgreeAcross start one two m n =
-    (fedEntries : List Bool) → length fedEntries ≡ length start → entryAt (evaluate fedEntries (told start one)) m ≡ entryAt (evaluate fedEntries (told start two)) n
+  pub fit : All FitLayer (results start calls)
+  -- the sameness test between any two held layers
+  pub same : (m n : ℕ) → SameExactly (layerAt (held start calls) m) (layerAt (held start calls) n)
+  pub agreed : (m n : ℕ) → Agree start calls calls m n → NeverDiffers (layerAt (held start calls) m) (layerAt (held start calls) n)
 
 -- all that is promised of two chains from one start
-pub record Joined (start : List Layer) (one two : List Step) : Type 0 where
+pub record Joined (start : List Layer) (one two : List Call) : Type 0 where
   -- they are one chain
+  pub contracts : Contracts start (merged start one two)
   pub promised : Promised start (merged start one two)
   -- it holds the layers of the first, and then the results of the second
-  pub holds : run start (merged start one two) ≡ run start one ++ results start two
+  pub holds : held start (merged start one two) ≡ held start one ++ results start two
   -- the first's layers and entries are found under their numbers, the second's under the raised numbers
-  pub first-layer : (n : ℕ) → n < length (run start one) → layerAt (run start (merged start one two)) n ≡ layerAt (run start one) n
-  pub second-layer : (n : ℕ) → layerAt (run start (merged start one two)) (raised (length start) (length (results start one)) n) ≡ layerAt (run start two) n
-  pub first-entry : (fedEntries : List Bool) → length fedEntries ≡ length start → (n : ℕ) → n < length (run start one)
-      → entryAt (evaluate fedEntries (told start (merged start one two))) n ≡ entryAt (evaluate fedEntries (told start one)) n
-  pub second-entry : (fedEntries : List Bool) → length fedEntries ≡ length start → (n : ℕ)
-      → entryAt (evaluate fedEntries (told start (merged start one two))) (raised (length start) (length (results start one)) n) ≡ entryAt (evaluate fedEntries (told start two)) n
-  -- sameness between a layer of the first and a layer of the second
-  pub same : (m n : ℕ) → FitTrapezoids (layerAt (run start one) m) → FitTrapezoids (layerAt (run start two) n)
-      → Equal (layerAt (run start one) m) (layerAt (run start two) n) ↔ SamePoints (layerAt (run start one) m) (layerAt (run start two) n)
-  pub agreed : (m n : ℕ) → FitTrapezoids (layerAt (run start one) m) → FitTrapezoids (layerAt (run start two) n)
-      → AgreeAcross start one two m n → Equal (layerAt (run start one) m) (layerAt (run start two) n)
+  pub first-layer : (n : ℕ) → n < length (held start one) → layerAt (held start (merged start one two)) n ≡ layerAt (held start one) n
+  pub second-layer : (n : ℕ) → layerAt (held start (merged start one two)) (raised (length start) (length (results start one)) n) ≡ layerAt (held start two) n
+  pub first-entry : (entries : List Bool) → length entries ≡ length start → (n : ℕ) → n < length (held start one)
+      → entryAt (tally entries start (merged start one two)) n ≡ entryAt (tally entries start one) n
+  pub second-entry : (entries : List Bool) → length entries ≡ length start → (n : ℕ)
+      → entryAt (tally entries start (merged start one two)) (raised (length start) (length (results start one)) n) ≡ entryAt (tally entries start two) n
+  -- the sameness test between a layer of the first and a layer of the second
+  pub same : (m n : ℕ) → SameExactly (layerAt (held start one) m) (layerAt (held start two) n)
+  pub agreed : (m n : ℕ) → Agree start one two m n → NeverDiffers (layerAt (held start one) m) (layerAt (held start two) n)
 
--- ---- the theorem: chains of any length from disjoint layers, and any two of them
+-- ---- the theorem: chains of any length from disjoint layers, and any two of them, over whatever the calls answered and wrote
 abbrev pub EveryChain : Type 0
-EveryChain = (start : List Layer) → All Disjoint start → ((steps : List Step) → Promised start steps) × ((one two : List Step) → Joined start one two)
+EveryChain =
+    (start : List Layer) → All DisjointLayer start
+    → ((calls : List Call) → Contracts start calls → Promised start calls) × ((one two : List Call) → Contracts start one → Contracts start two → Joined start one two)

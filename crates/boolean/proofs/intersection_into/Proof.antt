@@ -33,7 +33,7 @@ abbrev μ-loop : tie.MeasureT-loop
 loop-holds : tie.Need-loop-holds Inv-loop μ-loop
 loop-holds c =
     let a = c .args in
-    intersection-start (a .room) (a .first .now) (layerOf (a .second .now)) (a .out .now) (c .pre .1 .1) (c .pre .0 .0)
+    intersection-start (a .room) (a .first .now) (layerOf (a .second .now)) (a .out .now) (c .pre .2) (c .pre .0 .fit)
 
 load-requires : tie.Need-load-requires Inv-loop μ-loop
 load-requires c κs =
@@ -73,7 +73,7 @@ sub-common-into-2 c =
 common-into-requires : tie.Need-common-into-requires Inv-loop μ-loop
 common-into-requires c κs =
     let l = c .before .before .before .before in
-    (l .before .pre .0 .1, (placed (c .before .place .ensures), intersection-borrowed (l .loop .inv)))
+    (l .before .pre .1 .fit, (placed (c .before .place .ensures), intersection-borrowed (l .loop .inv)))
 
 enum-known-f : tie.Need-enum-known-f Inv-loop μ-loop
 enum-known-f c = search needs
@@ -93,8 +93,8 @@ add-t27 c =
     let B = layerOf (s .args .second .now) in
     let g = common-folded (length (tail (p .out) (p .k))) (s .args .room - p .k) (q .place .result .shape) (recordAt trapezoidCodec t (p .i)) B (f .result) (f .last .1 .1 .0) (q .place .ensures .shape ∙ q .before .load .ensures) (f .ensures) in
     let u = short-few (p .inv) (q .before .before .loop-test .taken) (f .result) (f .last .1 .1 .0) g _ (c .before .before .before .before .f .given .1) in
-    let n = layer-few (s .args .second .now) (s .pre .1 .0 .1) in
-    omega (arith, u, n, p .inv .few, q .before .before .loop-test .taken, s .pre .1 .0 .0)
+    let n = layer-few (s .args .second .now) (s .pre .1 .few) in
+    omega (arith, u, n, p .inv .few, q .before .before .loop-test .taken, s .pre .0 .few)
 
 same-length : tie.Need-same-length Inv-loop μ-loop
 same-length c =
@@ -116,7 +116,9 @@ returns c =
     let g = common-folded (length (tail (p .out) (p .k))) (s .args .room - p .k) (q .place .result .shape) (recordAt trapezoidCodec t (p .i)) B (f .result) (f .last .1 .1 .0) (q .place .ensures .shape ∙ q .before .load .ensures) (f .ensures) in
     let n : length (c .before .clear .last .0) ≡ length (s .args .out .now) = same-length c in
     let z = blank-of (pos 0) (c .before .clear .last .0) (length (putMid (memoryWidth * p .k) (length (p .out) - memoryWidth * p .k) (p .out) (f .last .1 .1 .0))) (c .before .clear .ensures) in
-    (intersection-short (p .inv) (q .before .before .loop-test .taken) (f .result) (f .last .1 .1 .0) g _ (c .before .before .before .before .f .given .1), rw (← n) z)
+    let u = short-few (p .inv) (q .before .before .loop-test .taken) (f .result) (f .last .1 .1 .0) g _ (c .before .before .before .before .f .given .1) in
+    let m = layer-few (s .args .second .now) (s .pre .1 .few) in
+    ((intersection-short (p .inv) (q .before .before .loop-test .taken) (f .result) (f .last .1 .1 .0) g _ (c .before .before .before .before .f .given .1), rw (← n) z), omega (arith, u, m, p .inv .few, q .before .before .loop-test .taken, s .pre .0 .few))
 
 enum-known-f-2 : tie.Need-enum-known-f-2 Inv-loop μ-loop
 enum-known-f-2 c = search needs
@@ -147,8 +149,8 @@ add-overlays c =
     let B = layerOf (s .args .second .now) in
     let g = common-folded (length (tail (p .out) (p .k))) (s .args .room - p .k) (q .place .result .shape) (recordAt trapezoidCodec t (p .i)) B (f .result) (f .last .1 .1 .0) (q .place .ensures .shape ∙ q .before .load .ensures) (f .ensures) in
     let u = done-few (p .inv) (q .before .before .loop-test .taken) (f .result) (f .last .1 .1 .0) g _ _ (c .before .f2 .given .1) in
-    let n = layer-few (s .args .second .now) (s .pre .1 .0 .1) in
-    omega (arith, u, n, p .inv .few, q .before .before .loop-test .taken, s .pre .1 .0 .0)
+    let n = layer-few (s .args .second .now) (s .pre .1 .few) in
+    omega (arith, u, n, p .inv .few, q .before .before .loop-test .taken, s .pre .0 .few)
 
 add-i : tie.Need-add-i Inv-loop μ-loop
 add-i c = search needs
@@ -167,7 +169,7 @@ loop-again c =
     let t = s .args .first .now in
     let B = layerOf (s .args .second .now) in
     let g = common-folded (length (tail (p .out) (p .k))) (s .args .room - p .k) (q .place .result .shape) (recordAt trapezoidCodec t (p .i)) B (f .result) (f .last .1 .1 .0) (q .place .ensures .shape ∙ q .before .load .ensures) (f .ensures) in
-    intersection-turn (p .inv) (q .before .before .loop-test .taken) (f .result) (f .last .1 .1 .0) g (layer-few (s .args .second .now) (s .pre .1 .0 .1)) _ _ (c .before .f2 .given .1)
+    intersection-turn (p .inv) (q .before .before .loop-test .taken) (f .result) (f .last .1 .1 .0) g (layer-few (s .args .second .now) (s .pre .1 .few)) _ _ (c .before .f2 .given .1)
 
 same-length-2 : tie.Need-same-length-2 Inv-loop μ-loop
 same-length-2 c =
@@ -175,7 +177,8 @@ same-length-2 c =
 
 returns-2 : tie.Need-returns-2 Inv-loop μ-loop
 returns-2 c =
-    intersection-stop (c .before .loop .inv) (c .loop-test .left)
+    let h = c .before .loop .inv in
+    (intersection-stop h (c .loop-test .left), omega (arith, h .few, h .upto, c .before .before .pre .0 .few))
 
 pub intersection-into-spec : {M : Type 1} → statement M
 intersection-into-spec =

@@ -1,0 +1,63 @@
+-- What the calls answer, in the paper's numbers.
+use Prim.Native.Nat.{ℕ, _<_, _≤_}
+use Rattle.records.specs.Limits.{maxRecords}
+use Rattle.loxurfa.specs.declared.Combined.{Combined}
+use Rattle.loxurfa.specs.declared.Combined.the-variants as combined
+use Rattle.loxurfa.specs.declared.Deoverlapped.{Deoverlapped}
+use Rattle.loxurfa.specs.declared.Deoverlapped.the-variants as deoverlapped
+use Rattle.loxurfa.specs.declared.Equality.{Equality}
+use Rattle.loxurfa.specs.declared.Equality.the-variants as equality
+use Rattle.loxurfa.specs.declared.Containment.{Containment}
+use Rattle.loxurfa.specs.declared.Containment.the-variants as containment
+
+-- "A refusal answers its number and place, a success its pieces and cuts."
+pub data Answer : Type 0 where
+  refused : (number place : ℕ) → Answer
+  done : (pieces cuts : ℕ) → Answer
+
+-- "Answers same, or differs with side 0 (A−B) or 1."
+pub data EqualityAnswer : Type 0 where
+  refused-equality : (number place : ℕ) → EqualityAnswer
+  same : (cuts : ℕ) → EqualityAnswer
+  differs : (side cuts : ℕ) → EqualityAnswer
+
+-- "yes if the point lies in the result"
+pub data PointAnswer : Type 0 where
+  refused-point : (number place : ℕ) → PointAnswer
+  yes : PointAnswer
+  no : PointAnswer
+
+-- ---- each enum read as the paper's answer
+abbrev pub combinedAnswer : Combined → Answer
+combinedAnswer (combined.Refused number place) = refused number place
+combinedAnswer (combined.Done pieces overlays) = done pieces overlays
+
+abbrev pub deoverlappedAnswer : Deoverlapped → Answer
+deoverlappedAnswer (deoverlapped.Refused number place) = refused number place
+deoverlappedAnswer (deoverlapped.Done pieces overlays) = done pieces overlays
+
+abbrev pub equalityAnswer : Equality → EqualityAnswer
+equalityAnswer (equality.Refused number place) = refused-equality number place
+equalityAnswer (equality.Same overlays) = same overlays
+equalityAnswer (equality.Differs side overlays) = differs side overlays
+
+abbrev pub pointAnswer : Containment → PointAnswer
+pointAnswer (containment.Refused number place) = refused-point number place
+pointAnswer containment.Yes = yes
+pointAnswer containment.No = no
+
+-- ---- the sizes of the numbers in an answer
+-- places are numbers of trapezoids in two layers
+abbrev pub Small : Answer → Type 0
+Small (refused number place) = (number ≤ 12) × (place < 1024)
+Small (done pieces cuts) = (pieces ≤ maxRecords) × (cuts < 4294967296)
+
+abbrev pub SmallEquality : EqualityAnswer → Type 0
+SmallEquality (refused-equality number place) = (number ≤ 12) × (place < 1024)
+SmallEquality (same cuts) = cuts < 4294967296
+SmallEquality (differs side cuts) = (side ≤ 1) × (cuts < 4294967296)
+
+abbrev pub SmallPoint : PointAnswer → Type 0
+SmallPoint (refused-point number place) = (number ≤ 12) × (place < 1024)
+SmallPoint yes = Unit {0}
+SmallPoint no = Unit {0}

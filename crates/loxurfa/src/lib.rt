@@ -1,0 +1,27 @@
+// The public interface: set operations, deoverlapping, equality and the point question on layers of trapezoids, for every input.
+
+// What `combine` answers: the refusal's number and place, or the trapezoids written and the overlays made.
+pub enum Combined {
+    Refused { number: u32, place: usize },
+    Done { pieces: usize, overlays: usize },
+}
+
+// The same of `deoverlap`.
+pub enum Deoverlapped {
+    Refused { number: u32, place: usize },
+    Done { pieces: usize, overlays: usize },
+}
+
+// What `equal` answers. Side 0: the first layer has points that the second has not; side 1: only the second has.
+pub enum Equality {
+    Refused { number: u32, place: usize },
+    Same { overlays: usize },
+    Differs { side: u32, overlays: usize },
+}
+
+// What `contains` answers.
+pub enum Containment {
+    Refused { number: u32, place: usize },
+    Yes,
+    No,
+}
