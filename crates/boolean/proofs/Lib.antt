@@ -17,3 +17,6 @@ pub mod Shifting
 pub mod Subtracting
 pub mod Combining
 pub mod Comparing
+pub mod Front
+pub mod Past
+pub mod DeoverlapLoop

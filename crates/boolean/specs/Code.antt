@@ -2,7 +2,7 @@
 use mathlib.Core.Path.{_≡_}
 use mathlib.Core.List.{List, [], _∷_}
 use Prim.Native.Nat.{ℕ, _+_, _*_, _-_, _<_, _≤_}
-use lib.ListN.{length, replicate}
+use lib.ListN.{length, take, drop, replicate}
 use lib.IntN.{ℤ, pos}
 use Rattle.records.specs.Lists.{All}
 use Rattle.records.specs.Limits.{memoryWidth, maxRecords}
@@ -42,6 +42,13 @@ pub record Holding (d : List ℤ) (n room : ℕ) : Type 0 where
   pub is : d ≡ image trapezoidCodec (length d) (held d n)
   pub within : n ≤ room
   pub wide : memoryWidth * room ≤ length d
+
+-- the words of a buffer's first k records, and those past them
+abbrev pub front : List ℤ → ℕ → List ℤ
+front d k = take (memoryWidth * k) d
+
+abbrev pub rest : List ℤ → ℕ → List ℤ
+rest d k = drop (memoryWidth * k) d
 
 -- the trapezoids of a layer's words from number i on
 abbrev pub from : List ℤ → ℕ → List Trapezoid

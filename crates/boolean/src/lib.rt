@@ -3,7 +3,7 @@ use overlay::Fill;
 use overlay::Placed;
 ghost use mathlib.Core.Path.{_≡_};
 ghost use mathlib.Core.List.{[], _∷_, _++_};
-ghost use Prim.Native.Nat.{_+_, _*_, _<_, _≤_};
+ghost use Prim.Native.Nat.{_+_, _*_, _-_, _<_, _≤_};
 ghost use lib.ListN.{length, take, drop, replicate};
 ghost use lib.IntN.{pos};
 ghost use Rattle.records.specs.Limits.{memoryWidth, maxRecords};
@@ -13,9 +13,9 @@ ghost use Rattle.geometry.specs.Limit.{coordinateLimit};
 ghost use Rattle.geometry.specs.Fitness.{FitFor};
 ghost use Rattle.geometry.specs.Trapezoids.{trapezoidCodec, layerOf};
 ghost use Rattle.overlay.specs.Code.{PlacedAs, Pair, Borrowed};
-ghost use Rattle.boolean.specs.Operations.{union, either-not-both, codeAt, result, less, lessAll, difference, common, intersection};
-ghost use Rattle.boolean.specs.Space.{addition, enough, space, marks, lessMarks, lessAllMarks, oneMarks, differenceMarks, commonMarks, intersectionMarks};
-ghost use Rattle.boolean.specs.Code.{from, Layer, overlaysOfOne, overlaysOfLayer, maxOverlays, withOverlays, OverlaysWithin, held, Remaining, Holding, FoldedAs, ComparedAs, ComparedWithin};
+ghost use Rattle.boolean.specs.Operations.{union, either-not-both, codeAt, result, less, lessAll, difference, deoverlapped, common, intersection};
+ghost use Rattle.boolean.specs.Space.{addition, enough, space, marks, lessMarks, lessAllMarks, oneMarks, differenceMarks, deoverlappedMarks, commonMarks, intersectionMarks};
+ghost use Rattle.boolean.specs.Code.{front, rest, from, Layer, overlaysOfOne, overlaysOfLayer, maxOverlays, withOverlays, OverlaysWithin, held, Remaining, Holding, FoldedAs, ComparedAs, ComparedWithin};
 
 // What a fold answers: the space was short, after so many overlays; or how many trapezoids it wrote, and the number of overlays.
 pub enum Folded {
@@ -451,5 +451,105 @@ pub fn equal_into(
             }
             Compared::Differs { side: 0, overlays }
         }
+    }
+}
+
+// `out` holds k trapezoids and, past them, n more, the remainder: each of those less every one of the first k but the first.
+fn lessen_by_front(k: usize, n: usize, out: &mut [i32], scratch: &mut [i32], room: usize) -> Folded
+    requires { ⌜ Layer (front (now out) k) × (1 ≤ k) × (k ≤ room) × (room ≤ maxRecords) ⌝ }
+    requires { ⌜ (memoryWidth * room ≤ length (now out)) × Remaining (rest (now out) k) n (room - k) ⌝ }
+    requires { ⌜ Blank (pos 0) (now scratch) × (length (now scratch) ≡ length (now out)) ⌝ }
+    ensures { λ r. ⌜ FoldedAs (length (rest (now (out .entry)) k)) (room - k) (lessAll (held (rest (now (out .entry)) k) n) (from (front (now (out .entry)) k) 1)) (lessAllMarks 0 (held (rest (now (out .entry)) k) n) (from (front (now (out .entry)) k) 1)) r (rest (now (out .exit)) k) ⌝ }
+    ensures { λ _. ⌜ front (now (out .exit)) k ≡ front (now (out .entry)) k ⌝ }
+    ensures { λ r. ⌜ OverlaysWithin (maxRecords * maxRecords) r ⌝ }
+    ensures { λ _. ⌜ Blank (pos 0) (now (scratch .exit)) ⌝ }
+{
+    let end = records::MEMORY_WIDTH * k;
+    let mut m = n;
+    let mut sum = 0;
+    let mut i = 1;
+    while i < k {
+        let b = placed_at(&out[..end], i);
+        let f = lessen(b, m, &mut out[end..], &mut scratch[end..], room - k);
+        match f {
+            Folded::Short(overlays) => {
+                return Folded::Short(sum + overlays);
+            }
+            Folded::Done {
+                trapezoids,
+                overlays,
+            } => {
+                m = trapezoids;
+                sum += overlays;
+            }
+        }
+        i += 1;
+    }
+    Folded::Done {
+        trapezoids: m,
+        overlays: sum,
+    }
+}
+
+// One trapezoid in hand, less the k trapezoids that `out` holds, and what remains of it added past them.
+fn one_by_front(a: Placed, k: usize, out: &mut [i32], scratch: &mut [i32], room: usize) -> Folded
+    requires { ⌜ PlacedAs (a .shape) a × Remaining (now out) k room × (room ≤ maxRecords) ⌝ }
+    requires { ⌜ Blank (pos 0) (now scratch) × (length (now scratch) ≡ length (now out)) ⌝ }
+    ensures { λ r. ⌜ FoldedAs (length (rest (now (out .entry)) k)) (room - k) (lessAll (a .shape ∷ []) (held (now (out .entry)) k)) (oneMarks 0 (a .shape) (held (now (out .entry)) k)) r (rest (now (out .exit)) k) ⌝ }
+    ensures { λ _. ⌜ front (now (out .exit)) k ≡ front (now (out .entry)) k ⌝ }
+    ensures { λ r. ⌜ OverlaysWithin overlaysOfOne r ⌝ }
+    ensures { λ _. ⌜ Blank (pos 0) (now (scratch .exit)) ⌝ }
+{
+    if k == 0 {
+        return add_whole(a, out, room);
+    }
+    let end = records::MEMORY_WIDTH * k;
+    let b = placed_at(&out[..end], 0);
+    let f = first_into(a, b, &mut out[end..], room - k);
+    let Folded::Done {
+        trapezoids: n,
+        overlays: first,
+    } = f
+    else {
+        return f;
+    };
+    let g = lessen_by_front(k, n, out, scratch, room);
+    more_overlays(first, g)
+}
+
+// Each trapezoid of a layer in turn, less all that the result already holds, is added.
+pub fn deoverlap_into(layer: &[i32], out: &mut [i32], scratch: &mut [i32], room: usize) -> Folded
+    requires { ⌜ Layer (now layer) ⌝ }
+    requires { ⌜ Borrowed (now out) room × (room ≤ maxRecords) ⌝ }
+    requires { ⌜ Blank (pos 0) (now scratch) × (length (now scratch) ≡ length (now out)) ⌝ }
+    ensures { λ r. ⌜ FoldedAs (length (now (out .entry))) room (deoverlapped (layerOf (now (layer .entry)))) (deoverlappedMarks [] (layerOf (now (layer .entry)))) r (now (out .exit)) ⌝ }
+    ensures { λ r. ⌜ OverlaysWithin maxOverlays r ⌝ }
+    ensures { λ _. ⌜ Blank (pos 0) (now (scratch .exit)) ⌝ }
+{
+    let count = layer.len() / records::MEMORY_WIDTH;
+    let mut k = 0;
+    let mut sum = 0;
+    let mut i = 0;
+    while i < count {
+        let a = placed_at(layer, i);
+        let f = one_by_front(a, k, out, scratch, room);
+        match f {
+            Folded::Short(c) => {
+                records::clear(out);
+                return Folded::Short(sum + c);
+            }
+            Folded::Done {
+                trapezoids: m,
+                overlays: c,
+            } => {
+                k += m;
+                sum += c;
+            }
+        }
+        i += 1;
+    }
+    Folded::Done {
+        trapezoids: k,
+        overlays: sum,
     }
 }

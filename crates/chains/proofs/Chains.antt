@@ -11,7 +11,8 @@ use Rattle.geometry.specs.Trapezoids.{layerOf, LiesInLayer}
 use Rattle.boolean.specs.Operations.{liesInLayer}
 use Rattle.boolean.specs.Statements.{IsYes, SamePoints}
 use Rattle.chains.specs.Chains.{Layer, layerAt, run, Step, told, evaluate, Call, stepsOf, held, Contracts, entryAt, fed, tally, merged}
-use Rattle.chains.specs.Statements.{DisjointLayer, FitLayer, startingTrapezoids, Agree, NeverDiffers, Promised, Joined, EveryChain}
+use Rattle.chains.specs.Statements.{DisjointLayer, startingTrapezoids, Agree, NeverDiffers, Promised, Joined, EveryChain}
+use Rattle.loxurfa.specs.Statements.{FitLayer}
 use Rattle.chains.proofs.Steps.{run-disjoint, found-fit}
 use Rattle.chains.proofs.Calls.{held-runs, calls-defined, held-kept}
 use Rattle.chains.proofs.Points.{run-points, evaluate-length}

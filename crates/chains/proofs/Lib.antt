@@ -1,5 +1,4 @@
 pub mod Lists
-pub mod Room
 pub mod Success
 pub mod Steps
 pub mod Calls

@@ -14,7 +14,7 @@ use Rattle.boolean.specs.Statements.{LineOf, LinesFrom}
 use Rattle.boolean.proofs.Kept.{result-lines}
 use Rattle.chains.specs.Chains.{Layer, Step, run}
 use Rattle.chains.specs.Statements.{startingTrapezoids}
-use Rattle.chains.proofs.Success.{Accepted}
+use Rattle.loxurfa.proofs.Success.{Accepted}
 use Rattle.chains.proofs.Steps.{run-keeps}
 
 abbrev HasLines : List Trapezoid → Trapezoid → Type 0

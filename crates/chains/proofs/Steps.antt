@@ -11,9 +11,11 @@ use Rattle.geometry.specs.Trapezoids.{Disjoint, layerOf}
 use Rattle.boolean.specs.Operations.{Code, codeAt}
 use Rattle.boolean.proofs.Results.{result-disjoint}
 use Rattle.chains.specs.Chains.{Layer, layerAt, Step, succeeds, added, resultOf, stepped, run}
-use Rattle.chains.specs.Statements.{DisjointLayer, FitLayer}
+use Rattle.chains.specs.Statements.{DisjointLayer}
+use Rattle.loxurfa.specs.Statements.{FitLayer}
 use Rattle.chains.proofs.Lists.{drop-front}
-use Rattle.chains.proofs.Success.{Accepted, success-gives}
+use Rattle.chains.proofs.Success.{success-gives}
+use Rattle.loxurfa.proofs.Success.{Accepted}
 
 -- ---- what holds of each starting layer, and of each result of layers that it holds of, holds of each layer
 module _ (R : Layer → Type 0) (keeps : (c : Code) (A B C : Layer) → Accepted c A B C → R A → R B → R C) where

@@ -3,18 +3,17 @@
 use mathlib.Core.Path.{_≡_}
 use mathlib.Core.Bool.{Bool, true, false, _&&_, cond}
 use mathlib.Core.List.{List, [], _∷_, _++_, map}
-use Prim.Native.Nat.{ℕ, _+_, _*_}
+use Prim.Native.Nat.{ℕ, _+_}
 use lib.Dec.{T, ltb}
-use lib.ListN.{length, getD, take, drop}
+use lib.ListN.{length, getD, drop}
 use lib.IntN.{ℤ}
-use Rattle.records.specs.Limits.{memoryWidth}
 use Rattle.geometry.specs.Points.{Point}
 use Rattle.geometry.specs.Trapezoids.{layerOf}
 use Rattle.boolean.specs.Operations.{codeAt, says, liesInLayer}
 use Rattle.loxurfa.specs.declared.Combined.{Combined}
 use Rattle.loxurfa.specs.declared.Equality.{Equality}
-use Rattle.loxurfa.specs.Answers.{Answer, refused, done, combinedAnswer, EqualityAnswer, refused-equality, same, differs, equalityAnswer}
-use Rattle.loxurfa.specs.Outcomes.{Outcome, observed, combined, equalOutcome}
+use Rattle.loxurfa.specs.Answers.{Answer, combinedAnswer, isDone, equalityAnswer}
+use Rattle.loxurfa.specs.Outcomes.{Outcome, observed, recordsOf, combined, equalOutcome}
 
 abbrev pub Layer : Type 0
 Layer = List ℤ
@@ -37,10 +36,6 @@ pub record Step : Type 0 where
 unfoldable pub outcomeOf : List Layer → Step → Outcome Answer
 outcomeOf layers s = combined (s .code) (layerAt layers (s .first)) (layerAt layers (s .second)) (s .out) (s .scratch)
 
-abbrev pub isDone : Answer → Bool
-isDone (refused number place) = false
-isDone (done pieces cuts) = true
-
 -- "A step naming a number not in the list isn't called and adds nothing."
 unfoldable pub called : List Layer → Step → Bool
 called layers s = ltb (s .first) (length layers) && ltb (s .second) (length layers)
@@ -49,16 +44,12 @@ abbrev pub succeeds : List Layer → Step → Bool
 succeeds layers s = called layers s && isDone (outcomeOf layers s .answer)
 
 -- ---- the layers held
--- "the first records of its output, as many as its answer counts pieces"
-abbrev pub recordsOf : Answer → List ℤ → Layer
-recordsOf (refused number place) out = []
-recordsOf (done pieces cuts) out = take (memoryWidth * pieces) out
-
 -- "A success adds its result to the end of the list"; "A refused step adds nothing"
 abbrev pub added : {A : Type 0} → Bool → List A → A → List A
 added true xs x = xs ++ (x ∷ [])
 added false xs x = xs
 
+-- "the first records of its output, as many as its answer counts pieces"
 abbrev pub resultOf : List Layer → Step → Layer
 resultOf layers s = recordsOf (outcomeOf layers s .answer) (outcomeOf layers s .out)
 
@@ -168,13 +159,3 @@ pub record Test : Type 0 where
 -- the contract of `equal`, of a test of two layers
 abbrev pub Tested : Layer → Layer → Test → Type 0
 Tested A B t = observed (equalityAnswer (t .answer)) (t .out-then) (t .scratch-then) ≡ equalOutcome A B (t .out) (t .scratch)
-
-abbrev pub isRefused : EqualityAnswer → Bool
-isRefused (refused-equality number place) = true
-isRefused (same cuts) = false
-isRefused (differs side cuts) = false
-
-abbrev pub isSame : EqualityAnswer → Bool
-isSame (refused-equality number place) = false
-isSame (same cuts) = true
-isSame (differs side cuts) = false

@@ -6,25 +6,17 @@ use Prim.Native.Nat.{ℕ, _<_}
 use lib.Dec.{T}
 use lib.ListN.{length}
 use Rattle.records.specs.Lists.{All}
-use Rattle.records.specs.Limits.{sized}
 use Rattle.geometry.specs.declared.Trapezoid.{Trapezoid}
-use Rattle.geometry.specs.declared.Checked.the-variants.{Passed}
-use Rattle.geometry.specs.Limit.{coordinateLimit}
 use Rattle.geometry.specs.Points.{Point, IsPoint}
 use Rattle.geometry.specs.Trapezoids.{layerOf, LiesInLayer, Disjoint}
-use Rattle.geometry.specs.Fitness.{firstRefusal}
 use Rattle.boolean.specs.Statements.{IsYes, LinesFrom, SamePoints}
-use Rattle.loxurfa.specs.Answers.{equalityAnswer}
-use Rattle.chains.specs.Chains.{Layer, layerAt, called, stepped, run, Call, stepsOf, Kept, held, results, Contracts, entryAt, fed, tally, raised, merged, Test, Tested, isRefused, isSame}
+use Rattle.loxurfa.specs.Answers.{equalityAnswer, isRefused, isSame}
+use Rattle.loxurfa.specs.Statements.{FitLayer}
+use Rattle.chains.specs.Chains.{Layer, layerAt, called, stepped, run, Call, stepsOf, Kept, held, results, Contracts, entryAt, fed, tally, raised, merged, Test, Tested}
 
 -- of a layer's words: no rational point lies in two of its trapezoids
 abbrev pub DisjointLayer : Layer → Type 0
 DisjointLayer A = Disjoint (layerOf A)
-
--- "A result is fit as input if row 1 accepts its length and rows 7 to 11 find nothing in its pieces."
-pub record FitLayer (A : Layer) : Type 0 where
-  pub size : T (sized (length A))
-  pub rows : firstRefusal coordinateLimit 0 (layerOf A) ≡ Passed
 
 -- "A starting piece is a piece of a starting layer"
 abbrev pub startingTrapezoids : List Layer → List Trapezoid

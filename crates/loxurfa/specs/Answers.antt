@@ -1,4 +1,5 @@
 -- What the calls answer, in the paper's numbers.
+use mathlib.Core.Bool.{Bool, true, false}
 use Prim.Native.Nat.{ℕ, _<_, _≤_}
 use Rattle.records.specs.Limits.{maxRecords}
 use Rattle.loxurfa.specs.declared.Combined.{Combined}
@@ -45,6 +46,31 @@ abbrev pub pointAnswer : Containment → PointAnswer
 pointAnswer (containment.Refused number place) = refused-point number place
 pointAnswer containment.Yes = yes
 pointAnswer containment.No = no
+
+-- ---- what an answer says
+abbrev pub isDone : Answer → Bool
+isDone (refused number place) = false
+isDone (done pieces cuts) = true
+
+abbrev pub isRefused : EqualityAnswer → Bool
+isRefused (refused-equality number place) = true
+isRefused (same cuts) = false
+isRefused (differs side cuts) = false
+
+abbrev pub isSame : EqualityAnswer → Bool
+isSame (refused-equality number place) = false
+isSame (same cuts) = true
+isSame (differs side cuts) = false
+
+abbrev pub isAnswered : PointAnswer → Bool
+isAnswered (refused-point number place) = false
+isAnswered yes = true
+isAnswered no = true
+
+abbrev pub isYes : PointAnswer → Bool
+isYes (refused-point number place) = false
+isYes yes = true
+isYes no = false
 
 -- ---- the sizes of the numbers in an answer
 -- places are numbers of trapezoids in two layers

@@ -1,4 +1,5 @@
--- The public interface: what each call answers and writes (paper 01), for every input.
+-- The public interface: what each call answers and writes (paper 01), for every input, and what that means for the points.
 pub mod Answers
 pub mod Rows
 pub mod Outcomes
+pub mod Statements

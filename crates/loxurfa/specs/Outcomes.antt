@@ -1,8 +1,8 @@
 -- What each call answers, and what its output and scratch area (paper 01: work area) hold then.
 use mathlib.Core.Bool.{Bool, true, false}
 use mathlib.Core.List.{List, [], _∷_}
-use Prim.Native.Nat.{ℕ, _/_}
-use lib.ListN.{length, replicate}
+use Prim.Native.Nat.{ℕ, _*_, _/_}
+use lib.ListN.{length, take, replicate}
 use lib.IntN.{ℤ, pos}
 use Rattle.records.specs.Limits.{memoryWidth}
 use Rattle.records.specs.Records.{image}
@@ -31,6 +31,11 @@ zeros n = replicate n (pos 0)
 -- the trapezoids that an output takes
 abbrev pub roomOf : List ℤ → ℕ
 roomOf out = length out / memoryWidth
+
+-- the records that a success wrote: the first ones, as many as its answer counts pieces
+abbrev pub recordsOf : Answer → List ℤ → List ℤ
+recordsOf (refused number place) out = []
+recordsOf (done pieces cuts) out = take (memoryWidth * pieces) out
 
 -- ---- operations that write trapezoids
 -- "Pieces go to the output from its first free record on; the rest is zero, and so is the work area." "12 occurs if, and only if, after some cut or

@@ -1,0 +1,3 @@
+pub mod Room
+pub mod Success
+pub mod Same

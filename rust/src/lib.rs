@@ -1,0 +1,268 @@
+//! Exact set operations on layers of trapezoids.
+//!
+//! A layer is a slice of `i32` words, 24 for each trapezoid: left base (two lines), right base
+//! (two lines), bottom, top. A line is x1 y1 x2 y2 with x1 < x2, each from -2048 to 2048.
+//!
+//! An operation that writes trapezoids is lent an output and a scratch area of the same length. On
+//! success the result stands at the start of the output; the rest of it and the whole scratch area
+//! are zero. Refusals 1 to 11 change nothing. Refusal 12 leaves both zero.
+
+#![deny(unsafe_op_in_unsafe_fn)]
+
+/// Words in one trapezoid.
+pub const TRAPEZOID_WORDS: usize = 24;
+
+/// The most trapezoids in one layer or output.
+pub const MAX_TRAPEZOIDS: usize = 512;
+
+/// Which set operation.
+#[derive(Clone, Copy, Debug, PartialEq, Eq)]
+pub enum Code {
+    /// In A or in B.
+    Union = 0,
+    /// In A and in B.
+    Intersection = 1,
+    /// In A and not in B.
+    AMinusB = 2,
+    /// In B and not in A.
+    BMinusA = 3,
+    /// In exactly one of them.
+    SymmetricDifference = 4,
+}
+
+impl Code {
+    /// All five, by number.
+    pub const ALL: [Code; 5] = [
+        Code::Union,
+        Code::Intersection,
+        Code::AMinusB,
+        Code::BMinusA,
+        Code::SymmetricDifference,
+    ];
+}
+
+/// Why a call was refused.
+#[derive(Clone, Copy, Debug, PartialEq, Eq)]
+pub struct Refusal {
+    /// The refusal's number, 1 to 12.
+    pub number: u8,
+    /// The trapezoid it was met at (B's numbered on from A's), or 0.
+    pub place: u32,
+}
+
+impl std::fmt::Display for Refusal {
+    fn fmt(&self, f: &mut std::fmt::Formatter<'_>) -> std::fmt::Result {
+        write!(f, "refused {} place {}", self.number, self.place)
+    }
+}
+
+impl std::error::Error for Refusal {}
+
+/// What a successful operation wrote.
+#[derive(Clone, Copy, Debug, PartialEq, Eq)]
+pub struct Done {
+    /// Trapezoids in the output.
+    pub pieces: u32,
+    /// Overlays of two trapezoids made.
+    pub overlays: u32,
+}
+
+/// The answer of [`equal`].
+#[derive(Clone, Copy, Debug, PartialEq, Eq)]
+pub enum Equality {
+    /// Both layers hold the same points.
+    Same { overlays: u32 },
+    /// Side 0: A - B is not empty. Side 1: A - B is empty, B - A is not.
+    Differs { side: u8, overlays: u32 },
+}
+
+/// Combines layers A and B into `out`.
+pub fn combine(
+    code: Code,
+    a: &[i32],
+    b: &[i32],
+    out: &mut [i32],
+    scratch: &mut [i32],
+) -> Result<Done, Refusal> {
+    combine_by_number(code as u32, a, b, out, scratch)
+}
+
+/// [`combine`] with the code as a number. Above 4 it is refused with 2.
+pub fn combine_by_number(
+    code: u32,
+    a: &[i32],
+    b: &[i32],
+    out: &mut [i32],
+    scratch: &mut [i32],
+) -> Result<Done, Refusal> {
+    done(raw::combine(code, a, b, out, scratch))
+}
+
+/// Writes disjoint trapezoids with the same points as layer A into `out`.
+pub fn deoverlap(a: &[i32], out: &mut [i32], scratch: &mut [i32]) -> Result<Done, Refusal> {
+    done(raw::deoverlap(a, out, scratch))
+}
+
+/// Whether layers A and B hold the same points. `out` and `scratch` are room to work in; on success
+/// both are left zero.
+pub fn equal(
+    a: &[i32],
+    b: &[i32],
+    out: &mut [i32],
+    scratch: &mut [i32],
+) -> Result<Equality, Refusal> {
+    let (value, overlays) = split(raw::equal(a, b, out, scratch))?;
+    Ok(match value {
+        0 => Equality::Same { overlays },
+        _ => Equality::Differs {
+            side: (value - 1) as u8,
+            overlays,
+        },
+    })
+}
+
+/// Whether the point (x / d, y / d) lies in layers A and B combined by `code`.
+pub fn contains(x: i32, y: i32, d: i32, a: &[i32], b: &[i32], code: Code) -> Result<bool, Refusal> {
+    contains_by_number(x, y, d, a, b, code as u32)
+}
+
+/// [`contains`] with the code as a number. Above 4 it is refused with 2.
+pub fn contains_by_number(
+    x: i32,
+    y: i32,
+    d: i32,
+    a: &[i32],
+    b: &[i32],
+    code: u32,
+) -> Result<bool, Refusal> {
+    let (value, _) = split(raw::contains(x, y, d, a, b, code))?;
+    Ok(value != 0)
+}
+
+/// Takes an answer apart: value and overlays, or the refusal.
+fn split(answer: u64) -> Result<(u32, u32), Refusal> {
+    if answer >> 63 == 1 {
+        return Err(Refusal {
+            number: (answer >> 32) as u8,
+            place: answer as u32,
+        });
+    }
+    Ok(((answer >> 32) as u32, answer as u32))
+}
+
+/// Reads an answer that counts trapezoids.
+fn done(answer: u64) -> Result<Done, Refusal> {
+    let (pieces, overlays) = split(answer)?;
+    Ok(Done { pieces, overlays })
+}
+
+/// The calls with their answers as the library gives them.
+///
+/// Bit 63 set: refused, the number in bits 32 to 39, the place in bits 0 to 31. Else the value in
+/// bits 32 to 62 and the overlays in bits 0 to 31.
+pub mod raw {
+    mod c {
+        extern "C" {
+            pub fn loxurfa_combine(
+                code: u32,
+                a: *const i32,
+                a_len: usize,
+                b: *const i32,
+                b_len: usize,
+                out: *mut i32,
+                out_len: usize,
+                scratch: *mut i32,
+                scratch_len: usize,
+            ) -> u64;
+
+            pub fn loxurfa_deoverlap(
+                a: *const i32,
+                a_len: usize,
+                out: *mut i32,
+                out_len: usize,
+                scratch: *mut i32,
+                scratch_len: usize,
+            ) -> u64;
+
+            pub fn loxurfa_equal(
+                a: *const i32,
+                a_len: usize,
+                b: *const i32,
+                b_len: usize,
+                out: *mut i32,
+                out_len: usize,
+                scratch: *mut i32,
+                scratch_len: usize,
+            ) -> u64;
+
+            pub fn loxurfa_contains(
+                x: i32,
+                y: i32,
+                d: i32,
+                a: *const i32,
+                a_len: usize,
+                b: *const i32,
+                b_len: usize,
+                code: u32,
+            ) -> u64;
+        }
+    }
+
+    /// The value is the number of trapezoids written.
+    pub fn combine(code: u32, a: &[i32], b: &[i32], out: &mut [i32], scratch: &mut [i32]) -> u64 {
+        // SAFETY: each pointer and length is one Rust slice, alive during the call. The library
+        // reads a and b, which may be the same, and writes only within out and scratch, which
+        // overlap nothing.
+        unsafe {
+            c::loxurfa_combine(
+                code,
+                a.as_ptr(),
+                a.len(),
+                b.as_ptr(),
+                b.len(),
+                out.as_mut_ptr(),
+                out.len(),
+                scratch.as_mut_ptr(),
+                scratch.len(),
+            )
+        }
+    }
+
+    /// The value is the number of trapezoids written.
+    pub fn deoverlap(a: &[i32], out: &mut [i32], scratch: &mut [i32]) -> u64 {
+        // SAFETY: as in `combine`.
+        unsafe {
+            c::loxurfa_deoverlap(
+                a.as_ptr(),
+                a.len(),
+                out.as_mut_ptr(),
+                out.len(),
+                scratch.as_mut_ptr(),
+                scratch.len(),
+            )
+        }
+    }
+
+    /// The value is 0 for same, 1 for differs on side 0, 2 for differs on side 1.
+    pub fn equal(a: &[i32], b: &[i32], out: &mut [i32], scratch: &mut [i32]) -> u64 {
+        // SAFETY: as in `combine`.
+        unsafe {
+            c::loxurfa_equal(
+                a.as_ptr(),
+                a.len(),
+                b.as_ptr(),
+                b.len(),
+                out.as_mut_ptr(),
+                out.len(),
+                scratch.as_mut_ptr(),
+                scratch.len(),
+            )
+        }
+    }
+
+    /// The value is 1 for yes, 0 for no.
+    pub fn contains(x: i32, y: i32, d: i32, a: &[i32], b: &[i32], code: u32) -> u64 {
+        // SAFETY: each pointer and length is one Rust slice, alive during the call, only read.
+        unsafe { c::loxurfa_contains(x, y, d, a.as_ptr(), a.len(), b.as_ptr(), b.len(), code) }
+    }
+}
