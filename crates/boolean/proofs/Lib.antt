@@ -20,3 +20,4 @@ pub mod Comparing
 pub mod Front
 pub mod Past
 pub mod DeoverlapLoop
+pub mod Containing

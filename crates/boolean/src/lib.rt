@@ -1,7 +1,9 @@
 // The set operations on layers of trapezoids.
+use integer::Int;
 use overlay::Fill;
 use overlay::Placed;
 ghost use mathlib.Core.Path.{_≡_};
+ghost use mathlib.Core.Bool.{not, _&&_, _||_};
 ghost use mathlib.Core.List.{[], _∷_, _++_};
 ghost use Prim.Native.Nat.{_+_, _*_, _-_, _<_, _≤_};
 ghost use lib.ListN.{length, take, drop, replicate};
@@ -12,8 +14,9 @@ ghost use Rattle.records.specs.Records.{recordAt, count, Blank};
 ghost use Rattle.geometry.specs.Limit.{coordinateLimit};
 ghost use Rattle.geometry.specs.Fitness.{FitFor};
 ghost use Rattle.geometry.specs.Trapezoids.{trapezoidCodec, layerOf};
+ghost use Rattle.geometry.specs.Code.{pointOf, SmallPoint};
 ghost use Rattle.overlay.specs.Code.{PlacedAs, Pair, Borrowed};
-ghost use Rattle.boolean.specs.Operations.{union, either-not-both, codeAt, result, less, lessAll, difference, deoverlapped, common, intersection};
+ghost use Rattle.boolean.specs.Operations.{union, either-not-both, codeAt, result, less, lessAll, difference, deoverlapped, common, intersection, says as saysOf, liesInLayer};
 ghost use Rattle.boolean.specs.Space.{addition, enough, space, marks, lessMarks, lessAllMarks, oneMarks, differenceMarks, deoverlappedMarks, commonMarks, intersectionMarks};
 ghost use Rattle.boolean.specs.Code.{front, rest, from, Layer, overlaysOfOne, overlaysOfLayer, maxOverlays, withOverlays, OverlaysWithin, held, Remaining, Holding, FoldedAs, ComparedAs, ComparedWithin};
 
@@ -552,4 +555,73 @@ pub fn deoverlap_into(layer: &[i32], out: &mut [i32], scratch: &mut [i32], room:
         trapezoids: k,
         overlays: sum,
     }
+}
+
+fn either(a: bool, b: bool) -> bool
+    ensures { λ r. ⌜ r ≡ a || b ⌝ }
+{
+    if a {
+        return true;
+    }
+    b
+}
+
+fn both(a: bool, b: bool) -> bool
+    ensures { λ r. ⌜ r ≡ a && b ⌝ }
+{
+    if a {
+        return b;
+    }
+    false
+}
+
+fn but_not(a: bool, b: bool) -> bool
+    ensures { λ r. ⌜ r ≡ a && not b ⌝ }
+{
+    if a {
+        if b {
+            return false;
+        }
+        return true;
+    }
+    false
+}
+
+// Whether the point (x/d, y/d) lies in a layer.
+pub fn lies_in(layer: &[i32], x: Int, y: Int, d: Int) -> bool
+    requires { ⌜ All (FitFor coordinateLimit) (layerOf (now layer)) × SmallPoint x y d ⌝ }
+    ensures { λ r. ⌜ r ≡ liesInLayer (pointOf x y d) (layerOf (now (layer .entry))) ⌝ }
+{
+    let n = layer.len() / records::MEMORY_WIDTH;
+    let mut i = 0;
+    while i < n {
+        let t = geometry::load(layer, i);
+        if geometry::contains(t, x, y, d) {
+            return true;
+        }
+        i += 1;
+    }
+    false
+}
+
+// Whether a point lies in the result with this code, by whether it lies in the first layer and in the second.
+pub fn says(code: u32, first: bool, second: bool) -> bool
+    requires { ⌜ code < 5 ⌝ }
+    ensures { λ r. ⌜ r ≡ saysOf (codeAt code) first second ⌝ }
+{
+    if code == 0 {
+        return either(first, second);
+    }
+    if code == 1 {
+        return both(first, second);
+    }
+    if code == 2 {
+        return but_not(first, second);
+    }
+    if code == 3 {
+        return but_not(second, first);
+    }
+    let a = but_not(first, second);
+    let b = but_not(second, first);
+    either(a, b)
 }

@@ -5,9 +5,8 @@ use mathlib.Core.List.{List, [], _∷_, _++_, map, append-nil}
 use Prim.Native.Nat.{ℕ}
 use lib.Dec.{T}
 use lib.ListN.{length, drop}
-use Rattle.loxurfa.specs.Answers.{combinedAnswer}
+use Rattle.loxurfa.specs.Answers.{combinedAnswer, isDone}
 use Rattle.chains.specs.Chains.{Layer, Step, called, added, Call, stepsOf, Kept, grown, held, results, Contracts, renumberedStep, renumbered, merged}
-use Rattle.loxurfa.specs.Answers.{isDone}
 use Rattle.loxurfa.specs.Outcomes.{recordsOf}
 use Rattle.chains.proofs.Calls.{held-runs, held-kept}
 use Rattle.chains.proofs.Raised.{added-append}

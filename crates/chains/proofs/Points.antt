@@ -1,8 +1,7 @@
 -- The tally tells of each layer of a chain whether a point lies in it.
 use mathlib.Core.Path.{_≡_, refl, sym, subst, _∙_, ap}
-use mathlib.Core.Bool.{Bool, true, false, _||_}
+use mathlib.Core.Bool.{Bool, true, false}
 use mathlib.Core.List.{List, [], _∷_, _++_}
-use mathlib.Core.Logic.{_⊎_, inl, inr}
 use Prim.Native.Nat.{ℕ, zero, suc, _+_}
 use lib.Dec.{T}
 use lib.ListN.{length, length-append}
@@ -10,20 +9,13 @@ use Rattle.records.specs.Records.{recordsFrom}
 use Rattle.geometry.specs.Limit.{coordinateLimit}
 use Rattle.geometry.specs.Points.{Point, IsPoint}
 use Rattle.geometry.specs.declared.Trapezoid.{Trapezoid}
-use Rattle.geometry.specs.Trapezoids.{layerOf, liesIn, LiesInLayer}
-use Rattle.boolean.specs.Operations.{codeAt, liesInLayer}
+use Rattle.geometry.specs.Trapezoids.{layerOf, LiesInLayer}
+use Rattle.boolean.specs.Operations.{codeAt}
 use Rattle.boolean.specs.Statements.{IsYes}
 use Rattle.boolean.proofs.Results.{result-exact}
+use Rattle.boolean.proofs.Containing.{lies-exact}
 use Rattle.chains.specs.Chains.{Layer, layerAt, Step, succeeds, added, resultOf, stepped, run, toldOf, told, entryAt, said, evaluate, fed}
 use Rattle.chains.proofs.Success.{success-gives}
-
-lies-exact : (P : Point) (A : List Trapezoid) → IsYes (liesInLayer P A) (LiesInLayer P A)
-lies-exact P [] = ((λ h. h), (λ h. h))
-lies-exact P (t ∷ A) = go (liesIn P t) (liesInLayer P A) (lies-exact P A)
-  where
-    go : (a b : Bool) → IsYes b (LiesInLayer P A) → IsYes (a || b) (T a ⊎ LiesInLayer P A)
-    go true b h = ((λ k. inl tt), (λ k. tt))
-    go false b h = ((λ k. inr (h .0 k)), (λ k. elim k [ inl x ↦ absurd x | inr y ↦ h .1 y ]))
 
 -- ---- an entry for each layer, that tells whether the point lies in it
 abbrev Tells : Point → List Bool → List Layer → Type 0

@@ -6,7 +6,7 @@ use Rattle.geometry.specs.Trapezoids.{layerOf}
 use Rattle.boolean.specs.Statements.{IsYes, SamePoints}
 use Rattle.loxurfa.specs.Answers.{EqualityAnswer, equalityAnswer, isRefused, isSame}
 use Rattle.loxurfa.specs.Outcomes.{Outcome, equalOutcome}
-use Rattle.loxurfa.proofs.Same.{equal-exact}
+use Rattle.loxurfa.proofs.Exact.{equal-exact}
 use Rattle.chains.specs.Chains.{Layer}
 use Rattle.chains.specs.Statements.{SameExactly, NeverDiffers}
 

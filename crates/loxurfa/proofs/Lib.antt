@@ -1,3 +1,9 @@
+pub mod Refusals
+pub mod Rows
+pub mod Bounds
+pub mod Checks
+pub mod Outcomes
 pub mod Room
 pub mod Success
 pub mod Same
+pub mod Exact

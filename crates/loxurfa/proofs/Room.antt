@@ -1,6 +1,6 @@
 -- Where the space is enough, the result has room.
 use mathlib.Core.Bool.{Bool, true, false, not, cond}
-use mathlib.Core.List.{List, [], _∷_}
+use mathlib.Core.List.{List, [], _∷_, _++_}
 use Prim.Native.Nat.{ℕ, _+_, _≤_}
 use native.Mathlib.Omega.{arith}
 use lib.Dec.{T, ltb, nltb→le}
@@ -9,8 +9,8 @@ use Rattle.records.specs.Lists.{All}
 use Rattle.records.proofs.Lists.{all-left, all-right}
 use Rattle.geometry.specs.declared.Trapezoid.{Trapezoid}
 use Rattle.overlay.specs.Overlay.{overlay, tagged}
-use Rattle.boolean.specs.Operations.{Code, union, intersect, first-less-second, second-less-first, either-not-both, lessAll, difference, common, intersection, result}
-use Rattle.boolean.specs.Space.{Mark, held, overlaysOf, addition, Space, enough, short, plus, space, marks, lessAllMarks, oneMarks, differenceMarks, commonMarks, intersectionMarks}
+use Rattle.boolean.specs.Operations.{Code, union, intersect, first-less-second, second-less-first, either-not-both, lessAll, difference, common, intersection, result, deoverlappedFrom, deoverlapped}
+use Rattle.boolean.specs.Space.{Mark, held, overlaysOf, addition, Space, enough, short, plus, space, marks, lessAllMarks, oneMarks, differenceMarks, commonMarks, intersectionMarks, deoverlappedMarks}
 
 abbrev pub isEnough : Space → Bool
 isEnough (enough cuts) = true
@@ -72,3 +72,16 @@ module _ (room : ℕ) where
 
 pub result-room : (room : ℕ) (c : Code) (A B : List Trapezoid) → T (isEnough (space room (marks c A B))) → length (result c A B) ≤ room
 result-room room c A B h = marks-room room c A B (space-held room (marks c A B) h)
+
+deoverlapped-held : (room : ℕ) (done A : List Trapezoid) → length done ≤ room → All (Held room) (deoverlappedMarks done A) → length (deoverlappedFrom done A) ≤ room
+unfolding deoverlappedFrom deoverlappedMarks
+deoverlapped-held room done [] h a = h
+deoverlapped-held room done (x ∷ A) h a =
+    let k = length done in
+    let more = lessAll (x ∷ []) done in
+    let one = all-left (Held room) (oneMarks k x done) (deoverlappedMarks (done ++ more) A) a in
+    let last = all-right (Held room) (lessAllMarks k (x ∷ []) done) (addition (k + length more) ∷ []) one in
+    deoverlapped-held room (done ++ more) A (omega (arith, length-append done more, last .0)) (all-right (Held room) (oneMarks k x done) (deoverlappedMarks (done ++ more) A) a)
+
+pub deoverlapped-room : (room : ℕ) (A : List Trapezoid) → T (isEnough (space room (deoverlappedMarks [] A))) → length (deoverlapped A) ≤ room
+deoverlapped-room room A h = deoverlapped-held room [] A (omega arith) (space-held room (deoverlappedMarks [] A) h)

@@ -1,12 +1,11 @@
 -- The equality test, where it is not refused.
 use mathlib.Core.Path.{_≡_, refl, sym, subst}
-use mathlib.Core.Bool.{not, _&&_}
+use mathlib.Core.Bool.{not}
 use mathlib.Core.List.{List, [], _∷_}
 use Prim.Native.Nat.{ℕ}
 use lib.Dec.{T}
 use lib.IntN.{ℤ}
 use lib.ListN.{length}
-use Rattle.records.specs.Limits.{sized}
 use Rattle.geometry.specs.declared.Trapezoid.{Trapezoid}
 use Rattle.geometry.specs.declared.Checked.{Checked}
 use Rattle.geometry.specs.declared.Checked.the-variants.{Passed, Refused}
@@ -16,10 +15,10 @@ use Rattle.boolean.specs.Operations.{difference}
 use Rattle.boolean.specs.Space.{Space, enough, short, space, equalityMarks}
 use Rattle.boolean.specs.Statements.{IsYes, SamePoints}
 use Rattle.boolean.proofs.Equality.{equality-exact}
-use Rattle.loxurfa.specs.Rows.{buffersSized, layersChecked, equalChecked}
+use Rattle.loxurfa.specs.Rows.{equalChecked}
 use Rattle.loxurfa.specs.Answers.{EqualityAnswer, isRefused, isSame}
 use Rattle.loxurfa.specs.Outcomes.{roomOf, compared, comparedIn, equalityOutcome, equalOutcome}
-use Rattle.loxurfa.proofs.Success.{FitTrapezoids, row-passed, layers-fit}
+use Rattle.loxurfa.proofs.Checks.{equal-ready}
 
 abbrev BothEmpty : List Trapezoid → List Trapezoid → Type 0
 BothEmpty ts us = (ts ≡ []) × (us ≡ [])
@@ -50,21 +49,16 @@ passes : (c : Checked) (out scratch : List ℤ) (answer : EqualityAnswer) → T 
 passes Passed out scratch answer h = record { passed = refl; answers = refl }
 passes (Refused number place) out scratch answer h = absurd h
 
-rows-passed : (A B : List ℤ) (out scratch : ℕ) → equalChecked A B out scratch ≡ Passed → FitTrapezoids (layerOf A) × FitTrapezoids (layerOf B)
-unfolding equalChecked
-rows-passed A B out scratch e =
-    layers-fit A B (row-passed 1 (sized (length A) && (sized (length B) && buffersSized out scratch)) (layersChecked A B) e .1)
-
 -- ---- the test
-pub equal-exact : (A B out scratch : List ℤ) → T (not (isRefused (equalOutcome A B out scratch .answer))) → IsYes (isSame (equalOutcome A B out scratch .answer)) (SamePoints (layerOf A) (layerOf B))
+pub equal-exactly : (A B out scratch : List ℤ) → T (not (isRefused (equalOutcome A B out scratch .answer))) → IsYes (isSame (equalOutcome A B out scratch .answer)) (SamePoints (layerOf A) (layerOf B))
 unfolding equalOutcome
-equal-exact A B out scratch h =
+equal-exactly A B out scratch h =
     let ts = difference (layerOf A) (layerOf B) in
     let us = difference (layerOf B) (layerOf A) in
     let s = space (roomOf out) (equalityMarks (layerOf A) (layerOf B)) in
     let p = passes (equalChecked A B (length out) (length scratch)) out scratch (comparedIn ts us s) h in
-    let f = rows-passed A B (length out) (length scratch) (p .passed) in
-    let e = equality-exact coordinateLimit (layerOf A) (layerOf B) (f .0) (f .1) in
+    let f = equal-ready A B (length out) (length scratch) (p .passed) in
+    let e = equality-exact coordinateLimit (layerOf A) (layerOf B) (f .first .fit) (f .second .fit) in
     let k = compared-in-same ts us s (subst (λ (answer : EqualityAnswer). T (not (isRefused answer))) (p .answers) h) in
     subst (λ (answer : EqualityAnswer). IsYes (isSame answer) (SamePoints (layerOf A) (layerOf B))) (sym (p .answers))
     ((λ x. e .0 (k .0 x)), (λ y. k .1 (e .1 y)))

@@ -1,7 +1,7 @@
 -- The table of refusals, rows 1, 2, 3 and 7 to 11: "Rows are checked downward".
 use mathlib.Core.Bool.{Bool, true, false, _&&_}
 use mathlib.Core.List.{List, _++_}
-use Prim.Native.Nat.{ℕ, _*_}
+use Prim.Native.Nat.{ℕ}
 use lib.Dec.{eqb}
 use lib.ListN.{length}
 use lib.IntN.{ℤ, pos}
@@ -25,6 +25,10 @@ row number false below = Refused number 0
 -- of an output and a scratch area of so many words
 abbrev pub buffersSized : ℕ → ℕ → Bool
 buffersSized out scratch = sized out && (sized scratch && eqb scratch out)
+
+-- the point (x/d, y/d)
+abbrev pub pointAt : ℤ → ℤ → ℤ → Point
+pointAt x y d = record { X = x; Y = y; D = d }
 
 -- row 3: "D not 1 to 1,024, or X or Y beyond ±2,048 × D"
 abbrev pub withinTimes : ℤ → ℤ → Bool

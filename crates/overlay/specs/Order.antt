@@ -1,7 +1,6 @@
 -- The four sides of trapezoids A and B by number: 0 is A's bottom, 1 A's top, 2 B's bottom and 3 B's top. Their vertical order right of a
 -- position, and by that order the trapezoids of a column that have one tag.
 use mathlib.Core.Path.{_≡_}
-use mathlib.Core.Path.{_≡_}
 use mathlib.Core.Bool.{Bool, true, false, cond}
 use mathlib.Core.List.{List, [], _∷_}
 use Prim.Native.Nat.{ℕ}

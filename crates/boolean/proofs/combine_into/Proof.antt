@@ -3,8 +3,7 @@ use native.Mathlib.Omega.{arith}
 use lib.ListN.{length}
 use borrow.Author.Needs.{needs}
 use Rattle.geometry.specs.Trapezoids.{layerOf}
-use Rattle.boolean.specs.Operations.{codeAt, union, intersect, first-less-second, second-less-first, either-not-both}
-use Rattle.boolean.specs.Operations.{difference}
+use Rattle.boolean.specs.Operations.{codeAt, union, intersect, first-less-second, second-less-first, either-not-both, difference}
 use Rattle.boolean.specs.Space.{differenceMarks}
 use Rattle.boolean.specs.Code.{overlaysOfLayer, maxOverlays}
 use Rattle.boolean.proofs.Answers.{within-least}

@@ -1,4 +1,4 @@
-use mathlib.Core.Path.{_≡_, sym, _∙_}
+use mathlib.Core.Path.{_≡_, sym, _∙_, subst}
 use Prim.Native.Nat.{_*_, _-_}
 use native.Mathlib.Omega.{arith}
 use lib.ListN.{length}
@@ -14,7 +14,6 @@ use Rattle.records.proofs.Buffer.{blank-of}
 use Rattle.records.specs.Records.{recordAt}
 use Rattle.records.specs.Limits.{memoryWidth}
 use borrow.Rule.Slice.PartMut.{putMid, same-len-mid}
-use mathlib.Core.Path.{subst}
 use Rattle.boolean.proofs.common_into.Statement.{statement}
 use Rattle.boolean.proofs.common_into.Tie as tie
 use Rattle.boolean.proofs.common_into.Reads as reads

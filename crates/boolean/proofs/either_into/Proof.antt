@@ -1,10 +1,9 @@
-use mathlib.Core.Path.{sym, _∙_}
+use mathlib.Core.Path.{sym, _∙_, subst}
 use Prim.Native.Nat.{ℕ, _+_}
 use native.Mathlib.Omega.{arith}
 use lib.ListN.{length}
 use borrow.Author.Needs.{needs}
 use Rattle.geometry.specs.Trapezoids.{layerOf}
-use mathlib.Core.Path.{subst}
 use Rattle.boolean.specs.Operations.{difference}
 use Rattle.boolean.specs.declared.Folded.the-variants.{Done}
 use Rattle.boolean.specs.Space.{differenceMarks}

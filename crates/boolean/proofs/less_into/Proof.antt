@@ -1,10 +1,9 @@
-use mathlib.Core.Path.{_≡_, sym, _∙_}
+use mathlib.Core.Path.{_≡_, sym, _∙_, subst}
 use Prim.Native.Nat.{_*_, _-_}
 use native.Mathlib.Omega.{arith}
 use lib.ListN.{length}
 use lib.IntN.{pos}
 use borrow.Author.Needs.{needs}
-use mathlib.Core.Path.{subst}
 use borrow.Rule.Slice.PartMut.{putMid, same-len-mid}
 use Rattle.records.specs.Limits.{memoryWidth}
 use Rattle.records.specs.Records.{recordAt, count}

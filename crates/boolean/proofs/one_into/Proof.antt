@@ -1,4 +1,4 @@
-use mathlib.Core.Path.{sym, _∙_}
+use mathlib.Core.Path.{sym, _∙_, subst}
 use mathlib.Core.List.{[], _∷_}
 use Prim.Native.Nat.{_+_, _*_}
 use native.Mathlib.Omega.{arith}
@@ -10,7 +10,6 @@ use Rattle.boolean.proofs.Lessening.{placed}
 use Rattle.boolean.proofs.Answers.{folded-within, within-least, within-more, within-done}
 use Rattle.boolean.proofs.One.{one-whole, first-few, one-refused, one-remaining, one-folded}
 use Rattle.records.specs.Limits.{maxRecords}
-use mathlib.Core.Path.{subst}
 use Rattle.boolean.proofs.one_into.Statement.{statement}
 use Rattle.boolean.proofs.one_into.Tie as tie
 use Rattle.boolean.proofs.one_into.Reads as reads

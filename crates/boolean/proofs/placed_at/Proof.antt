@@ -1,6 +1,5 @@
-use mathlib.Core.Path.{sym}
+use mathlib.Core.Path.{sym, subst}
 use borrow.Author.Needs.{needs}
-use mathlib.Core.Path.{subst}
 use Rattle.geometry.specs.declared.Trapezoid.{Trapezoid}
 use Rattle.geometry.specs.Limit.{coordinateLimit}
 use Rattle.geometry.specs.Fitness.{FitFor}

@@ -1,10 +1,9 @@
-use mathlib.Core.Path.{_≡_, sym, _∙_}
+use mathlib.Core.Path.{_≡_, sym, _∙_, subst}
 use Prim.Native.Nat.{ℕ, _*_, _-_}
 use native.Mathlib.Omega.{arith}
 use lib.ListN.{length}
 use lib.IntN.{pos}
 use borrow.Author.Needs.{needs}
-use mathlib.Core.Path.{subst}
 use Rattle.records.specs.Limits.{memoryWidth}
 use Rattle.geometry.specs.Limit.{coordinateLimit, OnGrid}
 use borrow.Rule.Slice.PartMut.{putMid}

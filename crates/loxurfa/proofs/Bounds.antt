@@ -1,0 +1,64 @@
+-- Row 3: the sizes of a point that it lets pass.
+use mathlib.Core.Path.{_≡_, subst}
+use mathlib.Core.Bool.{true, _&&_}
+use Prim.Native.Nat.{ℕ, _*_, _≤_}
+use native.Mathlib.Omega.{arith}
+use lib.IntN.{ℤ, pos, natAbs}
+use lib.Signed.{leZ, _≤ℤ_, _<ℤ_}
+use Rattle.integer.specs.declared.Int.{Int}
+use Rattle.integer.specs.Integer.{⊝_, _⊗_}
+use Rattle.integer.proofs.Linear.{zarith, parts, one-part, minus⁺, minus⁻}
+use Rattle.integer.proofs.Magnitude.{mul-magnitude}
+use Rattle.integer.proofs.Tests.{le-yes}
+use Rattle.geometry.specs.Points.{Point, IsPoint}
+use Rattle.geometry.specs.Code.{pointOf, SmallPoint}
+use Rattle.loxurfa.specs.Rows.{withinTimes, pointPasses}
+use Rattle.loxurfa.proofs.Rows.{left-of, right-of}
+
+module _ (d : ℤ) (e : leZ (pos 1) d && leZ d (pos 1024) ≡ true) where
+  least : pos 1 ≤ℤ d
+  least = le-yes (pos 1) d (left-of (leZ (pos 1) d) (leZ d (pos 1024)) e)
+
+  most : d ≤ℤ pos 1024
+  most = le-yes d (pos 1024) (right-of (leZ (pos 1) d) (leZ d (pos 1024)) e)
+
+  pub denominator-small : natAbs d ≤ 1024
+  denominator-small = let a = least in let b = most in omega (zarith, parts d, one-part d)
+
+  pub denominator-positive : pos 0 <ℤ d
+  denominator-positive = let a = least in omega (zarith, parts d, one-part d)
+
+between : (z b : ℤ) → ⊝ b ≤ℤ z → z ≤ℤ b → natAbs z ≤ natAbs b
+between z b h k = omega (zarith, parts z, one-part z, parts b, one-part b, minus⁺ b, minus⁻ b)
+
+within-magnitude : (z d : ℤ) → withinTimes z d ≡ true → natAbs z ≤ 2048 * natAbs d
+within-magnitude z d e =
+    let b = pos 2048 ⊗ d in
+    subst (λ (n : ℕ). natAbs z ≤ n) (mul-magnitude (pos 2048) d)
+    (between z b (le-yes (⊝ b) z (left-of (leZ (⊝ b) z) (leZ z b) e)) (le-yes z b (right-of (leZ (⊝ b) z) (leZ z b) e)))
+
+module _ (P : Point) where
+  denominator-of : pointPasses P ≡ true → leZ (pos 1) (P .D) && leZ (P .D) (pos 1024) ≡ true
+  unfolding pointPasses
+  denominator-of e = left-of (leZ (pos 1) (P .D) && leZ (P .D) (pos 1024)) _ e
+
+  across-of : pointPasses P ≡ true → withinTimes (P .X) (P .D) ≡ true
+  unfolding pointPasses
+  across-of e = left-of (withinTimes (P .X) (P .D)) _ (right-of (leZ (pos 1) (P .D) && leZ (P .D) (pos 1024)) _ e)
+
+  up-of : pointPasses P ≡ true → withinTimes (P .Y) (P .D) ≡ true
+  unfolding pointPasses
+  up-of e = right-of (withinTimes (P .X) (P .D)) _ (right-of (leZ (pos 1) (P .D) && leZ (P .D) (pos 1024)) _ e)
+
+  pub point-real : pointPasses P ≡ true → IsPoint P
+  point-real e = denominator-positive (P .D) (denominator-of e)
+
+pub point-small : (x y d : Int) → pointPasses (pointOf x y d) ≡ true → SmallPoint x y d
+point-small x y d e =
+    let P = pointOf x y d in
+    let k = denominator-small (d .v) (denominator-of P e) in
+    record {
+      x-small = omega (arith, within-magnitude (x .v) (d .v) (across-of P e));
+      y-small = omega (arith, within-magnitude (y .v) (d .v) (up-of P e));
+      d-small = k;
+    }

@@ -1,0 +1,166 @@
+-- The outcome of each call, way out by way out.
+use mathlib.Core.Path.{_≡_, _∙_, ap, subst}
+use mathlib.Core.Bool.{true, false}
+use mathlib.Core.List.{List, [], _∷_}
+use Prim.Native.Nat.{ℕ, _/_, _<_, _≤_}
+use native.Mathlib.Omega.{arith}
+use lib.ListN.{length, length-replicate}
+use lib.IntN.{ℤ, pos}
+use Rattle.records.specs.Limits.{memoryWidth, maxRecords}
+use Rattle.records.specs.Records.{Blank}
+use Rattle.records.proofs.Buffer.{blank-of}
+use Rattle.geometry.specs.declared.Trapezoid.{Trapezoid}
+use Rattle.geometry.specs.declared.Checked.{Checked}
+use Rattle.geometry.specs.declared.Checked.the-variants.{Passed, Refused}
+use Rattle.geometry.specs.Points.{Point}
+use Rattle.geometry.specs.Trapezoids.{layerOf}
+use Rattle.overlay.specs.Code.{Borrowed}
+use Rattle.boolean.specs.declared.Folded.{Folded}
+use Rattle.boolean.specs.declared.Folded.the-variants.{Short, Done}
+use Rattle.boolean.specs.Operations.{codeAt, result, difference, deoverlapped, liesInLayer}
+use Rattle.boolean.specs.Space.{Mark, space, marks, deoverlappedMarks, equalityMarks}
+use Rattle.boolean.specs.Code.{maxOverlays, OverlaysWithin, FoldedAs, Side, ComparedAs, ComparedWithin}
+use Rattle.boolean.specs.declared.Compared.{Compared}
+use Rattle.boolean.specs.declared.Compared.the-variants as comparison
+use Rattle.loxurfa.specs.Answers.{refused, done, refused-equality, same, differs, refused-point, yes, no, Small, SmallEquality}
+use Rattle.loxurfa.specs.Rows.{combineChecked, deoverlapChecked, equalChecked, containsChecked}
+use Rattle.loxurfa.specs.Outcomes.{observed, zeros, roomOf, written, combined, deoverlapOutcome, compared, comparedIn, equalOutcome, containsAnswer}
+use Rattle.loxurfa.proofs.Checks.{SmallChecked}
+
+pub small-refused : {c : Checked} {n p : ℕ} → c ≡ Refused n p → SmallChecked c → (n ≤ 12) × (p < 1024)
+small-refused e h = subst SmallChecked e h
+
+-- ---- a cleared output and scratch area
+pub cleared-length : (d : List ℤ) (n : ℕ) → d ≡ zeros n → length d ≡ n
+cleared-length d n e = ap length e ∙ length-replicate n (pos 0)
+
+pub cleared-borrowed : (d : List ℤ) (n : ℕ) → d ≡ zeros n → Borrowed d (n / memoryWidth)
+cleared-borrowed d n e = record { blank = blank-of (pos 0) d n e; wide = omega (arith, cleared-length d n e) }
+
+pub blank-zeros : (d : List ℤ) (n : ℕ) → Blank (pos 0) d → length d ≡ n → d ≡ zeros n
+blank-zeros d n e l = e ∙ ap zeros l
+
+-- ---- the point question
+module _ (P : Point) (a b : List ℤ) (code : ℕ) where
+  pub contains-refuses : {n p : ℕ} → containsChecked P a b code ≡ Refused n p → refused-point n p ≡ containsAnswer P a b code
+  unfolding containsAnswer
+  contains-refuses e = rw e
+
+  module _ (e : containsChecked P a b code ≡ Passed) where
+    pub contains-yes : liesInLayer P (result (codeAt code) (layerOf a) (layerOf b)) ≡ true → yes ≡ containsAnswer P a b code
+    unfolding containsAnswer
+    contains-yes l = rw (e, l)
+
+    pub contains-no : liesInLayer P (result (codeAt code) (layerOf a) (layerOf b)) ≡ false → no ≡ containsAnswer P a b code
+    unfolding containsAnswer
+    contains-no l = rw (e, l)
+
+-- ---- operations that write trapezoids
+module _ (room : ℕ) (ts : List Trapezoid) (ms : List Mark) (f : Folded) (n m : ℕ) (d s : List ℤ) (h : FoldedAs m room ts ms f d) (e : m ≡ n) (z : s ≡ zeros n) where
+  folded : FoldedAs n room ts ms f d
+  folded = subst (λ (m : ℕ). FoldedAs m room ts ms f d) e h
+
+  written-short : {c : ℕ} → f ≡ Short c → observed (refused 12 0) d s ≡ written n ts (space room ms)
+  written-short g = let k = subst (λ (f : Folded). FoldedAs n room ts ms f d) g folded in rw (k .0, k .1, z)
+
+  written-done : {t c : ℕ} → f ≡ Done t c → observed (done t c) d s ≡ written n ts (space room ms)
+  written-done g = let k = subst (λ (f : Folded). FoldedAs n room ts ms f d) g folded in rw (k .0, k .1 .0, k .1 .2, z)
+
+  pub small-done : room ≤ maxRecords → OverlaysWithin maxOverlays f → {t c : ℕ} → f ≡ Done t c → Small (done t c)
+  small-done l o {t} {c} g =
+      let k = subst (λ (f : Folded). FoldedAs n room ts ms f d) g folded in
+      let w : c ≤ maxOverlays = subst (OverlaysWithin maxOverlays) g o in
+      (omega (arith, l, k .1 .0, k .1 .1), omega (arith, w))
+
+module _ (code : ℕ) (a b out scratch : List ℤ) where
+  pub combine-refuses : {n p : ℕ} → combineChecked code a b (length out) (length scratch) ≡ Refused n p → observed (refused n p) out scratch ≡ combined code a b out scratch
+  unfolding combined
+  combine-refuses e = rw e
+
+  combine-written : combineChecked code a b (length out) (length scratch) ≡ Passed
+      → written (length out) (result (codeAt code) (layerOf a) (layerOf b)) (space (roomOf out) (marks (codeAt code) (layerOf a) (layerOf b))) ≡ combined code a b out scratch
+  unfolding combined
+  combine-written e = rw e
+
+  module _ (e : combineChecked code a b (length out) (length scratch) ≡ Passed) (f : Folded) (m : ℕ) (d s : List ℤ)
+      (h : FoldedAs m (roomOf out) (result (codeAt code) (layerOf a) (layerOf b)) (marks (codeAt code) (layerOf a) (layerOf b)) f d)
+      (l : m ≡ length out) (z : s ≡ zeros (length out)) where
+    pub combine-short : {c : ℕ} → f ≡ Short c → observed (refused 12 0) d s ≡ combined code a b out scratch
+    combine-short g =
+        written-short (roomOf out) (result (codeAt code) (layerOf a) (layerOf b)) (marks (codeAt code) (layerOf a) (layerOf b)) f (length out) m d s h l z g
+        ∙ combine-written e
+
+    pub combine-done : {t c : ℕ} → f ≡ Done t c → observed (done t c) d s ≡ combined code a b out scratch
+    combine-done g =
+        written-done (roomOf out) (result (codeAt code) (layerOf a) (layerOf b)) (marks (codeAt code) (layerOf a) (layerOf b)) f (length out) m d s h l z g
+        ∙ combine-written e
+
+module _ (a out scratch : List ℤ) where
+  pub deoverlap-refuses : {n p : ℕ} → deoverlapChecked a (length out) (length scratch) ≡ Refused n p → observed (refused n p) out scratch ≡ deoverlapOutcome a out scratch
+  unfolding deoverlapOutcome
+  deoverlap-refuses e = rw e
+
+  deoverlap-written : deoverlapChecked a (length out) (length scratch) ≡ Passed
+      → written (length out) (deoverlapped (layerOf a)) (space (roomOf out) (deoverlappedMarks [] (layerOf a))) ≡ deoverlapOutcome a out scratch
+  unfolding deoverlapOutcome
+  deoverlap-written e = rw e
+
+  module _ (e : deoverlapChecked a (length out) (length scratch) ≡ Passed) (f : Folded) (m : ℕ) (d s : List ℤ)
+      (h : FoldedAs m (roomOf out) (deoverlapped (layerOf a)) (deoverlappedMarks [] (layerOf a)) f d) (l : m ≡ length out) (z : s ≡ zeros (length out)) where
+    pub deoverlap-short : {c : ℕ} → f ≡ Short c → observed (refused 12 0) d s ≡ deoverlapOutcome a out scratch
+    deoverlap-short g =
+        written-short (roomOf out) (deoverlapped (layerOf a)) (deoverlappedMarks [] (layerOf a)) f (length out) m d s h l z g ∙ deoverlap-written e
+
+    pub deoverlap-done : {t c : ℕ} → f ≡ Done t c → observed (done t c) d s ≡ deoverlapOutcome a out scratch
+    deoverlap-done g =
+        written-done (roomOf out) (deoverlapped (layerOf a)) (deoverlappedMarks [] (layerOf a)) f (length out) m d s h l z g ∙ deoverlap-written e
+
+-- ---- sameness
+differs-on : (ts us : List Trapezoid) (side c : ℕ) → Side ts us side → differs side c ≡ compared ts us c
+differs-on [] [] side c h = absurd (omega (arith, h .0))
+differs-on [] (u ∷ us) side c h = ap (λ (i : ℕ). differs i c) (h .1)
+differs-on (t ∷ ts) us side c h = ap (λ (i : ℕ). differs i c) h
+
+small-side : (ts us : List Trapezoid) (side : ℕ) → Side ts us side → side ≤ 1
+small-side [] us side h = omega (arith, h .1)
+small-side (t ∷ ts) us side h = omega (arith, h)
+
+module _ (room : ℕ) (A B : List Trapezoid) (f : Compared) (h : ComparedAs room A B f) where
+  is-short : {c : ℕ} → f ≡ comparison.TooShort c → refused-equality 12 0 ≡ comparedIn (difference A B) (difference B A) (space room (equalityMarks A B))
+  is-short g = let k = subst (ComparedAs room A B) g h in rw k
+
+  is-same : {c : ℕ} → f ≡ comparison.Same c → same c ≡ comparedIn (difference A B) (difference B A) (space room (equalityMarks A B))
+  is-same g = let k = subst (ComparedAs room A B) g h in rw (k .0, k .1, k .2)
+
+  is-different : {i c : ℕ} → f ≡ comparison.Differs i c → differs i c ≡ comparedIn (difference A B) (difference B A) (space room (equalityMarks A B))
+  is-different {i} {c} g = let k = subst (ComparedAs room A B) g h in rw (k .0) (differs-on (difference A B) (difference B A) i c (k .1))
+
+  pub small-different : ComparedWithin maxOverlays f → {i c : ℕ} → f ≡ comparison.Differs i c → SmallEquality (differs i c)
+  small-different o {i} {c} g =
+      let k = subst (ComparedAs room A B) g h in
+      let w : c ≤ maxOverlays = subst (ComparedWithin maxOverlays) g o in
+      (small-side (difference A B) (difference B A) i (k .1), omega (arith, w))
+
+pub small-same : {f : Compared} {c : ℕ} → ComparedWithin maxOverlays f → f ≡ comparison.Same c → SmallEquality (same c)
+small-same {f} {c} o g = let w : c ≤ maxOverlays = subst (ComparedWithin maxOverlays) g o in omega (arith, w)
+
+module _ (a b out scratch : List ℤ) where
+  pub equal-refuses : {n p : ℕ} → equalChecked a b (length out) (length scratch) ≡ Refused n p → observed (refused-equality n p) out scratch ≡ equalOutcome a b out scratch
+  unfolding equalOutcome
+  equal-refuses e = rw e
+
+  equal-compared : (d s : List ℤ) → d ≡ zeros (length out) → s ≡ zeros (length scratch) → equalChecked a b (length out) (length scratch) ≡ Passed
+      → observed (comparedIn (difference (layerOf a) (layerOf b)) (difference (layerOf b) (layerOf a)) (space (roomOf out) (equalityMarks (layerOf a) (layerOf b)))) d s ≡ equalOutcome a b out scratch
+  unfolding equalOutcome
+  equal-compared d s y z e = rw (e, y, z)
+
+  module _ (e : equalChecked a b (length out) (length scratch) ≡ Passed) (f : Compared) (d s : List ℤ) (h : ComparedAs (roomOf out) (layerOf a) (layerOf b) f)
+      (y : d ≡ zeros (length out)) (z : s ≡ zeros (length scratch)) where
+    pub equal-short : {c : ℕ} → f ≡ comparison.TooShort c → observed (refused-equality 12 0) d s ≡ equalOutcome a b out scratch
+    equal-short g = ap (λ x. observed x d s) (is-short (roomOf out) (layerOf a) (layerOf b) f h g) ∙ equal-compared d s y z e
+
+    pub equal-same : {c : ℕ} → f ≡ comparison.Same c → observed (same c) d s ≡ equalOutcome a b out scratch
+    equal-same g = ap (λ x. observed x d s) (is-same (roomOf out) (layerOf a) (layerOf b) f h g) ∙ equal-compared d s y z e
+
+    pub equal-different : {i c : ℕ} → f ≡ comparison.Differs i c → observed (differs i c) d s ≡ equalOutcome a b out scratch
+    equal-different g = ap (λ x. observed x d s) (is-different (roomOf out) (layerOf a) (layerOf b) f h g) ∙ equal-compared d s y z e

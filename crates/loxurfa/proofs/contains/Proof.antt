@@ -1,0 +1,30 @@
+use mathlib.Core.Path.{_∙_}
+use mir.Facts.{toZ-ofZ}
+use borrow.Author.Needs.{needs}
+use Rattle.loxurfa.proofs.contains.Statement.{statement}
+use Rattle.loxurfa.proofs.contains.Tie as tie
+
+widen-requires : tie.Need-widen-requires
+widen-requires c κs = search needs
+
+widen-requires-2 : tie.Need-widen-requires-2
+widen-requires-2 c κs = search needs
+
+widen-requires-3 : tie.Need-widen-requires-3
+widen-requires-3 c κs = search needs
+
+contains-at-requires : tie.Need-contains-at-requires
+contains-at-requires c κs = search needs
+
+returns : tie.Need-returns
+returns c =
+    let s = c .before .before .before .before in
+    let x = c .before .before .before .widen .ensures .0 ∙ toZ-ofZ (s .fits .x) in
+    let y = c .before .before .widen2 .ensures .0 ∙ toZ-ofZ (s .fits .y) in
+    let d = c .before .widen3 .ensures .0 ∙ toZ-ofZ (s .fits .d) in
+    (c .contains-at .ensures .0 ∙ rw (x, y, d), c .contains-at .ensures .1)
+
+pub contains-spec : {M : Type 1} → statement M
+contains-spec =
+    tie.close
+    (tie.spec widen-requires widen-requires-2 widen-requires-3 contains-at-requires returns)

@@ -1,0 +1,117 @@
+use mathlib.Core.Path.{_≡_, sym, _∙_}
+use mathlib.Core.List.{[]}
+use lib.ListN.{length}
+use lib.IntN.{pos}
+use native.Mathlib.Omega.{arith}
+use Rattle.records.proofs.Buffer.{blank-of}
+use Rattle.geometry.specs.declared.Checked.the-variants.{Passed}
+use Rattle.geometry.specs.Trapezoids.{layerOf}
+use Rattle.boolean.specs.Operations.{deoverlapped}
+use Rattle.boolean.specs.Space.{deoverlappedMarks}
+use Rattle.loxurfa.specs.Rows.{deoverlapChecked}
+use Rattle.loxurfa.specs.Outcomes.{zeros, roomOf}
+use Rattle.loxurfa.proofs.Checks.{DeoverlapReady, deoverlap-ready, deoverlap-refused}
+use Rattle.loxurfa.proofs.Outcomes.{small-refused, cleared-length, cleared-borrowed, blank-zeros, deoverlap-refuses, deoverlap-short, deoverlap-done, small-done}
+use borrow.Author.Needs.{needs}
+use Rattle.loxurfa.proofs.deoverlap.Statement.{statement}
+use Rattle.loxurfa.proofs.deoverlap.Tie as tie
+
+-- the rows let the call pass
+module _ (c : tie.After-enum-told) where
+  passed : deoverlapChecked (c .before .before .before .args .a .now) (length (c .before .before .before .args .out .now)) (length (c .before .before .before .args .scratch .now)) ≡ Passed
+  passed = sym (c .before .before .deoverlap-checked .ensures) ∙ c .enum-told .given .1
+
+  ready : DeoverlapReady (c .before .before .before .args .a .now) (length (c .before .before .before .args .out .now)) (length (c .before .before .before .args .scratch .now))
+  ready = deoverlap-ready _ _ _ passed
+
+-- the scratch area is blank again
+module _ (c : tie.After-deoverlap-into) where
+  blanked : c .deoverlap-into .last .1 .1 .0 ≡ zeros (length (c .before .before .before .before .before .before .before .before .before .before .before .args .out .now))
+  blanked =
+      let s = c .before .before .before .before .before .before .before .before .before .before .before .args in
+      let z = c .before .before .before .before .before .clear-both in
+      blank-zeros (c .deoverlap-into .last .1 .1 .0) (length (s .out .now)) (c .deoverlap-into .ensures .1 .1)
+      (c .deoverlap-into .kept .1 .1 .0 ∙ cleared-length (z .last .1 .0) (length (s .scratch .now)) (z .ensures .1) ∙ ready (c .before .before .before .before .before .before .before .before) .buffers .same)
+
+deoverlap-checked-requires : tie.Need-deoverlap-checked-requires
+deoverlap-checked-requires c κs = search needs
+
+enum-known-checked : tie.Need-enum-known-checked
+enum-known-checked c = search needs
+
+returns : tie.Need-returns
+returns c =
+    let s = c .before .before .before .before .args in
+    let e = sym (c .before .before .before .deoverlap-checked .ensures) ∙ c .before .checked .given .1 in
+    (deoverlap-refuses (s .a .now) (s .out .now) (s .scratch .now) e, small-refused e (deoverlap-refused (s .a .now) (length (s .out .now)) (length (s .scratch .now))))
+
+enum-told : tie.Need-enum-told
+enum-told c = search needs
+
+clear-both-requires : tie.Need-clear-both-requires
+clear-both-requires c κs = search needs
+
+deoverlap-into-requires : tie.Need-deoverlap-into-requires
+deoverlap-into-requires c κs =
+    let s = c .before .before .before .before .before .before .before .before .before .before .args in
+    let z = c .before .before .before .before .clear-both in
+    let r = ready (c .before .before .before .before .before .before .before) in
+    let m = cleared-length (z .last .0) (length (s .out .now)) (z .ensures .0) in
+    let n = cleared-length (z .last .1 .0) (length (s .scratch .now)) (z .ensures .1) in
+    (r .layer, ((cleared-borrowed (z .last .0) (length (s .out .now)) (z .ensures .0), r .buffers .few), (blank-of (pos 0) (z .last .1 .0) (length (s .scratch .now)) (z .ensures .1), n ∙ r .buffers .same ∙ sym m)))
+
+enum-told-2 : tie.Need-enum-told-2
+enum-told-2 c = search needs
+
+same-length : tie.Need-same-length
+same-length c = search needs
+
+same-length-2 : tie.Need-same-length-2
+same-length-2 c = search needs
+
+returns-2 : tie.Need-returns-2
+returns-2 c =
+    let s = c .before .before .before .before .before .before .before .before .before .before .before .before .before .before .before .args in
+    let z = c .before .before .before .before .before .before .before .before .before .clear-both in
+    let f = c .before .before .before .before .deoverlap-into in
+    let m = cleared-length (z .last .0) (length (s .out .now)) (z .ensures .0) in
+    (deoverlap-short (s .a .now) (s .out .now) (s .scratch .now) (passed (c .before .before .before .before .before .before .before .before .before .before .before .before)) (f .result) (length (z .last .0)) (f .last .1 .0) (f .last .1 .1 .0) (f .ensures .0) m (blanked (c .before .before .before .before)) (c .enum-told2 .given .1), (omega arith, omega arith))
+
+enum-known-f : tie.Need-enum-known-f
+enum-known-f c = search needs
+
+same-length-3 : tie.Need-same-length-3
+same-length-3 c = search needs
+
+same-length-4 : tie.Need-same-length-4
+same-length-4 c = search needs
+
+returns-3 : tie.Need-returns-3
+returns-3 c =
+    let s = c .before .before .before .before .before .before .before .before .before .before .before .before .before .before .before .before .args in
+    let z = c .before .before .before .before .before .before .before .before .before .before .clear-both in
+    let f = c .before .before .before .before .before .deoverlap-into in
+    let m = cleared-length (z .last .0) (length (s .out .now)) (z .ensures .0) in
+    let e = c .before .f .given .1 in (
+      deoverlap-done (s .a .now) (s .out .now) (s .scratch .now) (passed (c .before .before .before .before .before .before .before .before .before .before .before .before .before)) (f .result) (length (z .last .0)) (f .last .1 .0) (f .last .1 .1 .0) (f .ensures .0) m (blanked (c .before .before .before .before .before)) e,
+      small-done (roomOf (s .out .now)) (deoverlapped (layerOf (s .a .now))) (deoverlappedMarks [] (layerOf (s .a .now))) (f .result) (length (s .out .now)) (length (z .last .0)) (f .last .1 .0) (f .last .1 .1 .0) (f .ensures .0) m (blanked (c .before .before .before .before .before)) (ready (c .before .before .before .before .before .before .before .before .before .before .before .before .before) .buffers .few) (f .ensures .1 .0) e,
+    )
+
+pub deoverlap-spec : {M : Type 1} → statement M
+deoverlap-spec =
+    tie.close
+    (tie.spec
+    deoverlap-checked-requires
+    enum-known-checked
+    returns
+    enum-told
+    clear-both-requires
+    deoverlap-into-requires
+    enum-told-2
+    same-length
+    same-length-2
+    returns-2
+    enum-known-f
+    same-length-3
+    same-length-4
+    returns-3)

@@ -1,0 +1,137 @@
+use mathlib.Core.Path.{_≡_, sym, _∙_}
+use lib.ListN.{length}
+use lib.IntN.{pos}
+use native.Mathlib.Omega.{arith}
+use Rattle.records.proofs.Buffer.{blank-of}
+use Rattle.geometry.specs.declared.Checked.the-variants.{Passed}
+use Rattle.geometry.specs.Trapezoids.{layerOf}
+use Rattle.loxurfa.specs.Rows.{equalChecked}
+use Rattle.loxurfa.specs.Outcomes.{zeros, roomOf}
+use Rattle.loxurfa.proofs.Checks.{EqualReady, equal-ready, equal-refused}
+use Rattle.loxurfa.proofs.Outcomes.{small-refused, cleared-length, cleared-borrowed, blank-zeros, equal-refuses, equal-short, equal-same, equal-different, small-same, small-different}
+use borrow.Author.Needs.{needs}
+use Rattle.loxurfa.proofs.equal.Statement.{statement}
+use Rattle.loxurfa.proofs.equal.Tie as tie
+
+-- the rows let the call pass
+module _ (c : tie.After-enum-told) where
+  passed : equalChecked (c .before .before .before .args .a .now) (c .before .before .before .args .b .now) (length (c .before .before .before .args .out .now)) (length (c .before .before .before .args .scratch .now)) ≡ Passed
+  passed = sym (c .before .before .equal-checked .ensures) ∙ c .enum-told .given .1
+
+  ready : EqualReady (c .before .before .before .args .a .now) (c .before .before .before .args .b .now) (length (c .before .before .before .args .out .now)) (length (c .before .before .before .args .scratch .now))
+  ready = equal-ready _ _ _ _ passed
+
+-- both areas are blank again
+module _ (c : tie.After-equal-into) where
+  out-blanked : c .equal-into .last .1 .1 .0 ≡ zeros (length (c .before .before .before .before .before .before .before .before .before .before .before .args .out .now))
+  out-blanked =
+      let s = c .before .before .before .before .before .before .before .before .before .before .before .args in
+      let z = c .before .before .before .before .before .clear-both in
+      blank-zeros (c .equal-into .last .1 .1 .0) (length (s .out .now)) (c .equal-into .ensures .1 .1 .0)
+      (c .equal-into .kept .1 .1 .0 ∙ cleared-length (z .last .0) (length (s .out .now)) (z .ensures .0))
+
+  scratch-blanked : c .equal-into .last .1 .1 .1 .0 ≡ zeros (length (c .before .before .before .before .before .before .before .before .before .before .before .args .scratch .now))
+  scratch-blanked =
+      let s = c .before .before .before .before .before .before .before .before .before .before .before .args in
+      let z = c .before .before .before .before .before .clear-both in
+      blank-zeros (c .equal-into .last .1 .1 .1 .0) (length (s .scratch .now)) (c .equal-into .ensures .1 .1 .1)
+      (c .equal-into .kept .1 .1 .1 .0 ∙ cleared-length (z .last .1 .0) (length (s .scratch .now)) (z .ensures .1))
+
+equal-checked-requires : tie.Need-equal-checked-requires
+equal-checked-requires c κs = search needs
+
+enum-known-checked : tie.Need-enum-known-checked
+enum-known-checked c = search needs
+
+returns : tie.Need-returns
+returns c =
+    let s = c .before .before .before .before .args in
+    let e = sym (c .before .before .before .equal-checked .ensures) ∙ c .before .checked .given .1 in
+    (equal-refuses (s .a .now) (s .b .now) (s .out .now) (s .scratch .now) e, small-refused e (equal-refused (s .a .now) (s .b .now) (length (s .out .now)) (length (s .scratch .now))))
+
+enum-told : tie.Need-enum-told
+enum-told c = search needs
+
+clear-both-requires : tie.Need-clear-both-requires
+clear-both-requires c κs = search needs
+
+equal-into-requires : tie.Need-equal-into-requires
+equal-into-requires c κs =
+    let s = c .before .before .before .before .before .before .before .before .before .before .args in
+    let z = c .before .before .before .before .clear-both in
+    let r = ready (c .before .before .before .before .before .before .before) in
+    let m = cleared-length (z .last .0) (length (s .out .now)) (z .ensures .0) in
+    let n = cleared-length (z .last .1 .0) (length (s .scratch .now)) (z .ensures .1) in
+    ((r .first, r .second), ((cleared-borrowed (z .last .0) (length (s .out .now)) (z .ensures .0), r .buffers .few), (blank-of (pos 0) (z .last .1 .0) (length (s .scratch .now)) (z .ensures .1), n ∙ r .buffers .same ∙ sym m)))
+
+enum-told-2 : tie.Need-enum-told-2
+enum-told-2 c = search needs
+
+same-length : tie.Need-same-length
+same-length c = search needs
+
+same-length-2 : tie.Need-same-length-2
+same-length-2 c = search needs
+
+returns-2 : tie.Need-returns-2
+returns-2 c =
+    let s = c .before .before .before .before .before .before .before .before .before .before .before .before .before .before .before .args in
+    let f = c .before .before .before .before .equal-into in
+    (equal-short (s .a .now) (s .b .now) (s .out .now) (s .scratch .now) (passed (c .before .before .before .before .before .before .before .before .before .before .before .before)) (f .result) (f .last .1 .1 .0) (f .last .1 .1 .1 .0) (f .ensures .0) (out-blanked (c .before .before .before .before)) (scratch-blanked (c .before .before .before .before)) (c .enum-told2 .given .1), (omega arith, omega arith))
+
+enum-known-f : tie.Need-enum-known-f
+enum-known-f c = search needs
+
+same-length-3 : tie.Need-same-length-3
+same-length-3 c = search needs
+
+same-length-4 : tie.Need-same-length-4
+same-length-4 c = search needs
+
+returns-3 : tie.Need-returns-3
+returns-3 c =
+    let s = c .before .before .before .before .before .before .before .before .before .before .before .before .before .before .before .before .args in
+    let f = c .before .before .before .before .before .equal-into in
+    let e = c .before .f .given .1 in
+    (equal-same (s .a .now) (s .b .now) (s .out .now) (s .scratch .now) (passed (c .before .before .before .before .before .before .before .before .before .before .before .before .before)) (f .result) (f .last .1 .1 .0) (f .last .1 .1 .1 .0) (f .ensures .0) (out-blanked (c .before .before .before .before .before)) (scratch-blanked (c .before .before .before .before .before)) e, small-same (f .ensures .1 .0) e)
+
+enum-known-f-2 : tie.Need-enum-known-f-2
+enum-known-f-2 c = search needs
+
+same-length-5 : tie.Need-same-length-5
+same-length-5 c = search needs
+
+same-length-6 : tie.Need-same-length-6
+same-length-6 c = search needs
+
+returns-4 : tie.Need-returns-4
+returns-4 c =
+    let s = c .before .before .before .before .before .before .before .before .before .before .before .before .before .before .before .before .args in
+    let f = c .before .before .before .before .before .equal-into in
+    let e = c .before .f2 .given .1 in (
+      equal-different (s .a .now) (s .b .now) (s .out .now) (s .scratch .now) (passed (c .before .before .before .before .before .before .before .before .before .before .before .before .before)) (f .result) (f .last .1 .1 .0) (f .last .1 .1 .1 .0) (f .ensures .0) (out-blanked (c .before .before .before .before .before)) (scratch-blanked (c .before .before .before .before .before)) e,
+      small-different (roomOf (s .out .now)) (layerOf (s .a .now)) (layerOf (s .b .now)) (f .result) (f .ensures .0) (f .ensures .1 .0) e,
+    )
+
+pub equal-spec : {M : Type 1} → statement M
+equal-spec =
+    tie.close
+    (tie.spec
+    equal-checked-requires
+    enum-known-checked
+    returns
+    enum-told
+    clear-both-requires
+    equal-into-requires
+    enum-told-2
+    same-length
+    same-length-2
+    returns-2
+    enum-known-f
+    same-length-3
+    same-length-4
+    returns-3
+    enum-known-f-2
+    same-length-5
+    same-length-6
+    returns-4)

@@ -1,0 +1,74 @@
+use mathlib.Core.Path.{_≡_, sym, _∙_, ap, subst}
+use mathlib.Core.List.{List}
+use Prim.Native.Nat.{ℕ}
+use lib.IntN.{ℤ}
+use mir.Facts.{toZ-ofZ}
+use Rattle.loxurfa.specs.declared.Containment.{Containment}
+use Rattle.loxurfa.specs.Answers.{pointAnswer, SmallPoint}
+use Rattle.loxurfa.specs.Rows.{pointAt}
+use Rattle.loxurfa.specs.Outcomes.{containsAnswer}
+use Rattle.loxurfa_c.specs.Packed.{packedPoint}
+use borrow.Author.Needs.{needs}
+use Rattle.loxurfa_c.proofs.loxurfa_contains.Statement.{statement}
+use Rattle.loxurfa_c.proofs.loxurfa_contains.Tie as tie
+
+-- of the same numbers
+same-point : (a b : List ℤ) (code : ℕ) {x y d p q e : ℤ} → x ≡ p → y ≡ q → d ≡ e → packedPoint (containsAnswer (pointAt x y d) a b code) ≡ packedPoint (containsAnswer (pointAt p q e) a b code)
+same-point a b code {x} {y} {d} {p} {q} {e} f g h =
+    ap (λ (z : ℤ). packedPoint (containsAnswer (pointAt z y d) a b code)) f
+    ∙ ap (λ (z : ℤ). packedPoint (containsAnswer (pointAt p z d) a b code)) g
+    ∙ ap (λ (z : ℤ). packedPoint (containsAnswer (pointAt p q z) a b code)) h
+
+contains-requires : tie.Need-contains-requires
+contains-requires c κs = search needs
+
+enum-known-answer : tie.Need-enum-known-answer
+enum-known-answer c = search needs
+
+refusal-requires : tie.Need-refusal-requires
+refusal-requires c κs = subst (λ (r : Containment). SmallPoint (pointAnswer r)) (c .before .answer .given .1) (c .before .before .before .contains .ensures .1)
+
+returns : tie.Need-returns
+returns c =
+    let s = c .before .before .before .before .before in
+    c .refusal .ensures ∙ ap (λ (r : Containment). packedPoint (pointAnswer r)) (sym (c .before .before .answer .given .1)) ∙ ap packedPoint (c .before .before .before .before .contains .ensures .0)
+    ∙ same-point (s .args .a .now) (s .args .b .now) (s .args .code) (toZ-ofZ (s .fits .x)) (toZ-ofZ (s .fits .y)) (toZ-ofZ (s .fits .d))
+
+enum-told : tie.Need-enum-told
+enum-told c = search needs
+
+success-requires : tie.Need-success-requires
+success-requires c κs = search needs
+
+returns-2 : tie.Need-returns-2
+returns-2 c =
+    let s = c .before .before .before .before in
+    c .success .ensures ∙ ap (λ (r : Containment). packedPoint (pointAnswer r)) (sym (c .before .enum-told .given .1)) ∙ ap packedPoint (c .before .before .before .contains .ensures .0)
+    ∙ same-point (s .args .a .now) (s .args .b .now) (s .args .code) (toZ-ofZ (s .fits .x)) (toZ-ofZ (s .fits .y)) (toZ-ofZ (s .fits .d))
+
+enum-told-2 : tie.Need-enum-told-2
+enum-told-2 c = search needs
+
+success-requires-2 : tie.Need-success-requires-2
+success-requires-2 c κs = search needs
+
+returns-3 : tie.Need-returns-3
+returns-3 c =
+    let s = c .before .before .before .before in
+    c .success2 .ensures ∙ ap (λ (r : Containment). packedPoint (pointAnswer r)) (sym (c .before .enum-told2 .given .1)) ∙ ap packedPoint (c .before .before .before .contains .ensures .0)
+    ∙ same-point (s .args .a .now) (s .args .b .now) (s .args .code) (toZ-ofZ (s .fits .x)) (toZ-ofZ (s .fits .y)) (toZ-ofZ (s .fits .d))
+
+pub loxurfa-contains-spec : {M : Type 1} → statement M
+loxurfa-contains-spec =
+    tie.close
+    (tie.spec
+    contains-requires
+    enum-known-answer
+    refusal-requires
+    returns
+    enum-told
+    success-requires
+    returns-2
+    enum-told-2
+    success-requires-2
+    returns-3)

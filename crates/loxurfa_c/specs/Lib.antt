@@ -1,0 +1,2 @@
+-- What the functions that C calls answer.
+pub mod Packed

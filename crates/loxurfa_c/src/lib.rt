@@ -1,0 +1,102 @@
+// The functions that C calls: each answers one 64-bit number. include/loxurfa.h says what its bits mean.
+use loxurfa::Combined;
+use loxurfa::Containment;
+use loxurfa::Deoverlapped;
+use loxurfa::Equality;
+ghost use mathlib.Core.Path.{_≡_};
+ghost use Prim.Native.Nat.{_<_, _≤_};
+ghost use Rattle.loxurfa.specs.Rows.{pointAt};
+ghost use Rattle.loxurfa.specs.Outcomes.{combined, deoverlapOutcome, equalOutcome, containsAnswer};
+ghost use Rattle.loxurfa_c.specs.Packed.{refusal as refusalOf, success as successOf, packed, packedEquality, packedPoint};
+
+fn refusal(number: u32, place: usize) -> u64
+    requires { ⌜ (number ≤ 12) × (place < 1024) ⌝ }
+    ensures { λ r. ⌜ r ≡ refusalOf number place ⌝ }
+{
+    9223372036854775808 + 4294967296 * (number as u64) + (place as u64)
+}
+
+fn success(high: usize, overlays: usize) -> u64
+    requires { ⌜ (high ≤ 512) × (overlays < 4294967296) ⌝ }
+    ensures { λ r. ⌜ r ≡ successOf high overlays ⌝ }
+{
+    4294967296 * (high as u64) + (overlays as u64)
+}
+
+#[no_mangle]
+pub extern "C" fn loxurfa_combine(
+    code: u32,
+    a: &[i32],
+    b: &[i32],
+    out: &mut [i32],
+    scratch: &mut [i32],
+) -> u64
+    ensures { λ r. ⌜ r ≡ packed (combined code (now (a .entry)) (now (b .entry)) (now (out .entry)) (now (scratch .entry)) .answer) ⌝ }
+    ensures { λ _. ⌜ now (out .exit) ≡ combined code (now (a .entry)) (now (b .entry)) (now (out .entry)) (now (scratch .entry)) .out ⌝ }
+    ensures { λ _. ⌜ now (scratch .exit) ≡ combined code (now (a .entry)) (now (b .entry)) (now (out .entry)) (now (scratch .entry)) .scratch ⌝ }
+{
+    let answer = loxurfa::combine(code, a, b, out, scratch);
+    match answer {
+        Combined::Refused { number, place } => {
+            return refusal(number, place);
+        }
+        Combined::Done { pieces, overlays } => {
+            return success(pieces, overlays);
+        }
+    }
+}
+
+#[no_mangle]
+pub extern "C" fn loxurfa_deoverlap(a: &[i32], out: &mut [i32], scratch: &mut [i32]) -> u64
+    ensures { λ r. ⌜ r ≡ packed (deoverlapOutcome (now (a .entry)) (now (out .entry)) (now (scratch .entry)) .answer) ⌝ }
+    ensures { λ _. ⌜ now (out .exit) ≡ deoverlapOutcome (now (a .entry)) (now (out .entry)) (now (scratch .entry)) .out ⌝ }
+    ensures { λ _. ⌜ now (scratch .exit) ≡ deoverlapOutcome (now (a .entry)) (now (out .entry)) (now (scratch .entry)) .scratch ⌝ }
+{
+    let answer = loxurfa::deoverlap(a, out, scratch);
+    match answer {
+        Deoverlapped::Refused { number, place } => {
+            return refusal(number, place);
+        }
+        Deoverlapped::Done { pieces, overlays } => {
+            return success(pieces, overlays);
+        }
+    }
+}
+
+#[no_mangle]
+pub extern "C" fn loxurfa_equal(a: &[i32], b: &[i32], out: &mut [i32], scratch: &mut [i32]) -> u64
+    ensures { λ r. ⌜ r ≡ packedEquality (equalOutcome (now (a .entry)) (now (b .entry)) (now (out .entry)) (now (scratch .entry)) .answer) ⌝ }
+    ensures { λ _. ⌜ now (out .exit) ≡ equalOutcome (now (a .entry)) (now (b .entry)) (now (out .entry)) (now (scratch .entry)) .out ⌝ }
+    ensures { λ _. ⌜ now (scratch .exit) ≡ equalOutcome (now (a .entry)) (now (b .entry)) (now (out .entry)) (now (scratch .entry)) .scratch ⌝ }
+{
+    let answer = loxurfa::equal(a, b, out, scratch);
+    match answer {
+        Equality::Refused { number, place } => {
+            return refusal(number, place);
+        }
+        Equality::Same { overlays } => {
+            return success(0, overlays);
+        }
+        Equality::Differs { side, overlays } => {
+            return success((side + 1) as usize, overlays);
+        }
+    }
+}
+
+#[no_mangle]
+pub extern "C" fn loxurfa_contains(x: i32, y: i32, d: i32, a: &[i32], b: &[i32], code: u32) -> u64
+    ensures { λ r. ⌜ r ≡ packedPoint (containsAnswer (pointAt x y d) (now (a .entry)) (now (b .entry)) code) ⌝ }
+{
+    let answer = loxurfa::contains(x, y, d, a, b, code);
+    match answer {
+        Containment::Refused { number, place } => {
+            return refusal(number, place);
+        }
+        Containment::Yes => {
+            return success(1, 0);
+        }
+        Containment::No => {
+            return success(0, 0);
+        }
+    }
+}
