@@ -1,0 +1,158 @@
+-- The events of a polygon: which crossings there are, and that the events are enough for the edges.
+use mathlib.Core.Path.{_≡_, sym, _∙_, ap, subst}
+use mathlib.Core.Bool.{Bool, true, false, cond, _&&_}
+use mathlib.Core.List.{List, [], _∷_, _++_}
+use mathlib.Core.Logic.{_⊎_, inl, inr}
+use Prim.Native.Nat.{ℕ}
+use lib.Dec.{T}
+use mir.Facts.{and-yes}
+use Rattle.integer.specs.Fraction.{Fraction, Proper}
+use Rattle.records.specs.Lists.{All, Any, Pairs}
+use Rattle.records.proofs.Lists.{all-of, all-append, all-left, all-right, all-map, any-map, any-left, any-right, any-split}
+use Rattle.levels.proofs.Tests.{cond-cases}
+use Rattle.levels.proofs.Lists.{Member, any-elim, members}
+use Rattle.geometry.specs.declared.Base.{Base}
+use Rattle.geometry.specs.Positions.{crosses, meet, position}
+use Rattle.geometry.proofs.Meet.{meet-proper}
+use Rattle.sweep.specs.Segments.{inside, crossInside}
+use Rattle.sweep.specs.Sweep.{Complete}
+use Rattle.fracture.specs.Polygons.{Vertex, Polygon, Edge, edges, whole, segment}
+use Rattle.fracture.specs.Fracture.{mark, marks, crossing, edgesCross, crossingsWith, crossings, events}
+use Rattle.fracture.specs.Statements.{SomePair, CrossAt, EventsExact}
+use Rattle.fracture.proofs.Edges.{Ends, edges-ends}
+use Rattle.fracture.proofs.Marks.{mark-position, mark-proper}
+
+-- ---- crossings
+-- what holds where two edges with M cross strictly inside both spans holds of each crossing of edges with M
+module _ (M : Edge → Type 0) (N : Base → Type 0) (f : (d e : Edge) → M d → M e → T (edgesCross d e) → N (crossing d e)) where
+  with-all : (d : Edge) (es : List Edge) → M d → All M es → All N (crossingsWith d es)
+  unfolding crossingsWith
+  with-all d [] m h = tt
+  with-all d (e ∷ es) m h =
+      let k = with-all d es m (h .1) in
+      cond-cases (All N) (edgesCross d e) (crossing d e ∷ crossingsWith d es) (crossingsWith d es) (λ t. (f d e m (h .0) t, k)) (λ t. k)
+
+  pub crossings-all : (es : List Edge) → All M es → All N (crossings es)
+  unfolding crossings
+  crossings-all [] h = tt
+  crossings-all (e ∷ es) h = all-append N (crossingsWith e es) (crossings es) (with-all e es (h .0) (h .1)) (crossings-all es (h .1))
+
+-- and what holds of each crossing holds of each two edges that cross so
+module _ (N : Base → Type 0) where
+  with-each : (d : Edge) (es : List Edge) → All N (crossingsWith d es) → All (λ (e : Edge). T (edgesCross d e) → N (crossing d e)) es
+  unfolding crossingsWith
+  with-each d [] h = tt
+  with-each d (e ∷ es) h = go (edgesCross d e) h (with-each d es)
+    where
+      Each : Type 0
+      Each = All (λ (e : Edge). T (edgesCross d e) → N (crossing d e)) es
+
+      go : (t : Bool) → All N (cond t (crossing d e ∷ crossingsWith d es) (crossingsWith d es)) → (All N (crossingsWith d es) → Each) → (T t → N (crossing d e)) × Each
+      go true h k = ((λ c. h .0), k (h .1))
+      go false h k = ((λ c. absurd c), k h)
+
+  pub crossings-pairs : (es : List Edge) → All N (crossings es) → Pairs (λ (d e : Edge). T (edgesCross d e) → N (crossing d e)) es
+  unfolding crossings
+  crossings-pairs [] h = tt
+  crossings-pairs (e ∷ es) h = (with-each e es (all-left N (crossingsWith e es) (crossings es) h), crossings-pairs es (all-right N (crossingsWith e es) (crossings es) h))
+
+-- ---- the events are enough
+inside-crosses : (d e : Edge) → T (edgesCross d e) → T (crosses (d .line) (e .line))
+unfolding crossInside
+inside-crosses d e h = let m = meet (d .line) (e .line) in and-yes (crosses (d .line) (e .line)) (inside m (segment d) && inside m (segment e)) h .0
+
+module _ (L : ℕ) where
+  -- x is the position of one of ks
+  abbrev Stands : List Base → Fraction → Type 0
+  Stands ks x = Any (λ (k : Base). x ≡ position k) ks
+
+  marks-all : (N : Base → Type 0) (polygon : Polygon) → All (λ (v : Vertex). N (mark L (v .x))) polygon → All N (marks L polygon)
+  unfolding marks
+  marks-all N [] h = tt
+  marks-all N (v ∷ vs) h = (h .0, marks-all N vs (h .1))
+
+  -- each vertex has its mark
+  marks-stand : (polygon : Polygon) → All (λ (v : Vertex). Stands (marks L polygon) (whole (v .x))) polygon
+  unfolding marks
+  marks-stand [] = tt
+  marks-stand (v ∷ vs) = (inl (sym (mark-position L (v .x))), all-map (λ w h. inr h) vs (marks-stand vs))
+
+  module _ (polygon : Polygon) where
+    -- what holds of each mark and of each crossing
+    pub events-all : (N : Base → Type 0) → All (λ (v : Vertex). N (mark L (v .x))) polygon → All N (crossings (edges polygon)) → All N (events L polygon)
+    unfolding events
+    events-all N h k = all-append N (marks L polygon) (crossings (edges polygon)) (marks-all N polygon h) k
+
+    vertices-stand : All (λ (v : Vertex). Stands (events L polygon) (whole (v .x))) polygon
+    unfolding events
+    vertices-stand = all-map (λ v h. any-left (λ (k : Base). whole (v .x) ≡ position k) (marks L polygon) (crossings (edges polygon)) h) polygon (marks-stand polygon)
+
+    crossings-stand : All (λ (c : Base). Stands (events L polygon) (position c)) (crossings (edges polygon))
+    unfolding events
+    crossings-stand =
+        let es = crossings (edges polygon) in
+        all-map (λ c m. any-right (λ (k : Base). position c ≡ position k) (marks L polygon) es (any-map (λ k e. ap position e) es m)) es (members es)
+
+    events-proper : All (λ (k : Base). Proper (position k)) (events L polygon)
+    events-proper =
+        events-all (λ (k : Base). Proper (position k))
+        (all-of (λ (v : Vertex). Proper (position (mark L (v .x)))) (λ v. mark-proper L (v .x)) polygon)
+        (crossings-all (λ (e : Edge). Member e (edges polygon)) (λ (k : Base). Proper (position k)) (λ d e m n c. meet-proper (d .line) (e .line) (inside-crosses d e c)) (edges polygon) (members (edges polygon)))
+
+    edges-stand : All (Ends (λ (v : Vertex). Stands (events L polygon) (whole (v .x)))) (edges polygon)
+    edges-stand = edges-ends (λ (v : Vertex). Stands (events L polygon) (whole (v .x))) polygon vertices-stand
+
+    pub complete : Complete segment position (edges polygon) (events L polygon)
+    complete =
+        record {
+          proper = events-proper;
+          lines = all-map (λ e h. h .proper) (edges polygon) edges-stand;
+          from = all-map (λ e h. h .low) (edges polygon) edges-stand;
+          to = all-map (λ e h. h .high) (edges polygon) edges-stand;
+          meets = crossings-pairs (λ (k : Base). Stands (events L polygon) (position k)) (edges polygon) crossings-stand;
+        }
+
+-- ---- and no more than the vertices and the crossings
+module _ (x : Fraction) where
+  -- a mark that stands at x is that of a vertex there
+  marks-vertex : (L : ℕ) (polygon : Polygon) → Any (λ (k : Base). x ≡ position k) (marks L polygon) → Any (λ (v : Vertex). x ≡ whole (v .x)) polygon
+  unfolding marks
+  marks-vertex L [] h = h
+  marks-vertex L (v ∷ vs) (inl h) = inl (h ∙ mark-position L (v .x))
+  marks-vertex L (v ∷ vs) (inr h) = inr (marks-vertex L vs h)
+
+  with-some : (d : Edge) (es : List Edge) → Any (λ (k : Base). x ≡ position k) (crossingsWith d es) → Any (CrossAt x d) es
+  unfolding crossingsWith
+  with-some d [] h = h
+  with-some d (e ∷ es) h = go (edgesCross d e) (λ t. t) h (with-some d es)
+    where
+      At : List Base → Type 0
+      At ks = Any (λ (k : Base). x ≡ position k) ks
+
+      go : (t : Bool) → (T t → T (crossInside (segment d) (segment e))) → At (cond t (crossing d e ∷ crossingsWith d es) (crossingsWith d es)) → (At (crossingsWith d es) → Any (CrossAt x d) es)
+          → CrossAt x d e ⊎ Any (CrossAt x d) es
+      go true f (inl h) k = inl (f tt, h)
+      go true f (inr h) k = inr (k h)
+      go false f h k = inr (k h)
+
+  crossings-some : (es : List Edge) → Any (λ (k : Base). x ≡ position k) (crossings es) → SomePair (CrossAt x) es
+  unfolding crossings
+  crossings-some [] h = h
+  crossings-some (e ∷ es) h = elim (any-split (λ (k : Base). x ≡ position k) (crossingsWith e es) (crossings es) h) [ inl k ↦ inl (with-some e es k) | inr k ↦ inr (crossings-some es k) ]
+
+-- B, from R of each pair and Q of some
+some-pair : {A B : Type 0} {R Q : A → A → Type 0} → ((a b : A) → R a b → Q a b → B) → (xs : List A) → Pairs R xs → SomePair Q xs → B
+some-pair f [] h k = absurd k
+some-pair f (x ∷ xs) h (inl k) = any-elim (f x) xs (h .0) k
+some-pair f (x ∷ xs) h (inr k) = some-pair f xs (h .1) k
+
+pub events-exact : EventsExact
+unfolding events
+events-exact L polygon x = (there, back)
+  where
+    there : Any (λ (k : Base). x ≡ position k) (marks L polygon ++ crossings (edges polygon)) → Any (λ (v : Vertex). x ≡ whole (v .x)) polygon ⊎ SomePair (CrossAt x) (edges polygon)
+    there h = elim (any-split (λ (k : Base). x ≡ position k) (marks L polygon) (crossings (edges polygon)) h) [ inl k ↦ inl (marks-vertex x L polygon k) | inr k ↦ inr (crossings-some x (edges polygon) k) ]
+
+    back : Any (λ (v : Vertex). x ≡ whole (v .x)) polygon ⊎ SomePair (CrossAt x) (edges polygon) → Any (λ (k : Base). x ≡ position k) (marks L polygon ++ crossings (edges polygon))
+    back (inl h) = any-elim (λ v s e. subst (Stands L (events L polygon)) (sym e) s) polygon (vertices-stand L polygon) h
+    back (inr h) = some-pair (λ d e s c. subst (Stands L (events L polygon)) (sym (c .1)) (s (c .0))) (edges polygon) (complete L polygon .meets) h

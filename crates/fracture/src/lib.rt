@@ -1,0 +1,1 @@
+// Polygons fractured into trapezoids by nonzero winding: definitions and laws only.
