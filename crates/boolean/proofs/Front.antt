@@ -22,7 +22,7 @@ use Rattle.boolean.specs.declared.Folded.the-variants.{Short, Done}
 use Rattle.boolean.specs.Operations.{less, lessAll}
 use Rattle.boolean.specs.Space.{lessMarks, lessAllMarks}
 use Rattle.boolean.specs.Code.{front, rest, from, held, Layer, Remaining, FoldedAs}
-use Rattle.boolean.proofs.Reducing.{Reducing, reduce-start, reduce-stop, reduce-short, reduce-turn, folded-of, short-blank}
+use Rattle.boolean.proofs.Reducing.{Reducing, reduce-start, reduce-stop, reduce-none, reduce-short, reduce-turn, folded-of, short-blank}
 
 -- ---- the two parts
 module _ (d : List ℤ) (k : ℕ) where
@@ -57,28 +57,28 @@ module _ (d : List ℤ) (k : ℕ) where
           blank-of (pos 0) p (memoryWidth * k + length t)
           (put-tail (memoryWidth * k) d t fits ∙ (λ j. e j ++ y j) ∙ replicate-append-replicate (memoryWidth * k) (length t) (pos 0))
 
--- ---- the remainder past k records, less those but the first
+-- ---- the remainder past k records, less those from number `start` on
 -- `Reducing` of the rest, and the first k records as they were
-pub record FrontReducing (room k n : ℕ) (out₀ out scratch : List ℤ) (m sum i : ℕ) : Type 0 where
+pub record FrontReducing (room k start n : ℕ) (out₀ out scratch : List ℤ) (m sum i : ℕ) : Type 0 where
   pub layer : Layer (front out₀ k)
   pub within : k ≤ room
   pub small : room ≤ maxRecords
   pub wide : memoryWidth * room ≤ length out₀
-  pub reducing : Reducing (length (rest out₀ k)) (room - k) (front out₀ k) (held (rest out₀ k) n) (rest out k) (rest scratch k) m sum i
+  pub reducing : Reducing (length (rest out₀ k)) (room - k) (front out₀ k) (held (rest out₀ k) n) start (rest out k) (rest scratch k) m sum i
   pub same : front out k ≡ front out₀ k
   pub long : length out ≡ length out₀
   pub blank : Blank (pos 0) scratch
   pub scratch-long : length scratch ≡ length out₀
 
-pub front-start : (room k n : ℕ) (out scratch : List ℤ) → Layer (front out k) → 1 ≤ k → k ≤ room → room ≤ maxRecords → memoryWidth * room ≤ length out → Remaining (rest out k) n (room - k) → Blank (pos 0) scratch
-    → length scratch ≡ length out → FrontReducing room k n out out scratch n 0 1
-front-start room k n out scratch y o l m w h z e =
+pub front-start : (room k start n : ℕ) (out scratch : List ℤ) → Layer (front out k) → start ≤ k → k ≤ room → room ≤ maxRecords → memoryWidth * room ≤ length out → Remaining (rest out k) n (room - k) → Blank (pos 0) scratch
+    → length scratch ≡ length out → FrontReducing room k start n out out scratch n 0 start
+front-start room k start n out scratch y o l m w h z e =
     record {
       layer = y;
       within = l;
       small = m;
       wide = w;
-      reducing = reduce-start (room - k) (front out k) (rest out k) (rest scratch k) n h (y .fit) (omega (arith, front-count out k (omega (arith, l, w)), o)) (rest-blank scratch k z)
+      reducing = reduce-start (room - k) (front out k) (rest out k) (rest scratch k) n start h (y .fit) (omega (arith, front-count out k (omega (arith, l, w)), o)) (rest-blank scratch k z)
           (rest-length scratch k ∙ ap (λ (x : ℕ). x - memoryWidth * k) e ∙ sym (rest-length out k));
       same = refl;
       long = refl;
@@ -86,7 +86,7 @@ front-start room k n out scratch y o l m w h z e =
       scratch-long = e;
     }
 
-module _ {room k n : ℕ} {out₀ out scratch : List ℤ} {m sum i : ℕ} (h : FrontReducing room k n out₀ out scratch m sum i) where
+module _ {room k start n : ℕ} {out₀ out scratch : List ℤ} {m sum i : ℕ} (h : FrontReducing room k start n out₀ out scratch m sum i) where
   fits : memoryWidth * k ≤ length out₀
   fits = omega (arith, h .within, h .wide)
 
@@ -99,12 +99,16 @@ module _ {room k n : ℕ} {out₀ out scratch : List ℤ} {m sum i : ℕ} (h : F
   scratch-fits : memoryWidth * k ≤ length scratch
   scratch-fits = omega (arith, fits, h .scratch-long)
 
-  pub front-few : sum ≤ maxRecords * maxRecords
+  pub front-few : sum ≤ maxRecords * (maxRecords - start)
   front-few = omega (arith, h .reducing .few, h .reducing .upto, h .layer .few)
 
   pub front-stop : k ≤ i
-      → FoldedAs (length (rest out₀ k)) (room - k) (lessAll (held (rest out₀ k) n) (from (front out₀ k) 1)) (lessAllMarks 0 (held (rest out₀ k) n) (from (front out₀ k) 1)) (Done m sum) (rest out k)
-  front-stop l = reduce-stop _ _ _ _ less-room (h .layer .few) (h .reducing) (omega (arith, front-count out₀ k fits, l))
+      → FoldedAs (length (rest out₀ k)) (room - k) (lessAll (held (rest out₀ k) n) (from (front out₀ k) start)) (lessAllMarks 0 (held (rest out₀ k) n) (from (front out₀ k) start)) (Done m sum) (rest out k)
+  front-stop l = reduce-stop _ _ _ _ _ less-room (h .layer .few) (h .reducing) (omega (arith, front-count out₀ k fits, l))
+
+  pub front-none : m ≡ 0
+      → FoldedAs (length (rest out₀ k)) (room - k) (lessAll (held (rest out₀ k) n) (from (front out₀ k) start)) (lessAllMarks 0 (held (rest out₀ k) n) (from (front out₀ k) start)) (Done m sum) (rest out k)
+  front-none z = reduce-none _ _ _ _ _ less-room (h .layer .few) (h .reducing) z
 
   pub front-fit : All (FitFor coordinateLimit) (layerOf (front out k))
   front-fit = subst (λ (s : List ℤ). All (FitFor coordinateLimit) (layerOf s)) (sym (h .same)) (h .layer .fit)
@@ -140,35 +144,35 @@ module _ {room k n : ℕ} {out₀ out scratch : List ℤ} {m sum i : ℕ} (h : F
           (subst (λ (d : List ℤ). FoldedAs (length d) (room - k) (less (held d m) x) (lessMarks 0 (held d m) x) f t) (rest-is out k) g)
 
       module _ (c : ℕ) (e : f ≡ Short c) where
-        pub front-short : FoldedAs (length (rest out₀ k)) (room - k) (lessAll (held (rest out₀ k) n) (from (front out₀ k) 1)) (lessAllMarks 0 (held (rest out₀ k) n) (from (front out₀ k) 1)) (Short (sum + c)) (rest (putMid (memoryWidth * k) (length out - memoryWidth * k) out t) k)
+        pub front-short : FoldedAs (length (rest out₀ k)) (room - k) (lessAll (held (rest out₀ k) n) (from (front out₀ k) start)) (lessAllMarks 0 (held (rest out₀ k) n) (from (front out₀ k) start)) (Short (sum + c)) (rest (putMid (memoryWidth * k) (length out - memoryWidth * k) out t) k)
         front-short =
-            let r = reduce-short (length (rest out₀ k)) (room - k) (front out₀ k) (held (rest out₀ k) n) less-room (h .layer .few) (h .reducing) next f t answer c e in
+            let r = reduce-short (length (rest out₀ k)) (room - k) (front out₀ k) (held (rest out₀ k) n) start less-room (h .layer .few) (h .reducing) next f t answer c e in
             let z = short-blank (length (rest out k)) (room - k) _ _ f t c e answer in
             (r .0, back-rest out k front-fits t ∙ z ∙ ap (λ (x : ℕ). replicate x (pos 0)) (h .reducing .long))
 
-        pub short-few : sum + c ≤ maxRecords * maxRecords
+        pub short-few : sum + c ≤ maxRecords * (maxRecords - start)
         short-few =
-            let r = reduce-short (length (rest out₀ k)) (room - k) (front out₀ k) (held (rest out₀ k) n) less-room (h .layer .few) (h .reducing) next f t answer c e in
-            omega (arith, r .1, h .reducing .upto, h .layer .few)
+            let r = reduce-short (length (rest out₀ k)) (room - k) (front out₀ k) (held (rest out₀ k) n) start less-room (h .layer .few) (h .reducing) next f t answer c e in
+            omega (arith, r .1, next, h .layer .few)
 
       module _ (w : List ℤ) (z : Blank (pos 0) w) (kept : length t ≡ length (tail out k)) (scratch-kept : length w ≡ length (tail scratch k)) (p c : ℕ) (e : f ≡ Done p c) where
-        turned : Reducing (length (rest out₀ k)) (room - k) (front out₀ k) (held (rest out₀ k) n) t w p (sum + c) (i + 1) × (sum + c ≤ maxRecords * i)
+        turned : Reducing (length (rest out₀ k)) (room - k) (front out₀ k) (held (rest out₀ k) n) start t w p (sum + c) (i + 1) × (sum + c ≤ maxRecords * (i + 1 - start))
         turned =
-            reduce-turn (length (rest out₀ k)) (room - k) (front out₀ k) (held (rest out₀ k) n) less-room (h .layer .few) (h .reducing) next f t answer p c e w z
+            reduce-turn (length (rest out₀ k)) (room - k) (front out₀ k) (held (rest out₀ k) n) start less-room (h .layer .few) (h .reducing) next f t answer p c e w z
             (scratch-kept ∙ ap length (rest-is scratch k)) (kept ∙ ap length (rest-is out k))
 
-        pub turn-few : sum + c ≤ maxRecords * maxRecords
-        turn-few = omega (arith, turned .1, h .reducing .upto, h .layer .few)
+        pub turn-few : sum + c ≤ maxRecords * (maxRecords - start)
+        turn-few = omega (arith, turned .1, next, h .layer .few)
 
-        pub front-turn : FrontReducing room k n out₀ (putMid (memoryWidth * k) (length out - memoryWidth * k) out t) (putMid (memoryWidth * k) (length scratch - memoryWidth * k) scratch w) p (sum + c) (i + 1)
+        pub front-turn : FrontReducing room k start n out₀ (putMid (memoryWidth * k) (length out - memoryWidth * k) out t) (putMid (memoryWidth * k) (length scratch - memoryWidth * k) scratch w) p (sum + c) (i + 1)
         front-turn =
             record {
               layer = h .layer;
               within = h .within;
               small = h .small;
               wide = h .wide;
-              reducing = subst (λ (u : List ℤ). Reducing (length (rest out₀ k)) (room - k) (front out₀ k) (held (rest out₀ k) n) u (rest (putMid (memoryWidth * k) (length scratch - memoryWidth * k) scratch w) k) p (sum + c) (i + 1)) (sym (back-rest out k front-fits t))
-                  (subst (λ (u : List ℤ). Reducing (length (rest out₀ k)) (room - k) (front out₀ k) (held (rest out₀ k) n) t u p (sum + c) (i + 1)) (sym (back-rest scratch k scratch-fits w)) (turned .0));
+              reducing = subst (λ (u : List ℤ). Reducing (length (rest out₀ k)) (room - k) (front out₀ k) (held (rest out₀ k) n) start u (rest (putMid (memoryWidth * k) (length scratch - memoryWidth * k) scratch w) k) p (sum + c) (i + 1)) (sym (back-rest out k front-fits t))
+                  (subst (λ (u : List ℤ). Reducing (length (rest out₀ k)) (room - k) (front out₀ k) (held (rest out₀ k) n) start t u p (sum + c) (i + 1)) (sym (back-rest scratch k scratch-fits w)) (turned .0));
               same = front-stands t;
               long = same-len-mid (memoryWidth * k) (length out - memoryWidth * k) out t kept ∙ h .long;
               blank = scratch-blank w z;

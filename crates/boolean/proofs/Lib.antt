@@ -7,6 +7,7 @@ pub mod Deoverlapping
 pub mod Equality
 pub mod Space
 pub mod Lessening
+pub mod Apart
 pub mod Moving
 pub mod Reducing
 pub mod Commoning

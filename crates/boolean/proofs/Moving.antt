@@ -1,5 +1,6 @@
--- Trapezoids moved from the output to the scratch area, so that they can be replaced.
+-- Trapezoids in the output that stand; or that are moved to the scratch area, so that they can be replaced.
 use mathlib.Core.Path.{_≡_, sym, _∙_, ap, subst}
+use mathlib.Core.Bool.{false}
 use mathlib.Core.List.{List, _++_}
 use Prim.Native.Nat.{ℕ, _+_, _*_, _-_, _≤_}
 use native.Mathlib.Omega.{arith}
@@ -8,7 +9,7 @@ use lib.Seq.{length-take-le, take-at, drop-at}
 use lib.IntN.{ℤ, pos}
 use Rattle.records.specs.Limits.{memoryWidth}
 use Rattle.records.specs.Lists.{All}
-use Rattle.records.specs.Records.{wordsOf, count, Blank}
+use Rattle.records.specs.Records.{wordsOf, image, count, Blank}
 use Rattle.records.proofs.Lists.{all-of}
 use Rattle.records.proofs.Records.{length-from, records-words}
 use Rattle.records.proofs.Buffer.{blank-of, drop-blank, image-take, image-drop}
@@ -19,11 +20,31 @@ use Rattle.geometry.specs.Trapezoids.{trapezoidCodec, layerOf}
 use Rattle.geometry.proofs.Trapezoids.{trapezoid-faithful}
 use Rattle.overlay.specs.Code.{Borrowed}
 use Rattle.boolean.specs.declared.Folded.{Folded}
+use Rattle.boolean.specs.declared.Folded.the-variants.{Done}
 use Rattle.boolean.specs.Operations.{less}
-use Rattle.boolean.specs.Space.{lessMarks}
-use Rattle.boolean.specs.Code.{held, Remaining, FoldedAs}
+use Rattle.boolean.specs.Space.{enough, lessMarks}
+use Rattle.boolean.specs.Code.{held, Remaining, FoldedAs, overlapsAny}
+use Rattle.boolean.proofs.Apart.{less-apart, marks-apart}
+use Rattle.boolean.proofs.Past.{held-fits, front-held}
 
--- d and w before, d' and w' after the move
+-- ---- none overlaps b: they stand
+module _ (d : List ℤ) (n room : ℕ) (h : Remaining d n room) where
+  pub standing-length : memoryWidth * n ≡ length (take (memoryWidth * n) d)
+  standing-length = sym (length-take-le (memoryWidth * n) d (held-fits d n room h))
+
+  pub standing-fit : All (FitFor coordinateLimit) (layerOf (take (memoryWidth * n) d))
+  standing-fit = subst (All (FitFor coordinateLimit)) (sym (front-held d n room h)) (h .fit)
+
+  pub standing-folded : (b : Trapezoid) → overlapsAny (layerOf (take (memoryWidth * n) d)) b ≡ false → FoldedAs (length d) room (less (held d n) b) (lessMarks 0 (held d n) b) (Done n n) d
+  standing-folded b e =
+      let e : overlapsAny (held d n) b ≡ false = ap (λ (ts : List Trapezoid). overlapsAny ts b) (sym (front-held d n room h)) ∙ e in
+      let m : length (held d n) ≡ n = length-from trapezoidCodec n d 0 in
+      let y : less (held d n) b ≡ held d n = less-apart (held d n) b e in (
+        marks-apart room 0 (held d n) b e (omega (arith, m, h .within)) ∙ ap enough m,
+        (sym (ap length y ∙ m), omega (arith, ap length y, m, h .within), h .is ∙ ap (image trapezoidCodec (length d)) (sym y)),
+      )
+
+-- ---- d and w before, d' and w' after the move
 module _ (d w d' w' : List ℤ) (n room : ℕ) (h : Remaining d n room) (blank : Blank (pos 0) w) (same : length w ≡ length d)
     (out : d' ≡ replicate (memoryWidth * n) (pos 0) ++ drop (memoryWidth * n) d) (scratch : w' ≡ take (memoryWidth * n) d ++ drop (memoryWidth * n) w) where
   abbrev end : ℕ

@@ -1,14 +1,14 @@
 -- One trapezoid in hand less those that a buffer holds, and what remains of it past them.
 use mathlib.Core.Path.{_≡_, sym, _∙_, ap, subst}
 use mathlib.Core.List.{List, [], _∷_}
-use Prim.Native.Nat.{ℕ, _*_, _-_, _≤_}
+use Prim.Native.Nat.{ℕ, _+_, _*_, _-_, _<_, _≤_}
 use native.Mathlib.Omega.{arith}
 use lib.ListN.{length, take, drop, replicate}
 use lib.IntN.{ℤ, pos}
 use borrow.Rule.Slice.PartMut.{putMid}
 use Rattle.records.specs.Limits.{memoryWidth, maxRecords}
 use Rattle.records.specs.Lists.{All}
-use Rattle.records.specs.Records.{recordAt, wordsOf, Blank}
+use Rattle.records.specs.Records.{recordAt, wordsOf, count}
 use Rattle.records.proofs.Lists.{all-of}
 use Rattle.records.proofs.Records.{length-from, records-words}
 use Rattle.records.proofs.Buffer.{blank-of, image-take, image-drop}
@@ -23,9 +23,9 @@ use Rattle.boolean.specs.declared.Folded.{Folded}
 use Rattle.boolean.specs.declared.Folded.the-variants.{Short, Done}
 use Rattle.boolean.specs.Operations.{less, lessAll}
 use Rattle.boolean.specs.Space.{addition, lessMarks, lessAllMarks, oneMarks}
-use Rattle.boolean.specs.Code.{front, rest, from, held, withOverlays, OverlaysWithin, Layer, Remaining, FoldedAs}
-use Rattle.boolean.proofs.One.{one-whole, first-few, one-refused, one-remaining, one-folded}
-use Rattle.boolean.proofs.Front.{rest-is, rest-length, front-length, front-count, back-front, back-rest}
+use Rattle.boolean.specs.Code.{front, rest, from, held, withOverlays, OverlaysWithin, Layer, Remaining, FoldedAs, apartBefore}
+use Rattle.boolean.proofs.One.{one-whole, first-few, one-refused, one-remaining, one-folded, one-start, skip-upto, one-skip}
+use Rattle.boolean.proofs.Front.{rest-is, rest-length, front-count, back-front, back-rest}
 
 -- ---- what the buffer holds, and the rest
 module _ (d : List ℤ) (k room : ℕ) (h : Remaining d k room) where
@@ -56,62 +56,68 @@ module _ (d : List ℤ) (k room : ℕ) (h : Remaining d k room) where
   pub past-front : (t : List ℤ) → front (putMid (memoryWidth * k) (length d - memoryWidth * k) d t) k ≡ front d k
   past-front t = back-front d k held-fits t
 
-  -- ---- nothing is held
-  module _ (none : k ≡ 0) where
-    all-rest : (t : List ℤ) → t ≡ rest t k
-    all-rest t = ap (rest t) (sym none)
+  -- ---- a less those from number j on
+  module _ (a : Trapezoid) (j : ℕ) where
+    at-rest : (r : Folded) (u : List ℤ) → FoldedAs (length (tail d k)) (room - k) (lessAll (a ∷ []) (from (front d k) j)) (oneMarks 0 a (from (front d k) j)) r u
+        → FoldedAs (length (rest d k)) (room - k) (lessAll (a ∷ []) (from (front d k) j)) (oneMarks 0 a (from (front d k) j)) r u
+    at-rest r u x = subst (λ (s : List ℤ). FoldedAs (length s) (room - k) (lessAll (a ∷ []) (from (front d k) j)) (oneMarks 0 a (from (front d k) j)) r u) (rest-is d k) x
 
-    pub none-borrowed : Borrowed d room
-    none-borrowed =
-        let z = blank-of (pos 0) (rest d k) (length d - memoryWidth * k) rest-blanks in
-        record { blank = subst (Blank (pos 0)) (sym (all-rest d)) z; wide = h .wide }
+    -- the same of the buffer with u back
+    at-back : (r : Folded) (u : List ℤ) → FoldedAs (length (tail d k)) (room - k) (lessAll (a ∷ []) (from (front d k) j)) (oneMarks 0 a (from (front d k) j)) r u
+        → FoldedAs (length (rest d k)) (room - k) (lessAll (a ∷ []) (from (front d k) j)) (oneMarks 0 a (from (front d k) j)) r (rest (putMid (memoryWidth * k) (length d - memoryWidth * k) d u) k)
+    at-back r u x =
+        subst (λ (v : List ℤ). FoldedAs (length (rest d k)) (room - k) (lessAll (a ∷ []) (from (front d k) j)) (oneMarks 0 a (from (front d k) j)) r v) (sym (back-rest d k held-fits u)) (at-rest r u x)
 
-    pub none-front : (t : List ℤ) → front t k ≡ front d k
-    none-front t = ap (front t) none ∙ ap (front d) (sym none)
+    pub past-whole : k ≤ j → (r : Folded) (t : List ℤ) → FoldedAs (length (tail d k)) (room - k) (a ∷ []) (addition 1 ∷ []) r t
+        → FoldedAs (length (rest d k)) (room - k) (lessAll (a ∷ []) (from (front d k) j)) (oneMarks 0 a (from (front d k) j)) r (rest (putMid (memoryWidth * k) (length d - memoryWidth * k) d t) k)
+    past-whole l r t g = at-back r t (one-whole (length (tail d k)) (room - k) a (front d k) j r t (omega (arith, front-count d k held-fits, l)) g)
 
-    pub none-folded : (a : Trapezoid) (r : Folded) (t : List ℤ) → FoldedAs (length d) room (a ∷ []) (addition 1 ∷ []) r t → FoldedAs (length (rest d k)) (room - k) (lessAll (a ∷ []) (held d k)) (oneMarks 0 a (held d k)) r (rest t k)
-    none-folded a r t g =
-        let n : room ≡ room - k = omega (arith, none) in
-        let w = one-whole (length d) room a (front d k) r t (omega (arith, front-length d k held-fits, none)) g in
-        let x = subst (λ (B : List Trapezoid). FoldedAs (length d) room (lessAll (a ∷ []) B) (oneMarks 0 a B) r t) front-held w in
-        let y = subst (λ (u : List ℤ). FoldedAs (length u) room (lessAll (a ∷ []) (held d k)) (oneMarks 0 a (held d k)) r t) (all-rest d) x in
-        let z = subst (λ (m : ℕ). FoldedAs (length (rest d k)) m (lessAll (a ∷ []) (held d k)) (oneMarks 0 a (held d k)) r t) n y in
-        subst (λ (u : List ℤ). FoldedAs (length (rest d k)) (room - k) (lessAll (a ∷ []) (held d k)) (oneMarks 0 a (held d k)) r u) (all-rest t) z
+    -- b is number j, and f answers a less b
+    module _ (some : j < k) (b : Trapezoid) (is : b ≡ recordAt trapezoidCodec (front d k) j) (f : Folded) (t : List ℤ)
+        (g : FoldedAs (length (tail d k)) (room - k) (less (a ∷ []) b) (lessMarks 0 (a ∷ []) b) f t) where
+      -- the buffer with t back
+      abbrev back : List ℤ
+      back = putMid (memoryWidth * k) (length d - memoryWidth * k) d t
 
-  -- ---- b is the first that is held, and f answers a less b
-  module _ (some : 1 ≤ k) (a b : Trapezoid) (is : b ≡ recordAt trapezoidCodec (front d k) 0) (f : Folded) (t : List ℤ)
-      (g : FoldedAs (length (tail d k)) (room - k) (less (a ∷ []) b) (lessMarks 0 (a ∷ []) b) f t) where
-    -- the buffer with t back
-    abbrev back : List ℤ
-    back = putMid (memoryWidth * k) (length d - memoryWidth * k) d t
+      next : j < count trapezoidCodec (front d k)
+      next = omega (arith, front-count d k held-fits, some)
 
-    one-wide : memoryWidth ≤ length (front d k)
-    one-wide = omega (arith, front-length d k held-fits, some)
+      pub past-few : OverlaysWithin 1 f
+      past-few = first-few (length (tail d k)) (room - k) a b (front d k) j next is f t g
 
-    at-rest : (r : Folded) (u : List ℤ) → FoldedAs (length (tail d k)) (room - k) (lessAll (a ∷ []) (layerOf (front d k))) (oneMarks 0 a (layerOf (front d k))) r u
+      pub past-refused : (c : ℕ) → f ≡ Short c
+          → FoldedAs (length (rest d k)) (room - k) (lessAll (a ∷ []) (from (front d k) j)) (oneMarks 0 a (from (front d k) j)) f (rest (putMid (memoryWidth * k) (length d - memoryWidth * k) d t) k)
+      past-refused c e = at-back f t (one-refused (length (tail d k)) (room - k) a b (front d k) j next is f t g c e)
+
+      module _ (kept : length t ≡ length (tail d k)) (m c : ℕ) (e : f ≡ Done m c) where
+        pub past-remaining : FitFor coordinateLimit a → FitFor coordinateLimit b → Remaining (rest (putMid (memoryWidth * k) (length d - memoryWidth * k) d t) k) m (room - k)
+        past-remaining ha hb =
+            subst (λ (u : List ℤ). Remaining u m (room - k)) (sym (back-rest d k held-fits t))
+            (one-remaining (length (tail d k)) (room - k) a b (front d k) j next is f t g m c e kept (past-borrowed .wide) ha hb)
+
+        pub past-folded : (r : Folded) (u : List ℤ)
+            → FoldedAs (length (rest (putMid (memoryWidth * k) (length d - memoryWidth * k) d t) k)) (room - k) (lessAll (held (rest (putMid (memoryWidth * k) (length d - memoryWidth * k) d t) k) m) (from (front (putMid (memoryWidth * k) (length d - memoryWidth * k) d t) k) (j + 1))) (lessAllMarks 0 (held (rest (putMid (memoryWidth * k) (length d - memoryWidth * k) d t) k) m) (from (front (putMid (memoryWidth * k) (length d - memoryWidth * k) d t) k) (j + 1))) r u
+            → FoldedAs (length (rest d k)) (room - k) (lessAll (a ∷ []) (from (front d k) j)) (oneMarks 0 a (from (front d k) j)) (withOverlays c r) u
+        past-folded r u x =
+            let y = subst (λ (s : List ℤ). FoldedAs (length (rest back k)) (room - k) (lessAll (held (rest back k) m) (from s (j + 1))) (lessAllMarks 0 (held (rest back k) m) (from s (j + 1))) r u) (past-front t) x in
+            let z = subst (λ (s : List ℤ). FoldedAs (length s) (room - k) (lessAll (held s m) (from (front d k) (j + 1))) (lessAllMarks 0 (held s m) (from (front d k) (j + 1))) r u) (back-rest d k held-fits t) y in
+            at-rest (withOverlays c r) u (one-folded (length (tail d k)) (room - k) a b (front d k) j next is f t g m c e r u kept z)
+
+  -- ---- a less all that is held
+  module _ (a : Trapezoid) (r : Folded) (u : List ℤ) where
+    at-held : FoldedAs (length (rest d k)) (room - k) (lessAll (a ∷ []) (layerOf (front d k))) (oneMarks 0 a (layerOf (front d k))) r u
         → FoldedAs (length (rest d k)) (room - k) (lessAll (a ∷ []) (held d k)) (oneMarks 0 a (held d k)) r u
-    at-rest r u x =
-        subst (λ (s : List ℤ). FoldedAs (length s) (room - k) (lessAll (a ∷ []) (held d k)) (oneMarks 0 a (held d k)) r u) (rest-is d k)
-        (subst (λ (B : List Trapezoid). FoldedAs (length (tail d k)) (room - k) (lessAll (a ∷ []) B) (oneMarks 0 a B) r u) front-held x)
+    at-held x = subst (λ (B : List Trapezoid). FoldedAs (length (rest d k)) (room - k) (lessAll (a ∷ []) B) (oneMarks 0 a B) r u) front-held x
 
-    pub past-few : OverlaysWithin 1 f
-    past-few = first-few (length (tail d k)) (room - k) a b (front d k) one-wide is f t g
+    pub past-start : FoldedAs (length (rest d k)) (room - k) (lessAll (a ∷ []) (from (front d k) 0)) (oneMarks 0 a (from (front d k) 0)) r u
+        → FoldedAs (length (rest d k)) (room - k) (lessAll (a ∷ []) (held d k)) (oneMarks 0 a (held d k)) r u
+    past-start x = at-held (one-start (length (rest d k)) (room - k) a (front d k) r u x)
 
-    pub past-refused : (c : ℕ) → f ≡ Short c → FoldedAs (length (rest d k)) (room - k) (lessAll (a ∷ []) (held d k)) (oneMarks 0 a (held d k)) f (rest (putMid (memoryWidth * k) (length d - memoryWidth * k) d t) k)
-    past-refused c e =
-        subst (λ (u : List ℤ). FoldedAs (length (rest d k)) (room - k) (lessAll (a ∷ []) (held d k)) (oneMarks 0 a (held d k)) f u) (sym (back-rest d k held-fits t))
-        (at-rest f t (one-refused (length (tail d k)) (room - k) a b (front d k) one-wide is f t g c e))
+  -- j of them come before the first that overlaps a
+  module _ (a : Trapezoid) (j : ℕ) (is : j ≡ apartBefore a (layerOf (front d k))) where
+    pub past-upto : j ≤ k
+    past-upto = omega (arith, front-count d k held-fits, skip-upto (length (rest d k)) (room - k) a (front d k) j is)
 
-    module _ (kept : length t ≡ length (tail d k)) (m c : ℕ) (e : f ≡ Done m c) where
-      pub past-remaining : FitFor coordinateLimit a → FitFor coordinateLimit b → Remaining (rest (putMid (memoryWidth * k) (length d - memoryWidth * k) d t) k) m (room - k)
-      past-remaining ha hb =
-          subst (λ (u : List ℤ). Remaining u m (room - k)) (sym (back-rest d k held-fits t))
-          (one-remaining (length (tail d k)) (room - k) a b (front d k) one-wide is f t g m c e kept (past-borrowed .wide) ha hb)
-
-      pub past-folded : (r : Folded) (u : List ℤ)
-          → FoldedAs (length (rest (putMid (memoryWidth * k) (length d - memoryWidth * k) d t) k)) (room - k) (lessAll (held (rest (putMid (memoryWidth * k) (length d - memoryWidth * k) d t) k) m) (from (front (putMid (memoryWidth * k) (length d - memoryWidth * k) d t) k) 1)) (lessAllMarks 0 (held (rest (putMid (memoryWidth * k) (length d - memoryWidth * k) d t) k) m) (from (front (putMid (memoryWidth * k) (length d - memoryWidth * k) d t) k) 1)) r u
-          → FoldedAs (length (rest d k)) (room - k) (lessAll (a ∷ []) (held d k)) (oneMarks 0 a (held d k)) (withOverlays c r) u
-      past-folded r u x =
-          let y = subst (λ (s : List ℤ). FoldedAs (length (rest back k)) (room - k) (lessAll (held (rest back k) m) (from s 1)) (lessAllMarks 0 (held (rest back k) m) (from s 1)) r u) (past-front t) x in
-          let z = subst (λ (s : List ℤ). FoldedAs (length s) (room - k) (lessAll (held s m) (from (front d k) 1)) (lessAllMarks 0 (held s m) (from (front d k) 1)) r u) (back-rest d k held-fits t) y in
-          at-rest (withOverlays c r) u (one-folded (length (tail d k)) (room - k) a b (front d k) one-wide is f t g m c e r u kept z)
+    pub past-skip : k < room → (r : Folded) (u : List ℤ) → FoldedAs (length (rest d k)) (room - k) (lessAll (a ∷ []) (from (front d k) j)) (oneMarks 0 a (from (front d k) j)) r u
+        → FoldedAs (length (rest d k)) (room - k) (lessAll (a ∷ []) (held d k)) (oneMarks 0 a (held d k)) (withOverlays j r) u
+    past-skip l r u x = at-held a (withOverlays j r) u (one-skip (length (rest d k)) (room - k) a (front d k) j is (omega (arith, l)) r u x)

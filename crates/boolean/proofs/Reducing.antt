@@ -11,7 +11,7 @@ use Rattle.records.specs.Limits.{maxRecords}
 use Rattle.records.specs.Lists.{All}
 use Rattle.records.specs.Records.{recordAt, recordsFrom, image, count, Blank}
 use Rattle.records.proofs.Lists.{all-of, all-right}
-use Rattle.records.proofs.Records.{from-start, from-step, from-none, from-append, length-from}
+use Rattle.records.proofs.Records.{from-step, from-none, from-append, length-from}
 use Rattle.records.proofs.Buffer.{image-records}
 use Rattle.geometry.specs.declared.Trapezoid.{Trapezoid}
 use Rattle.geometry.specs.Limit.{coordinateLimit}
@@ -28,15 +28,20 @@ use Rattle.boolean.specs.Code as code
 use Rattle.boolean.proofs.Kept.{less-fit}
 use Rattle.boolean.proofs.Space.{plus-none, plus-plus, space-enough, space-short}
 
--- what holds of each trapezoid of a layer holds of number i
-pub all-record : (P : Trapezoid → Type 0) (s : List ℤ) (i : ℕ) → All P (layerOf s) → i < count trapezoidCodec s → P (recordAt trapezoidCodec s i)
-all-record P s i h l =
+-- a layer's trapezoids before number i, and those from there on
+pub layer-split : (s : List ℤ) (i : ℕ) → i ≤ count trapezoidCodec s → layerOf s ≡ recordsFrom trapezoidCodec i s 0 ++ from s i
+layer-split s i l =
     let n = count trapezoidCodec s in
     let e : i + (n - i) ≡ n = omega (arith, l) in
-    let f : layerOf s ≡ recordsFrom trapezoidCodec i s 0 ++ recordsFrom trapezoidCodec (n - i) s (0 + i) = ap (λ (m : ℕ). recordsFrom trapezoidCodec m s 0) (sym e) ∙ from-append trapezoidCodec i (n - i) s 0 in
     let z : 0 + i ≡ i = omega arith in
-    let r = all-right P (recordsFrom trapezoidCodec i s 0) (recordsFrom trapezoidCodec (n - i) s (0 + i)) (subst (All P) f h) in
-    subst (All P) (ap (recordsFrom trapezoidCodec (n - i) s) z ∙ from-step trapezoidCodec n s i l) r .0
+    ap (λ (m : ℕ). recordsFrom trapezoidCodec m s 0) (sym e) ∙ from-append trapezoidCodec i (n - i) s 0 ∙ ap (λ (m : ℕ). recordsFrom trapezoidCodec i s 0 ++ recordsFrom trapezoidCodec (n - i) s m) z
+
+-- what holds of each trapezoid of a layer holds from number i on, and of number i
+pub all-from : (P : Trapezoid → Type 0) (s : List ℤ) (i : ℕ) → All P (layerOf s) → i ≤ count trapezoidCodec s → All P (from s i)
+all-from P s i h l = all-right P (recordsFrom trapezoidCodec i s 0) (from s i) (subst (All P) (layer-split s i l) h)
+
+pub all-record : (P : Trapezoid → Type 0) (s : List ℤ) (i : ℕ) → All P (layerOf s) → i < count trapezoidCodec s → P (recordAt trapezoidCodec s i)
+all-record P s i h l = subst (All P) (from-step trapezoidCodec (count trapezoidCodec s) s i l) (all-from P s i h (omega (arith, l))) .0
 
 -- ---- one overlay for each trapezoid in hand, at most
 abbrev overlaysIn : Space → ℕ
@@ -75,15 +80,26 @@ pub all-marks-one : (k : ℕ) (rs bs : List Trapezoid) (b : Trapezoid) → lessA
 unfolding lessAllMarks
 all-marks-one k rs bs b = refl
 
+-- nothing in hand stays nothing
+all-empty : (bs : List Trapezoid) → lessAll [] bs ≡ []
+unfolding lessAll less
+all-empty [] = refl
+all-empty (b ∷ bs) = all-empty bs
+
+all-marks-empty : (room k : ℕ) (bs : List Trapezoid) → space room (lessAllMarks k [] bs) ≡ enough 0
+unfolding lessAllMarks lessMarks less space
+all-marks-empty room k [] = refl
+all-marks-empty room k (b ∷ bs) = all-marks-empty room k bs
+
 -- ---- the loop
-module _ (W room : ℕ) (layer : List ℤ) (rs : List Trapezoid) where
+module _ (W room : ℕ) (layer : List ℤ) (rs : List Trapezoid) (start : ℕ) where
   -- k trapezoids are in hand, and `made` overlays have been made, before number i
   pub record Reducing (out scratch : List ℤ) (k made i : ℕ) : Type 0 where
     pub remainder : Remaining out k room
-    pub yields : lessAll rs (from layer 1) ≡ lessAll (code.held out k) (from layer i)
-    pub marks : space room (lessAllMarks 0 rs (from layer 1)) ≡ plus made (space room (lessAllMarks 0 (code.held out k) (from layer i)))
-    pub few : made ≤ maxRecords * (i - 1)
-    pub some : 1 ≤ i
+    pub yields : lessAll rs (from layer start) ≡ lessAll (code.held out k) (from layer i)
+    pub marks : space room (lessAllMarks 0 rs (from layer start)) ≡ plus made (space room (lessAllMarks 0 (code.held out k) (from layer i)))
+    pub few : made ≤ maxRecords * (i - start)
+    pub some : start ≤ i
     pub upto : i ≤ count trapezoidCodec layer
     pub fit : All (FitFor coordinateLimit) (from layer i)
     pub blank : Blank (pos 0) scratch
@@ -91,15 +107,27 @@ module _ (W room : ℕ) (layer : List ℤ) (rs : List Trapezoid) where
     pub long : length out ≡ W
 
   module _ (small : room ≤ maxRecords) (short-layer : count trapezoidCodec layer ≤ maxRecords) {out scratch : List ℤ} {k made i : ℕ} (h : Reducing out scratch k made i) where
-    pub reduce-stop : count trapezoidCodec layer ≤ i → FoldedAs W room (lessAll rs (from layer 1)) (lessAllMarks 0 rs (from layer 1)) (Done k made) out
-    reduce-stop l =
-        let e : from layer i ≡ [] = from-none trapezoidCodec (count trapezoidCodec layer) layer i l in
-        let y : lessAll rs (from layer 1) ≡ code.held out k = h .yields ∙ ap (lessAll (code.held out k)) e ∙ all-none (code.held out k) in
+    -- what is in hand stands
+    reduce-done : lessAll (code.held out k) (from layer i) ≡ code.held out k → space room (lessAllMarks 0 (code.held out k) (from layer i)) ≡ enough 0
+        → FoldedAs W room (lessAll rs (from layer start)) (lessAllMarks 0 rs (from layer start)) (Done k made) out
+    reduce-done stands none =
+        let y : lessAll rs (from layer start) ≡ code.held out k = h .yields ∙ stands in
         let n : length (code.held out k) ≡ k = length-from trapezoidCodec k out 0 in
         let z : made + 0 ≡ made = omega arith in (
-          h .marks ∙ ap (λ (ts : List Trapezoid). plus made (space room (lessAllMarks 0 (code.held out k) ts))) e ∙ ap (plus made) (all-marks-none room 0 (code.held out k)) ∙ ap enough z,
+          h .marks ∙ ap (plus made) none ∙ ap enough z,
           rw y (sym n, omega (arith, n, h .remainder .within), h .remainder .is ∙ ap (λ (m : ℕ). image trapezoidCodec m (code.held out k)) (h .long)),
         )
+
+    pub reduce-stop : count trapezoidCodec layer ≤ i → FoldedAs W room (lessAll rs (from layer start)) (lessAllMarks 0 rs (from layer start)) (Done k made) out
+    reduce-stop l =
+        let e : from layer i ≡ [] = from-none trapezoidCodec (count trapezoidCodec layer) layer i l in
+        reduce-done (ap (lessAll (code.held out k)) e ∙ all-none (code.held out k)) (ap (λ (ts : List Trapezoid). space room (lessAllMarks 0 (code.held out k) ts)) e ∙ all-marks-none room 0 (code.held out k))
+
+    pub reduce-none : k ≡ 0 → FoldedAs W room (lessAll rs (from layer start)) (lessAllMarks 0 rs (from layer start)) (Done k made) out
+    reduce-none z =
+        let e : code.held out k ≡ [] = ap (λ (m : ℕ). recordsFrom trapezoidCodec m out 0) z ∙ from-none trapezoidCodec 0 out 0 (omega arith) in
+        reduce-done (ap (λ (ts : List Trapezoid). lessAll ts (from layer i)) e ∙ all-empty (from layer i) ∙ sym e)
+        (ap (λ (ts : List Trapezoid). space room (lessAllMarks 0 ts (from layer i))) e ∙ all-marks-empty room 0 (from layer i))
 
     module _ (l : i < count trapezoidCodec layer) where
       abbrev b : Trapezoid
@@ -108,25 +136,25 @@ module _ (W room : ℕ) (layer : List ℤ) (rs : List Trapezoid) where
       step : from layer i ≡ recordAt trapezoidCodec layer i ∷ from layer (i + 1)
       step = from-step trapezoidCodec (count trapezoidCodec layer) layer i l
 
-      unrolled : space room (lessAllMarks 0 rs (from layer 1)) ≡ plus made (space room (lessMarks 0 (code.held out k) b ++ lessAllMarks 0 (less (code.held out k) b) (from layer (i + 1))))
+      unrolled : space room (lessAllMarks 0 rs (from layer start)) ≡ plus made (space room (lessMarks 0 (code.held out k) b ++ lessAllMarks 0 (less (code.held out k) b) (from layer (i + 1))))
       unrolled = h .marks ∙ ap (λ (ts : List Trapezoid). plus made (space room (lessAllMarks 0 (code.held out k) ts))) step ∙ ap (λ (ms : List Mark). plus made (space room ms)) (all-marks-one 0 (code.held out k) (from layer (i + 1)) b)
 
-      room-for : maxRecords * (i - 1) + maxRecords ≤ maxRecords * i
+      room-for : maxRecords * (i - start) + maxRecords ≤ maxRecords * (i + 1 - start)
       room-for = omega (arith, h .some)
 
       overlays-few : (c : ℕ) → overlaysIn (space room (lessMarks 0 (code.held out k) b)) ≡ c → c ≤ maxRecords
       overlays-few c e = let n : length (code.held out k) ≡ k = length-from trapezoidCodec k out 0 in omega (arith, e, less-overlays room 0 (code.held out k) b, n, h .remainder .within, small)
 
-      made-few : (c : ℕ) → c ≤ maxRecords → made + c ≤ maxRecords * i
+      made-few : (c : ℕ) → c ≤ maxRecords → made + c ≤ maxRecords * (i + 1 - start)
       made-few c m = omega (arith, h .few, room-for, m)
 
       module _ (f : Folded) (t : List ℤ) (g : FoldedAs (length out) room (less (code.held out k) b) (lessMarks 0 (code.held out k) b) f t) where
-        pub reduce-short : (c : ℕ) → f ≡ Short c → (space room (lessAllMarks 0 rs (from layer 1)) ≡ short (made + c)) × (made + c ≤ maxRecords * i)
+        pub reduce-short : (c : ℕ) → f ≡ Short c → (space room (lessAllMarks 0 rs (from layer start)) ≡ short (made + c)) × (made + c ≤ maxRecords * (i + 1 - start))
         reduce-short c e =
             let g = subst (λ (f : Folded). FoldedAs (length out) room (less (code.held out k) b) (lessMarks 0 (code.held out k) b) f t) e g in
             (unrolled ∙ ap (plus made) (space-short room c (lessMarks 0 (code.held out k) b) (lessAllMarks 0 (less (code.held out k) b) (from layer (i + 1))) (g .0)), made-few c (overlays-few c (ap overlaysIn (g .0))))
 
-        pub reduce-turn : (p c : ℕ) → f ≡ Done p c → (w : List ℤ) → Blank (pos 0) w → length w ≡ length scratch → length t ≡ length out → (Reducing t w p (made + c) (i + 1)) × (made + c ≤ maxRecords * i)
+        pub reduce-turn : (p c : ℕ) → f ≡ Done p c → (w : List ℤ) → Blank (pos 0) w → length w ≡ length scratch → length t ≡ length out → (Reducing t w p (made + c) (i + 1)) × (made + c ≤ maxRecords * (i + 1 - start))
         reduce-turn p c e w z n m =
             let g = subst (λ (f : Folded). FoldedAs (length out) room (less (code.held out k) b) (lessMarks 0 (code.held out k) b) f t) e g in
             let d : code.held t p ≡ less (code.held out k) b
@@ -146,7 +174,7 @@ module _ (W room : ℕ) (layer : List ℤ) (rs : List Trapezoid) where
                     ∙ plus-plus made c (space room (lessAllMarks 0 (less (code.held out k) b) (from layer (i + 1))))
                     ∙ ap (λ (ts : List Trapezoid). plus (made + c) (space room (lessAllMarks 0 ts (from layer (i + 1))))) (sym d);
                 few = omega (arith, r);
-                some = omega arith;
+                some = omega (arith, h .some);
                 upto = omega (arith, l);
                 fit = fits .1;
                 blank = z;
@@ -156,18 +184,17 @@ module _ (W room : ℕ) (layer : List ℤ) (rs : List Trapezoid) where
               r,
             )
 
-pub reduce-start : (room : ℕ) (layer out scratch : List ℤ) (k : ℕ) → Remaining out k room → All (FitFor coordinateLimit) (layerOf layer) → 1 ≤ count trapezoidCodec layer → Blank (pos 0) scratch → length scratch ≡ length out
-    → Reducing (length out) room layer (code.held out k) out scratch k 0 1
-reduce-start room layer out scratch k h f l z n =
-    let e : layerOf layer ≡ recordAt trapezoidCodec layer 0 ∷ from layer 1 = sym (from-start trapezoidCodec (count trapezoidCodec layer) layer) ∙ from-step trapezoidCodec (count trapezoidCodec layer) layer 0 l in
+pub reduce-start : (room : ℕ) (layer out scratch : List ℤ) (k start : ℕ) → Remaining out k room → All (FitFor coordinateLimit) (layerOf layer) → start ≤ count trapezoidCodec layer → Blank (pos 0) scratch → length scratch ≡ length out
+    → Reducing (length out) room layer (code.held out k) start out scratch k 0 start
+reduce-start room layer out scratch k start h f l z n =
     record {
       remainder = h;
       yields = refl;
-      marks = sym (plus-none (space room (lessAllMarks 0 (code.held out k) (from layer 1))));
+      marks = sym (plus-none (space room (lessAllMarks 0 (code.held out k) (from layer start))));
       few = omega arith;
       some = omega arith;
       upto = l;
-      fit = subst (All (FitFor coordinateLimit)) e f .1;
+      fit = all-from (FitFor coordinateLimit) layer start f l;
       blank = z;
       same = n;
       long = refl;

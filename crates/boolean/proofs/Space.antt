@@ -20,7 +20,7 @@ pub plus-plus : (n m : ℕ) (s : Space) → plus n (plus m s) ≡ plus (n + m) s
 plus-plus n m (enough k) = ap enough (omega arith)
 plus-plus n m (short k) = ap short (omega arith)
 
-plus-after : (n : ℕ) (s t : Space) → plus n (after s t) ≡ after (plus n s) t
+pub plus-after : (n : ℕ) (s t : Space) → plus n (after s t) ≡ after (plus n s) t
 plus-after n (enough m) t = plus-plus n m t
 plus-after n (short m) t = refl
 

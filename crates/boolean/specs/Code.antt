@@ -1,7 +1,8 @@
 -- What the functions answer and write, by the definitions.
 use mathlib.Core.Path.{_≡_}
+use mathlib.Core.Bool.{Bool, false, cond, _||_}
 use mathlib.Core.List.{List, [], _∷_}
-use Prim.Native.Nat.{ℕ, _+_, _*_, _-_, _<_, _≤_}
+use Prim.Native.Nat.{ℕ, suc, _+_, _*_, _-_, _<_, _≤_}
 use lib.ListN.{length, take, drop, replicate}
 use lib.IntN.{ℤ, pos}
 use Rattle.records.specs.Lists.{All}
@@ -12,6 +13,7 @@ use Rattle.geometry.specs.Limit.{coordinateLimit}
 use Rattle.geometry.specs.Fitness.{FitFor}
 use Rattle.geometry.specs.Trapezoids.{trapezoidCodec, layerOf}
 use Rattle.overlay.specs.declared.Fill.the-variants.{Written}
+use Rattle.overlay.specs.Overlaps.{overlaps}
 use Rattle.overlay.specs.Code.{FilledAs}
 use Rattle.boolean.specs.declared.Folded.{Folded}
 use Rattle.boolean.specs.declared.Folded.the-variants.{Short, Done}
@@ -58,6 +60,17 @@ from s i = recordsFrom trapezoidCodec (count trapezoidCodec s - i) s i
 pub record Layer (s : List ℤ) : Type 0 where
   pub fit : All (FitFor coordinateLimit) (layerOf s)
   pub few : count trapezoidCodec s ≤ maxRecords
+
+-- ---- trapezoids that do not overlap
+-- one of the trapezoids overlaps b
+abbrev pub overlapsAny : List Trapezoid → Trapezoid → Bool
+overlapsAny [] b = false
+overlapsAny (r ∷ rs) b = overlaps r b || overlapsAny rs b
+
+-- how many trapezoids come before the first that a overlaps
+abbrev pub apartBefore : Trapezoid → List Trapezoid → ℕ
+apartBefore a [] = 0
+apartBefore a (b ∷ bs) = cond (overlaps a b) 0 (suc (apartBefore a bs))
 
 -- ---- the number of overlays
 -- the most that are made for one trapezoid in hand, for a layer of them, and for an operation

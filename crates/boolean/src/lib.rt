@@ -13,12 +13,12 @@ ghost use Rattle.records.specs.Lists.{All};
 ghost use Rattle.records.specs.Records.{recordAt, count, Blank};
 ghost use Rattle.geometry.specs.Limit.{coordinateLimit};
 ghost use Rattle.geometry.specs.Fitness.{FitFor};
-ghost use Rattle.geometry.specs.Trapezoids.{trapezoidCodec, layerOf};
 ghost use Rattle.geometry.specs.Code.{pointOf, SmallPoint};
+ghost use Rattle.geometry.specs.Trapezoids.{trapezoidCodec, layerOf};
 ghost use Rattle.overlay.specs.Code.{PlacedAs, Pair, Borrowed};
 ghost use Rattle.boolean.specs.Operations.{union, either-not-both, codeAt, result, less, lessAll, difference, deoverlapped, common, intersection, says as saysOf, liesInLayer};
 ghost use Rattle.boolean.specs.Space.{addition, enough, space, marks, lessMarks, lessAllMarks, oneMarks, differenceMarks, deoverlappedMarks, commonMarks, intersectionMarks};
-ghost use Rattle.boolean.specs.Code.{front, rest, from, Layer, overlaysOfOne, overlaysOfLayer, maxOverlays, withOverlays, OverlaysWithin, held, Remaining, Holding, FoldedAs, ComparedAs, ComparedWithin};
+ghost use Rattle.boolean.specs.Code.{front, rest, from, Layer, overlaysOfOne, overlaysOfLayer, maxOverlays, withOverlays, OverlaysWithin, held, Remaining, Holding, FoldedAs, overlapsAny, apartBefore, ComparedAs, ComparedWithin};
 
 // What a fold answers: the space was short, after so many overlays; or how many trapezoids it wrote, and the number of overlays.
 pub enum Folded {
@@ -133,20 +133,6 @@ fn move_into(out: &mut [i32], scratch: &mut [i32], n: usize)
     records::clear(&mut out[..end]);
 }
 
-// The n trapezoids that `out` holds are in hand: each replaced by its parts that are not in b.
-fn lessen(b: Placed, n: usize, out: &mut [i32], scratch: &mut [i32], room: usize) -> Folded
-    requires { ⌜ PlacedAs (b .shape) b × Remaining (now out) n room ⌝ }
-    requires { ⌜ Blank (pos 0) (now scratch) × (length (now scratch) ≡ length (now out)) ⌝ }
-    ensures { λ r. ⌜ FoldedAs (length (now (out .entry))) room (less (held (now (out .entry)) n) (b .shape)) (lessMarks 0 (held (now (out .entry)) n) (b .shape)) r (now (out .exit)) ⌝ }
-    ensures { λ _. ⌜ Blank (pos 0) (now (scratch .exit)) ⌝ }
-{
-    move_into(out, scratch, n);
-    let end = records::MEMORY_WIDTH * n;
-    let f = less_into(&scratch[..end], b, out, room);
-    records::clear(&mut scratch[..end]);
-    f
-}
-
 // The trapezoid with number i of a layer.
 fn placed_at(layer: &[i32], i: usize) -> Placed
     requires { ⌜ All (FitFor coordinateLimit) (layerOf (now layer)) × (i < count trapezoidCodec (now layer)) ⌝ }
@@ -155,25 +141,69 @@ fn placed_at(layer: &[i32], i: usize) -> Placed
     overlay::place(geometry::load(layer, i))
 }
 
-// The n trapezoids that `out` holds, less every trapezoid of a layer but the first.
+// Whether some trapezoid of a layer overlaps b.
+fn any_overlapping(layer: &[i32], b: Placed) -> bool
+    requires { ⌜ All (FitFor coordinateLimit) (layerOf (now layer)) × PlacedAs (b .shape) b ⌝ }
+    ensures { λ r. ⌜ r ≡ overlapsAny (layerOf (now (layer .entry))) (b .shape) ⌝ }
+{
+    let n = layer.len() / records::MEMORY_WIDTH;
+    let mut i = 0;
+    while i < n {
+        let a = placed_at(layer, i);
+        if overlay::overlapping(a, b) {
+            return true;
+        }
+        i += 1;
+    }
+    false
+}
+
+// The n trapezoids that `out` holds are in hand: each replaced by its parts that are not in b. They stand if none overlaps b.
+fn lessen(b: Placed, n: usize, out: &mut [i32], scratch: &mut [i32], room: usize) -> Folded
+    requires { ⌜ PlacedAs (b .shape) b × Remaining (now out) n room ⌝ }
+    requires { ⌜ Blank (pos 0) (now scratch) × (length (now scratch) ≡ length (now out)) ⌝ }
+    ensures { λ r. ⌜ FoldedAs (length (now (out .entry))) room (less (held (now (out .entry)) n) (b .shape)) (lessMarks 0 (held (now (out .entry)) n) (b .shape)) r (now (out .exit)) ⌝ }
+    ensures { λ _. ⌜ Blank (pos 0) (now (scratch .exit)) ⌝ }
+{
+    let end = records::MEMORY_WIDTH * n;
+    if !any_overlapping(&out[..end], b) {
+        return Folded::Done {
+            trapezoids: n,
+            overlays: n,
+        };
+    }
+    move_into(out, scratch, n);
+    let f = less_into(&scratch[..end], b, out, room);
+    records::clear(&mut scratch[..end]);
+    f
+}
+
+// The n trapezoids that `out` holds, less the trapezoids of a layer from number `start` on, until none remains.
 fn lessen_by_rest(
     layer: &[i32],
+    start: usize,
     n: usize,
     out: &mut [i32],
     scratch: &mut [i32],
     room: usize,
 ) -> Folded
-    requires { ⌜ Layer (now layer) × (1 ≤ count trapezoidCodec (now layer)) × Remaining (now out) n room × (room ≤ maxRecords) ⌝ }
+    requires { ⌜ Layer (now layer) × (start ≤ count trapezoidCodec (now layer)) × Remaining (now out) n room × (room ≤ maxRecords) ⌝ }
     requires { ⌜ Blank (pos 0) (now scratch) × (length (now scratch) ≡ length (now out)) ⌝ }
-    ensures { λ r. ⌜ FoldedAs (length (now (out .entry))) room (lessAll (held (now (out .entry)) n) (from (now (layer .entry)) 1)) (lessAllMarks 0 (held (now (out .entry)) n) (from (now (layer .entry)) 1)) r (now (out .exit)) ⌝ }
-    ensures { λ r. ⌜ OverlaysWithin (maxRecords * maxRecords) r ⌝ }
+    ensures { λ r. ⌜ FoldedAs (length (now (out .entry))) room (lessAll (held (now (out .entry)) n) (from (now (layer .entry)) start)) (lessAllMarks 0 (held (now (out .entry)) n) (from (now (layer .entry)) start)) r (now (out .exit)) ⌝ }
+    ensures { λ r. ⌜ OverlaysWithin (maxRecords * (maxRecords - start)) r ⌝ }
     ensures { λ _. ⌜ Blank (pos 0) (now (scratch .exit)) ⌝ }
 {
     let count = layer.len() / records::MEMORY_WIDTH;
     let mut k = n;
     let mut made = 0;
-    let mut i = 1;
+    let mut i = start;
     while i < count {
+        if k == 0 {
+            return Folded::Done {
+                trapezoids: k,
+                overlays: made,
+            };
+        }
         let b = placed_at(layer, i);
         let f = lessen(b, k, out, scratch, room);
         match f {
@@ -243,18 +273,43 @@ fn add_whole(a: Placed, out: &mut [i32], room: usize) -> Folded
     }
 }
 
-// One trapezoid in hand, less a layer, and what remains of it added.
-fn one_into(a: Placed, layer: &[i32], out: &mut [i32], scratch: &mut [i32], room: usize) -> Folded
+// How many trapezoids of a layer come before the first that overlaps a; all of them if none does.
+fn first_overlapping(a: Placed, layer: &[i32]) -> usize
+    requires { ⌜ PlacedAs (a .shape) a × All (FitFor coordinateLimit) (layerOf (now layer)) ⌝ }
+    ensures { λ r. ⌜ r ≡ apartBefore (a .shape) (layerOf (now (layer .entry))) ⌝ }
+{
+    let n = layer.len() / records::MEMORY_WIDTH;
+    let mut i = 0;
+    while i < n {
+        let b = placed_at(layer, i);
+        if overlay::overlapping(a, b) {
+            return i;
+        }
+        i += 1;
+    }
+    i
+}
+
+// One trapezoid in hand, less the trapezoids of a layer from number j on, and what remains of it added.
+fn one_from(
+    a: Placed,
+    j: usize,
+    layer: &[i32],
+    out: &mut [i32],
+    scratch: &mut [i32],
+    room: usize,
+) -> Folded
     requires { ⌜ PlacedAs (a .shape) a × Layer (now layer) × Borrowed (now out) room × (room ≤ maxRecords) ⌝ }
     requires { ⌜ Blank (pos 0) (now scratch) × (length (now scratch) ≡ length (now out)) ⌝ }
-    ensures { λ r. ⌜ FoldedAs (length (now (out .entry))) room (lessAll (a .shape ∷ []) (layerOf (now (layer .entry)))) (oneMarks 0 (a .shape) (layerOf (now (layer .entry)))) r (now (out .exit)) ⌝ }
-    ensures { λ r. ⌜ OverlaysWithin overlaysOfOne r ⌝ }
+    ensures { λ r. ⌜ FoldedAs (length (now (out .entry))) room (lessAll (a .shape ∷ []) (from (now (layer .entry)) j)) (oneMarks 0 (a .shape) (from (now (layer .entry)) j)) r (now (out .exit)) ⌝ }
+    ensures { λ r. ⌜ OverlaysWithin (maxRecords * (maxRecords - j) + 1) r ⌝ }
     ensures { λ _. ⌜ Blank (pos 0) (now (scratch .exit)) ⌝ }
 {
-    if layer.len() < records::MEMORY_WIDTH {
+    let count = layer.len() / records::MEMORY_WIDTH;
+    if count <= j {
         return add_whole(a, out, room);
     }
-    let b = placed_at(layer, 0);
+    let b = placed_at(layer, j);
     let f = first_into(a, b, out, room);
     let Folded::Done {
         trapezoids: n,
@@ -263,8 +318,25 @@ fn one_into(a: Placed, layer: &[i32], out: &mut [i32], scratch: &mut [i32], room
     else {
         return f;
     };
-    let g = lessen_by_rest(layer, n, out, scratch, room);
+    let g = lessen_by_rest(layer, j + 1, n, out, scratch, room);
     more_overlays(made, g)
+}
+
+// One trapezoid in hand, less a layer, and what remains of it added. Trapezoids that do not overlap it leave
+// it whole: with any room, those before the first that does are counted and passed over.
+fn one_into(a: Placed, layer: &[i32], out: &mut [i32], scratch: &mut [i32], room: usize) -> Folded
+    requires { ⌜ PlacedAs (a .shape) a × Layer (now layer) × Borrowed (now out) room × (room ≤ maxRecords) ⌝ }
+    requires { ⌜ Blank (pos 0) (now scratch) × (length (now scratch) ≡ length (now out)) ⌝ }
+    ensures { λ r. ⌜ FoldedAs (length (now (out .entry))) room (lessAll (a .shape ∷ []) (layerOf (now (layer .entry)))) (oneMarks 0 (a .shape) (layerOf (now (layer .entry)))) r (now (out .exit)) ⌝ }
+    ensures { λ r. ⌜ OverlaysWithin overlaysOfOne r ⌝ }
+    ensures { λ _. ⌜ Blank (pos 0) (now (scratch .exit)) ⌝ }
+{
+    if room == 0 {
+        return one_from(a, 0, layer, out, scratch, room);
+    }
+    let j = first_overlapping(a, layer);
+    let f = one_from(a, j, layer, out, scratch, room);
+    more_overlays(j, f)
 }
 
 // The trapezoids of the first layer, each less the second layer, added past the `start` trapezoids that `out` holds.
@@ -457,21 +529,35 @@ pub fn equal_into(
     }
 }
 
-// `out` holds k trapezoids and, past them, n more, the remainder: each of those less every one of the first k but the first.
-fn lessen_by_front(k: usize, n: usize, out: &mut [i32], scratch: &mut [i32], room: usize) -> Folded
-    requires { ⌜ Layer (front (now out) k) × (1 ≤ k) × (k ≤ room) × (room ≤ maxRecords) ⌝ }
+// `out` holds k trapezoids and, past them, n more, the remainder: each of those less the first k from number `start` on,
+// until none remains.
+fn lessen_by_front(
+    k: usize,
+    start: usize,
+    n: usize,
+    out: &mut [i32],
+    scratch: &mut [i32],
+    room: usize,
+) -> Folded
+    requires { ⌜ Layer (front (now out) k) × (start ≤ k) × (k ≤ room) × (room ≤ maxRecords) ⌝ }
     requires { ⌜ (memoryWidth * room ≤ length (now out)) × Remaining (rest (now out) k) n (room - k) ⌝ }
     requires { ⌜ Blank (pos 0) (now scratch) × (length (now scratch) ≡ length (now out)) ⌝ }
-    ensures { λ r. ⌜ FoldedAs (length (rest (now (out .entry)) k)) (room - k) (lessAll (held (rest (now (out .entry)) k) n) (from (front (now (out .entry)) k) 1)) (lessAllMarks 0 (held (rest (now (out .entry)) k) n) (from (front (now (out .entry)) k) 1)) r (rest (now (out .exit)) k) ⌝ }
+    ensures { λ r. ⌜ FoldedAs (length (rest (now (out .entry)) k)) (room - k) (lessAll (held (rest (now (out .entry)) k) n) (from (front (now (out .entry)) k) start)) (lessAllMarks 0 (held (rest (now (out .entry)) k) n) (from (front (now (out .entry)) k) start)) r (rest (now (out .exit)) k) ⌝ }
     ensures { λ _. ⌜ front (now (out .exit)) k ≡ front (now (out .entry)) k ⌝ }
-    ensures { λ r. ⌜ OverlaysWithin (maxRecords * maxRecords) r ⌝ }
+    ensures { λ r. ⌜ OverlaysWithin (maxRecords * (maxRecords - start)) r ⌝ }
     ensures { λ _. ⌜ Blank (pos 0) (now (scratch .exit)) ⌝ }
 {
     let end = records::MEMORY_WIDTH * k;
     let mut m = n;
     let mut sum = 0;
-    let mut i = 1;
+    let mut i = start;
     while i < k {
+        if m == 0 {
+            return Folded::Done {
+                trapezoids: m,
+                overlays: sum,
+            };
+        }
         let b = placed_at(&out[..end], i);
         let f = lessen(b, m, &mut out[end..], &mut scratch[end..], room - k);
         match f {
@@ -494,20 +580,27 @@ fn lessen_by_front(k: usize, n: usize, out: &mut [i32], scratch: &mut [i32], roo
     }
 }
 
-// One trapezoid in hand, less the k trapezoids that `out` holds, and what remains of it added past them.
-fn one_by_front(a: Placed, k: usize, out: &mut [i32], scratch: &mut [i32], room: usize) -> Folded
+// One trapezoid in hand, less the k trapezoids that `out` holds from number j on, and what remains of it added past them.
+fn one_past(
+    a: Placed,
+    j: usize,
+    k: usize,
+    out: &mut [i32],
+    scratch: &mut [i32],
+    room: usize,
+) -> Folded
     requires { ⌜ PlacedAs (a .shape) a × Remaining (now out) k room × (room ≤ maxRecords) ⌝ }
     requires { ⌜ Blank (pos 0) (now scratch) × (length (now scratch) ≡ length (now out)) ⌝ }
-    ensures { λ r. ⌜ FoldedAs (length (rest (now (out .entry)) k)) (room - k) (lessAll (a .shape ∷ []) (held (now (out .entry)) k)) (oneMarks 0 (a .shape) (held (now (out .entry)) k)) r (rest (now (out .exit)) k) ⌝ }
+    ensures { λ r. ⌜ FoldedAs (length (rest (now (out .entry)) k)) (room - k) (lessAll (a .shape ∷ []) (from (front (now (out .entry)) k) j)) (oneMarks 0 (a .shape) (from (front (now (out .entry)) k) j)) r (rest (now (out .exit)) k) ⌝ }
     ensures { λ _. ⌜ front (now (out .exit)) k ≡ front (now (out .entry)) k ⌝ }
-    ensures { λ r. ⌜ OverlaysWithin overlaysOfOne r ⌝ }
+    ensures { λ r. ⌜ OverlaysWithin (maxRecords * (maxRecords - j) + 1) r ⌝ }
     ensures { λ _. ⌜ Blank (pos 0) (now (scratch .exit)) ⌝ }
 {
-    if k == 0 {
-        return add_whole(a, out, room);
-    }
     let end = records::MEMORY_WIDTH * k;
-    let b = placed_at(&out[..end], 0);
+    if k <= j {
+        return add_whole(a, &mut out[end..], room - k);
+    }
+    let b = placed_at(&out[..end], j);
     let f = first_into(a, b, &mut out[end..], room - k);
     let Folded::Done {
         trapezoids: n,
@@ -516,8 +609,27 @@ fn one_by_front(a: Placed, k: usize, out: &mut [i32], scratch: &mut [i32], room:
     else {
         return f;
     };
-    let g = lessen_by_front(k, n, out, scratch, room);
+    let g = lessen_by_front(k, j + 1, n, out, scratch, room);
     more_overlays(first, g)
+}
+
+// One trapezoid in hand, less the k trapezoids that `out` holds, and what remains of it added past them. With
+// any room, those before the first that overlaps it are passed over, as in `one_into`.
+fn one_by_front(a: Placed, k: usize, out: &mut [i32], scratch: &mut [i32], room: usize) -> Folded
+    requires { ⌜ PlacedAs (a .shape) a × Remaining (now out) k room × (room ≤ maxRecords) ⌝ }
+    requires { ⌜ Blank (pos 0) (now scratch) × (length (now scratch) ≡ length (now out)) ⌝ }
+    ensures { λ r. ⌜ FoldedAs (length (rest (now (out .entry)) k)) (room - k) (lessAll (a .shape ∷ []) (held (now (out .entry)) k)) (oneMarks 0 (a .shape) (held (now (out .entry)) k)) r (rest (now (out .exit)) k) ⌝ }
+    ensures { λ _. ⌜ front (now (out .exit)) k ≡ front (now (out .entry)) k ⌝ }
+    ensures { λ r. ⌜ OverlaysWithin overlaysOfOne r ⌝ }
+    ensures { λ _. ⌜ Blank (pos 0) (now (scratch .exit)) ⌝ }
+{
+    if room <= k {
+        return one_past(a, 0, k, out, scratch, room);
+    }
+    let end = records::MEMORY_WIDTH * k;
+    let j = first_overlapping(a, &out[..end]);
+    let f = one_past(a, j, k, out, scratch, room);
+    more_overlays(j, f)
 }
 
 // Each trapezoid of a layer in turn, less all that the result already holds, is added.

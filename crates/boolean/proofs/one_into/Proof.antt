@@ -1,93 +1,48 @@
-use mathlib.Core.Path.{sym, _∙_, subst}
-use mathlib.Core.List.{[], _∷_}
-use Prim.Native.Nat.{_+_, _*_}
+use mathlib.Core.Path.{sym, subst}
+use Prim.Native.Nat.{_+_, _*_, _-_}
 use native.Mathlib.Omega.{arith}
 use lib.ListN.{length}
 use borrow.Author.Needs.{needs}
-use Rattle.boolean.specs.Space.{addition}
-use Rattle.boolean.specs.Code.{overlaysOfOne, maxOverlays, OverlaysWithin}
-use Rattle.boolean.proofs.Lessening.{placed}
-use Rattle.boolean.proofs.Answers.{folded-within, within-least, within-more, within-done}
-use Rattle.boolean.proofs.One.{one-whole, first-few, one-refused, one-remaining, one-folded}
 use Rattle.records.specs.Limits.{maxRecords}
+use Rattle.boolean.specs.Code.{overlaysOfOne, maxOverlays, OverlaysWithin}
+use Rattle.boolean.proofs.Answers.{within-least, within-more}
+use Rattle.boolean.proofs.One.{one-start, skip-upto, one-skip}
 use Rattle.boolean.proofs.one_into.Statement.{statement}
 use Rattle.boolean.proofs.one_into.Tie as tie
 use Rattle.boolean.proofs.one_into.Reads as reads
 use Rattle.boolean.proofs.one_into.Lts as lts
-use Rattle.boolean.proofs.add_whole.Reads as add-whole-reads
-use Rattle.boolean.proofs.first_into.Reads as first-into-reads
-use Rattle.boolean.proofs.lessen_by_rest.Reads as lessen-by-rest-reads
+use Rattle.boolean.proofs.first_overlapping.Reads as first-overlapping-reads
 use Rattle.boolean.proofs.more_overlays.Reads as more-overlays-reads
-use Rattle.boolean.proofs.placed_at.Reads as placed-at-reads
+use Rattle.boolean.proofs.one_from.Reads as one-from-reads
 
-add-whole-requires : tie.Need-add-whole-requires
-add-whole-requires c κs = search needs
+one-from-requires : tie.Need-one-from-requires
+one-from-requires c κs = search needs
 
 same-length : tie.Need-same-length
 same-length c = search needs
 
-returns : tie.Need-returns
-returns c =
-    let s = c .before .before .before .before in
-    let a = s .args in
-    let w = c .before .add-whole in
-    let t = w .last .1 .0 in (
-      one-whole (length (a .out .now)) (a .room) (a .a .shape) (a .layer .now) (w .result) t (c .before .before .before .if1 .taken) (w .ensures),
-      (within-least 1 overlaysOfOne (w .result) (omega arith) (folded-within (length (a .out .now)) (a .room) (a .a .shape ∷ []) (addition 1 ∷ []) (w .result) t (w .ensures)), s .pre .1 .0),
-    )
-
-placed-at-requires : tie.Need-placed-at-requires
-placed-at-requires c κs = search needs
-
-first-into-requires : tie.Need-first-into-requires
-first-into-requires c κs =
-    let s = c .before .before .before in
-    (record { first = s .pre .0 .0; second = placed (c .before .placed-at .ensures) }, s .pre .0 .2)
-
-enum-known-f : tie.Need-enum-known-f
-enum-known-f c = search needs
-
-enum-told : tie.Need-enum-told
-enum-told c = search needs
-
 same-length-2 : tie.Need-same-length-2
 same-length-2 c = search needs
 
-returns-2 : tie.Need-returns-2
-returns-2 c =
-    let s = c .before .before .before .before .before .before .before in
-    let a = s .args in
-    let f = c .before .before .before .first-into in
-    let p = c .before .before .before .before .before .placed-at in
-    let l = c .before .before .before .before .before .before .if1 .left in
-    let t = f .last .1 .1 .0 in (
-      one-refused (length (a .out .now)) (a .room) (a .a .shape) (p .result .shape) (a .layer .now) (omega (arith, l)) (p .ensures .shape) (f .result) t (f .ensures) _ (c .enum-told .given .1),
-      (within-least 1 overlaysOfOne (f .result) (omega arith) (first-few (length (a .out .now)) (a .room) (a .a .shape) (p .result .shape) (a .layer .now) (omega (arith, l)) (p .ensures .shape) (f .result) t (f .ensures)), s .pre .1 .0),
-    )
+returns : tie.Need-returns
+returns c =
+    let f = c .before .before .one-from in
+    let a = c .before .before .before .before .before .before .args in
+    (one-start (length (a .out .now)) (a .room) (a .a .shape) (a .layer .now) (f .result) (f .last .1 .1 .1 .0) (f .ensures .0), (f .ensures .1 .0, f .ensures .1 .1))
 
-lessen-by-rest-requires : tie.Need-lessen-by-rest-requires
-lessen-by-rest-requires c κs =
-    let k = c .before .before in
-    let f = k .before .before .before .before .first-into in
-    let p = k .before .before .before .before .before .before .placed-at in
-    let i = k .before .before .before .before .before .before .before in
-    let s = i .before in
-    let a = s .args in
-    let l = i .if1 .left in (
-      (s .pre .0 .1, omega (arith, l), one-remaining (length (a .out .now)) (a .room) (a .a .shape) (p .result .shape) (a .layer .now) (omega (arith, l)) (p .ensures .shape) (f .result) (f .last .1 .1 .0) (f .ensures) _ _ (k .before .f .given .1) (f .kept .1 .1 .0) (s .pre .0 .2 .wide) (s .pre .0 .0 .fit) (p .ensures .fit), s .pre .0 .3),
-      (s .pre .1 .0, s .pre .1 .1 ∙ sym (f .kept .1 .1 .0)),
-    )
+first-overlapping-requires : tie.Need-first-overlapping-requires
+first-overlapping-requires c κs = search needs
+
+one-from-requires-2 : tie.Need-one-from-requires-2
+one-from-requires-2 c κs = search needs
 
 more-overlays-requires : tie.Need-more-overlays-requires
 more-overlays-requires c κs =
-    let q = c .before .before .lessen-by-rest in
-    let k = c .before .before .before .before .before in
-    let f = k .before .before .before .before .first-into in
-    let p = k .before .before .before .before .before .before .placed-at in
-    let i = k .before .before .before .before .before .before .before in
-    let a = i .before .args in
-    let u = first-few (length (a .out .now)) (a .room) (a .a .shape) (p .result .shape) (a .layer .now) (omega (arith, i .if1 .left)) (p .ensures .shape) (f .result) (f .last .1 .1 .0) (f .ensures) in
-    (omega (arith, within-done 1 _ _ (f .result) (k .before .f .given .1) u), within-least (maxRecords * maxRecords) maxOverlays (q .result) (omega arith) (q .ensures .1 .0))
+    let f = c .before .before .one-from2 in
+    let v = c .before .before .before .before .before .first-overlapping in
+    let s = c .before .before .before .before .before .before .before in
+    let a = s .args in
+    (omega (arith, skip-upto (length (a .out .now)) (a .room) (a .a .shape) (a .layer .now) (v .result) (v .ensures), s .pre .0 .1 .few), within-least (maxRecords * (maxRecords - v .result) + 1) maxOverlays (f .result) (omega arith) (f .ensures .1 .0))
 
 same-length-3 : tie.Need-same-length-3
 same-length-3 c = search needs
@@ -95,37 +50,31 @@ same-length-3 c = search needs
 same-length-4 : tie.Need-same-length-4
 same-length-4 c = search needs
 
-returns-3 : tie.Need-returns-3
-returns-3 c =
-    let q = c .before .before .before .lessen-by-rest in
-    let k = c .before .before .before .before .before .before in
-    let f = k .before .before .before .before .first-into in
-    let p = k .before .before .before .before .before .before .placed-at in
-    let i = k .before .before .before .before .before .before .before in
-    let a = i .before .args in
-    let l = i .if1 .left in
-    let u = first-few (length (a .out .now)) (a .room) (a .a .shape) (p .result .shape) (a .layer .now) (omega (arith, l)) (p .ensures .shape) (f .result) (f .last .1 .1 .0) (f .ensures) in
-    let v = within-done 1 _ _ (f .result) (k .before .f .given .1) u in
+returns-2 : tie.Need-returns-2
+returns-2 c =
     let r = c .more-overlays .ensures in
-    let g = one-folded (length (a .out .now)) (a .room) (a .a .shape) (p .result .shape) (a .layer .now) (omega (arith, l)) (p .ensures .shape) (f .result) (f .last .1 .1 .0) (f .ensures) _ _ (k .before .f .given .1) (q .result) (q .last .1 .1 .0) (f .kept .1 .1 .0) (q .ensures .0) in
-    let w = within-more (maxRecords * maxRecords) 1 _ (q .result) v (q .ensures .1 .0) in
-    (rw (r) g, (within-least (1 + maxRecords * maxRecords) overlaysOfOne (c .more-overlays .result) (omega arith) (subst (OverlaysWithin (1 + maxRecords * maxRecords)) (sym r) w), q .ensures .1 .1))
+    let f = c .before .before .before .one-from2 in
+    let v = c .before .before .before .before .before .before .first-overlapping in
+    let i = c .before .before .before .before .before .before .before in
+    let s = i .before in
+    let a = s .args in
+    let u = skip-upto (length (a .out .now)) (a .room) (a .a .shape) (a .layer .now) (v .result) (v .ensures) in
+    let g = one-skip (length (a .out .now)) (a .room) (a .a .shape) (a .layer .now) (v .result) (v .ensures) (omega (arith, i .if1 .left)) (f .result) (f .last .1 .1 .1 .0) (f .ensures .0) in
+    let m = maxRecords * (maxRecords - v .result) + 1 in
+    let w = within-more m (v .result) (v .result) (f .result) (omega arith) (f .ensures .1 .0) in
+    (rw r g, (within-least (v .result + m) overlaysOfOne (c .more-overlays .result) (omega (arith, u, s .pre .0 .1 .few)) (subst (OverlaysWithin (v .result + m)) (sym r) w), f .ensures .1 .1))
 
 pub one-into-spec : {M : Type 1} → statement M
 one-into-spec =
     tie.close
     (tie.spec
-    add-whole-requires
+    one-from-requires
     same-length
-    returns
-    placed-at-requires
-    first-into-requires
-    enum-known-f
-    enum-told
     same-length-2
-    returns-2
-    lessen-by-rest-requires
+    returns
+    first-overlapping-requires
+    one-from-requires-2
     more-overlays-requires
     same-length-3
     same-length-4
-    returns-3)
+    returns-2)
