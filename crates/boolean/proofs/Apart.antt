@@ -28,6 +28,10 @@ pub part-apart : (r b : Trapezoid) → overlaps r b ≡ false → tagged 1 (over
 unfolding overlay tagged
 part-apart r b e = rw e refl
 
+pub common-apart : (a b : Trapezoid) → overlaps a b ≡ false → tagged 3 (overlay a b) ≡ []
+unfolding overlay tagged
+common-apart a b e = rw e refl
+
 -- where none overlaps b, all stand
 pub less-apart : (rs : List Trapezoid) (b : Trapezoid) → overlapsAny rs b ≡ false → less rs b ≡ rs
 less-apart [] b e = less-none b

@@ -15,7 +15,8 @@ ghost use Rattle.geometry.specs.Limit.{coordinateLimit};
 ghost use Rattle.geometry.specs.Fitness.{FitFor};
 ghost use Rattle.geometry.specs.Code.{pointOf, SmallPoint};
 ghost use Rattle.geometry.specs.Trapezoids.{trapezoidCodec, layerOf};
-ghost use Rattle.overlay.specs.Code.{PlacedAs, Pair, Borrowed};
+ghost use Rattle.overlay.specs.Overlay.{overlay as overlayOf, tagged};
+ghost use Rattle.overlay.specs.Code.{PlacedAs, Pair, Borrowed, FilledAs};
 ghost use Rattle.boolean.specs.Operations.{union, either-not-both, codeAt, result, less, lessAll, difference, deoverlapped, common, intersection, says as saysOf, liesInLayer};
 ghost use Rattle.boolean.specs.Space.{addition, enough, space, marks, lessMarks, lessAllMarks, oneMarks, differenceMarks, deoverlappedMarks, commonMarks, intersectionMarks};
 ghost use Rattle.boolean.specs.Code.{front, rest, from, Layer, overlaysOfOne, overlaysOfLayer, maxOverlays, withOverlays, OverlaysWithin, held, Remaining, Holding, FoldedAs, overlapsAny, apartBefore, ComparedAs, ComparedWithin};
@@ -61,6 +62,17 @@ pub fn less_into(remainder: &[i32], b: Placed, out: &mut [i32], room: usize) -> 
     }
 }
 
+// The parts common to two trapezoids, and nothing at once where they do not overlap.
+fn common_parts(a: Placed, b: Placed, out: &mut [i32], room: usize) -> Fill
+    requires { ⌜ Pair a b × Borrowed (now out) room ⌝ }
+    ensures { λ r. ⌜ FilledAs (length (now (out .entry))) room (tagged 3 (overlayOf (a .shape) (b .shape))) r (now (out .exit)) ⌝ }
+{
+    if overlay::overlapping(a, b) {
+        return overlay::overlay_into(a, b, 3, out, room);
+    }
+    Fill::Written(0)
+}
+
 // The parts common to a and each trapezoid of the layer, in order.
 pub fn common_into(a: Placed, layer: &[i32], out: &mut [i32], room: usize) -> Folded
     requires { ⌜ All (FitFor coordinateLimit) (layerOf (now layer)) ⌝ }
@@ -73,7 +85,7 @@ pub fn common_into(a: Placed, layer: &[i32], out: &mut [i32], room: usize) -> Fo
     while i < n {
         let t = geometry::load(layer, i);
         let b = overlay::place(t);
-        let f = overlay::overlay_into(a, b, 3, &mut out[records::MEMORY_WIDTH * k..], room - k);
+        let f = common_parts(a, b, &mut out[records::MEMORY_WIDTH * k..], room - k);
         let Fill::Written(m) = f else {
             records::clear(out);
             return Folded::Short(i + 1);

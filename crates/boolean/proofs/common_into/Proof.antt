@@ -19,7 +19,7 @@ use Rattle.boolean.proofs.common_into.Tie as tie
 use Rattle.boolean.proofs.common_into.Reads as reads
 use Rattle.boolean.proofs.common_into.Lts as lts
 use Rattle.geometry.proofs.load.Reads as load-reads
-use Rattle.overlay.proofs.overlay_into.Reads as overlay-into-reads
+use Rattle.boolean.proofs.common_parts.Reads as common-parts-reads
 use Rattle.overlay.proofs.place.Reads as place-reads
 use Rattle.records.proofs.clear.Reads as clear-reads
 
@@ -42,37 +42,37 @@ place-requires : tie.Need-place-requires Inv-loop μ-loop
 place-requires c κs =
     subst (FitFor coordinateLimit) (sym (c .load .ensures)) (common-fit (c .before .before .loop .inv) (c .before .loop-test .taken))
 
-mul-overlay-into : tie.Need-mul-overlay-into Inv-loop μ-loop
-mul-overlay-into c =
+mul-common-parts : tie.Need-mul-common-parts Inv-loop μ-loop
+mul-common-parts c =
     let h = c .before .before .before .loop .inv .writing in
     omega (arith, h .upto, h .wide, h .long, c .before .before .before .before .good .1 .1 .0)
 
-mul-overlay-into-2 : tie.Need-mul-overlay-into-2 Inv-loop μ-loop
-mul-overlay-into-2 c =
+mul-common-parts-2 : tie.Need-mul-common-parts-2 Inv-loop μ-loop
+mul-common-parts-2 c =
     let h = c .before .before .before .loop .inv .writing in
     omega (arith, h .upto, h .wide, h .long, c .before .before .before .before .good .1 .1 .0)
 
-sub-overlay-into : tie.Need-sub-overlay-into Inv-loop μ-loop
-sub-overlay-into c =
+sub-common-parts : tie.Need-sub-common-parts Inv-loop μ-loop
+sub-common-parts c =
     let h = c .before .before .before .loop .inv .writing in
     omega (arith, h .upto, h .wide, h .long, c .before .before .before .before .good .1 .1 .0)
 
-part-overlay-into-start : tie.Need-part-overlay-into-start Inv-loop μ-loop
-part-overlay-into-start c = search needs
+part-common-parts-start : tie.Need-part-common-parts-start Inv-loop μ-loop
+part-common-parts-start c = search needs
 
-part-overlay-into-end : tie.Need-part-overlay-into-end Inv-loop μ-loop
-part-overlay-into-end c =
+part-common-parts-end : tie.Need-part-common-parts-end Inv-loop μ-loop
+part-common-parts-end c =
     let h = c .before .before .before .loop .inv .writing in
     omega (arith, h .upto, h .wide, h .long, c .before .before .before .before .good .1 .1 .0)
 
-sub-overlay-into-2 : tie.Need-sub-overlay-into-2 Inv-loop μ-loop
-sub-overlay-into-2 c =
+sub-common-parts-2 : tie.Need-sub-common-parts-2 Inv-loop μ-loop
+sub-common-parts-2 c =
     omega (arith, c .before .before .before .before .loop .inv .writing .upto)
 
-overlay-into-requires : tie.Need-overlay-into-requires Inv-loop μ-loop
-overlay-into-requires c κs =
+common-parts-requires : tie.Need-common-parts-requires Inv-loop μ-loop
+common-parts-requires c κs =
     let l = c .before .before .before .before in
-    (record { first = l .before .pre .1 .0; second = placed (c .before .place .ensures) }, omega arith, common-borrowed (l .loop .inv))
+    (record { first = l .before .pre .1 .0; second = placed (c .before .place .ensures) }, common-borrowed (l .loop .inv))
 
 enum-known-f : tie.Need-enum-known-f Inv-loop μ-loop
 enum-known-f c = search needs
@@ -92,8 +92,8 @@ same-length : tie.Need-same-length Inv-loop μ-loop
 same-length c =
     let o = c .before .before .before .before .before .before in
     let l = o .before .before .before .before .before .loop in
-    let f = o .overlay-into in
-    c .before .clear .kept .0 ∙ same-len-mid (memoryWidth * l .k) (length (l .out) - memoryWidth * l .k) (l .out) (f .last .1 .1 .1 .0) (f .kept .1 .1 .1 .0) ∙ l .inv .writing .long
+    let f = o .common-parts in
+    c .before .clear .kept .0 ∙ same-len-mid (memoryWidth * l .k) (length (l .out) - memoryWidth * l .k) (l .out) (f .last .1 .1 .0) (f .kept .1 .1 .0) ∙ l .inv .writing .long
 
 returns : tie.Need-returns Inv-loop μ-loop
 returns c =
@@ -102,12 +102,12 @@ returns c =
     let l = q .before .before .before in
     let s = l .before in
     let p = l .loop in
-    let f = o .overlay-into in
+    let f = o .common-parts in
     let t = s .args .layer .now in
-    let g = common-filled (length (tail (p .out) (p .k))) (s .args .room - p .k) (s .args .a .shape) (q .place .result .shape) (recordAt trapezoidCodec t (p .i)) (f .result) (f .last .1 .1 .1 .0) (q .place .ensures .shape ∙ q .before .load .ensures) (f .ensures) in
+    let g = common-filled (length (tail (p .out) (p .k))) (s .args .room - p .k) (s .args .a .shape) (q .place .result .shape) (recordAt trapezoidCodec t (p .i)) (f .result) (f .last .1 .1 .0) (q .place .ensures .shape ∙ q .before .load .ensures) (f .ensures) in
     let n : length (c .before .clear .last .0) ≡ length (s .args .out .now) = same-length c in
-    let z = blank-of (pos 0) (c .before .clear .last .0) (length (putMid (memoryWidth * p .k) (length (p .out) - memoryWidth * p .k) (p .out) (f .last .1 .1 .1 .0))) (c .before .clear .ensures) in
-    (common-short (p .inv) (q .before .before .loop-test .taken) (f .result) (f .last .1 .1 .1 .0) g (c .before .before .before .enum-told .given .1), rw (← n) z)
+    let z = blank-of (pos 0) (c .before .clear .last .0) (length (putMid (memoryWidth * p .k) (length (p .out) - memoryWidth * p .k) (p .out) (f .last .1 .1 .0))) (c .before .clear .ensures) in
+    (common-short (p .inv) (q .before .before .loop-test .taken) (f .result) (f .last .1 .1 .0) g (c .before .before .before .enum-told .given .1), rw (← n) z)
 
 add-k : tie.Need-add-k Inv-loop μ-loop
 add-k c =
@@ -116,10 +116,10 @@ add-k c =
     let l = q .before .before .before in
     let s = l .before in
     let p = l .loop in
-    let f = o .overlay-into in
+    let f = o .common-parts in
     let t = s .args .layer .now in
-    let g = common-filled (length (tail (p .out) (p .k))) (s .args .room - p .k) (s .args .a .shape) (q .place .result .shape) (recordAt trapezoidCodec t (p .i)) (f .result) (f .last .1 .1 .1 .0) (q .place .ensures .shape ∙ q .before .load .ensures) (f .ensures) in
-    let u = common-upto (p .inv) (q .before .before .loop-test .taken) (f .result) (f .last .1 .1 .1 .0) g _ (c .before .f .given .1) in
+    let g = common-filled (length (tail (p .out) (p .k))) (s .args .room - p .k) (s .args .a .shape) (q .place .result .shape) (recordAt trapezoidCodec t (p .i)) (f .result) (f .last .1 .1 .0) (q .place .ensures .shape ∙ q .before .load .ensures) (f .ensures) in
+    let u = common-upto (p .inv) (q .before .before .loop-test .taken) (f .result) (f .last .1 .1 .0) g _ (c .before .f .given .1) in
     omega (arith, u, p .inv .writing .wide, s .good .1 .1 .0)
 
 add-i : tie.Need-add-i Inv-loop μ-loop
@@ -137,10 +137,10 @@ loop-again c =
     let l = q .before .before .before in
     let s = l .before in
     let p = l .loop in
-    let f = o .overlay-into in
+    let f = o .common-parts in
     let t = s .args .layer .now in
-    let g = common-filled (length (tail (p .out) (p .k))) (s .args .room - p .k) (s .args .a .shape) (q .place .result .shape) (recordAt trapezoidCodec t (p .i)) (f .result) (f .last .1 .1 .1 .0) (q .place .ensures .shape ∙ q .before .load .ensures) (f .ensures) in
-    common-turn (p .inv) (q .before .before .loop-test .taken) (f .result) (f .last .1 .1 .1 .0) g _ (c .before .f .given .1)
+    let g = common-filled (length (tail (p .out) (p .k))) (s .args .room - p .k) (s .args .a .shape) (q .place .result .shape) (recordAt trapezoidCodec t (p .i)) (f .result) (f .last .1 .1 .0) (q .place .ensures .shape ∙ q .before .load .ensures) (f .ensures) in
+    common-turn (p .inv) (q .before .before .loop-test .taken) (f .result) (f .last .1 .1 .0) g _ (c .before .f .given .1)
 
 same-length-2 : tie.Need-same-length-2 Inv-loop μ-loop
 same-length-2 c =
@@ -159,13 +159,13 @@ common-into-spec =
     loop-holds
     load-requires
     place-requires
-    mul-overlay-into
-    mul-overlay-into-2
-    sub-overlay-into
-    part-overlay-into-start
-    part-overlay-into-end
-    sub-overlay-into-2
-    overlay-into-requires
+    mul-common-parts
+    mul-common-parts-2
+    sub-common-parts
+    part-common-parts-start
+    part-common-parts-end
+    sub-common-parts-2
+    common-parts-requires
     enum-known-f
     enum-told
     clear-requires
