@@ -42,6 +42,19 @@ uint64_t loxurfa_equal(const int32_t *a, size_t a_words, const int32_t *b, size_
 uint64_t loxurfa_contains(int32_t x, int32_t y, int32_t d, const int32_t *a, size_t a_words,
                           const int32_t *b, size_t b_words, uint32_t code);
 
+/* The connected components of a: two trapezoids are in one component if a chain of touching ones joins them, with their edges. `numbers`
+ * has one entry for each trapezoid, and gets the lowest number of a trapezoid of its component, counted from 0. Bits 32 to 62: the
+ * number of components. Bits 0 to 31: 0. */
+uint64_t loxurfa_components(const int32_t *a, size_t a_words, uint32_t *numbers, size_t numbers_count);
+
+/* The words of a layer file: the number of layers, offset and length of each in trapezoids, then the trapezoids. A file has the same
+ * words, low byte first. `out` has any length; past the words it is set to 0. Bits 32 to 62: the trapezoids of all layers.
+ * Bits 0 to 31: 0. 12 (no space): `out` is shorter, and all 0. */
+uint64_t loxurfa_read_layers(const uint8_t *file, size_t file_bytes, int32_t *out, size_t out_words);
+
+/* The file with these words, the same way. */
+uint64_t loxurfa_write_layers(const int32_t *words, size_t words_count, uint8_t *out, size_t out_bytes);
+
 #ifdef __cplusplus
 }
 #endif

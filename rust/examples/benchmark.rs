@@ -4,6 +4,11 @@
 
 #[path = "../tests/reference/mod.rs"]
 mod reference;
+#[path = "../tests/support/mod.rs"]
+mod support;
+
+#[path = "rows/components.rs"]
+mod components;
 
 use loxurfa::raw;
 use reference::{Line, LIMIT, WORDS};
@@ -117,19 +122,25 @@ fn tiles(columns: i32, rows: i32, x: (i32, i32), y: (i32, i32), rise: i32) -> Ve
 }
 
 /// The best time of one call, over at least 5 calls and half a second, and the answer.
-fn time(call: Call, a: &[i32], b: &[i32]) -> (Duration, u64, Vec<i32>) {
-    let mut out = vec![1; 512 * WORDS];
-    let mut scratch = vec![1; 512 * WORDS];
+fn best(mut call: impl FnMut() -> u64) -> (Duration, u64) {
     let mut best = Duration::MAX;
     let mut answer = 0;
     let begun = Instant::now();
     let mut calls = 0;
     while calls < 5 || begun.elapsed() < Duration::from_millis(500) {
         let start = Instant::now();
-        answer = call(black_box(a), black_box(b), &mut out, &mut scratch);
+        answer = call();
         best = best.min(start.elapsed());
         calls += 1;
     }
+    (best, answer)
+}
+
+/// The best time, the answer and the output of a call on layers.
+fn time(call: Call, a: &[i32], b: &[i32]) -> (Duration, u64, Vec<i32>) {
+    let mut out = vec![1; 512 * WORDS];
+    let mut scratch = vec![1; 512 * WORDS];
+    let (best, answer) = best(|| call(black_box(a), black_box(b), &mut out, &mut scratch));
     (best, answer, out)
 }
 
@@ -208,4 +219,6 @@ fn main() {
     let a = tiles(32, 16, whole, whole, 200);
     let b = tiles(16, 32, whole, whole, 200);
     row("dense", EQUALITY, &a, &b);
+
+    components::rows();
 }

@@ -9,6 +9,12 @@
 
 #![deny(unsafe_op_in_unsafe_fn)]
 
+mod components;
+mod files;
+
+pub use components::components;
+pub use files::{read_layers, write_layers, MAX_LAYERS};
+
 /// Words in one trapezoid.
 pub const TRAPEZOID_WORDS: usize = 24;
 
@@ -46,7 +52,8 @@ impl Code {
 pub struct Refusal {
     /// The refusal's number, 1 to 12.
     pub number: u8,
-    /// The trapezoid it was met at (B's numbered on from A's), or 0.
+    /// The trapezoid it was met at (B's numbered on from A's, a file's through all its layers), the
+    /// polygon, the pair of offset and length (one past the last for the end of the file), or 0.
     pub place: u32,
 }
 
@@ -161,6 +168,12 @@ fn done(answer: u64) -> Result<Done, Refusal> {
 /// Bit 63 set: refused, the number in bits 32 to 39, the place in bits 0 to 31. Else the value in
 /// bits 32 to 62 and the overlays in bits 0 to 31.
 pub mod raw {
+    mod components;
+    mod files;
+
+    pub use components::components;
+    pub use files::{read_layers, write_layers};
+
     mod c {
         extern "C" {
             pub fn loxurfa_combine(

@@ -1,6 +1,10 @@
-// The public interface: set operations, deoverlapping, equality and the point question on layers of trapezoids, for every input.
+// The public interface: set operations, deoverlapping, equality, the point question and connected components of layers of
+// trapezoids, and layer files, for every input.
 use boolean::Compared;
 use boolean::Folded;
+use connectivity::Connected;
+use files::LayersRead;
+use files::LayersWritten;
 use geometry::Checked;
 use integer::Int;
 ghost use mathlib.Core.Path.{_≡_};
@@ -11,6 +15,8 @@ ghost use lib.ListN.{length};
 ghost use lib.Signed.{leZ};
 ghost use Rattle.records.specs.Limits.{sized};
 ghost use Rattle.geometry.specs.Code.{pointOf};
+ghost use Rattle.connectivity.specs.Outcome.{connectedAnswer, Small as SmallConnected, observed as observedNumbers, componentsOutcome};
+ghost use Rattle.files.specs.Outcomes.{readAnswer, writtenAnswer, Small as SmallFile, observed as observedFile, readLayers, writeLayers};
 ghost use Rattle.loxurfa.specs.Answers.{combinedAnswer, deoverlappedAnswer, equalityAnswer, pointAnswer, Small, SmallEquality, SmallPoint};
 ghost use Rattle.loxurfa.specs.Outcomes.{zeros, observed, combined, deoverlapOutcome, equalOutcome, containsAnswer};
 ghost use Rattle.loxurfa.specs.Rows.{buffersSized, withinTimes, pointAt, pointPasses, layersChecked, combineChecked, deoverlapChecked, equalChecked, containsChecked};
@@ -348,4 +354,28 @@ pub fn equal(a: &[i32], b: &[i32], out: &mut [i32], scratch: &mut [i32]) -> Equa
             return Equality::Differs { side, overlays };
         }
     }
+}
+
+// The words of a layer file, written to `out`, which has any length.
+pub fn read_layers(file: &[u8], out: &mut [i32]) -> LayersRead
+    ensures { λ r. ⌜ observedFile (readAnswer r) (now (out .exit)) ≡ readLayers (now (file .entry)) (now (out .entry)) ⌝ }
+    ensures small { λ r. ⌜ SmallFile (readAnswer r) ⌝ }
+{
+    files::read_layers(file, out)
+}
+
+// The layer file with these words, written to `out`, which has any length.
+pub fn write_layers(words: &[i32], out: &mut [u8]) -> LayersWritten
+    ensures { λ r. ⌜ observedFile (writtenAnswer r) (now (out .exit)) ≡ writeLayers (now (words .entry)) (now (out .entry)) ⌝ }
+    ensures small { λ r. ⌜ SmallFile (writtenAnswer r) ⌝ }
+{
+    files::write_layers(words, out)
+}
+
+// Each trapezoid's component number, the lowest of its component, written to `numbers`, which has an entry for each trapezoid.
+pub fn components(a: &[i32], numbers: &mut [u32]) -> Connected
+    ensures { λ r. ⌜ observedNumbers (connectedAnswer r) (now (numbers .exit)) ≡ componentsOutcome (now (a .entry)) (now (numbers .entry)) ⌝ }
+    ensures small { λ r. ⌜ SmallConnected (connectedAnswer r) ⌝ }
+{
+    connectivity::components(a, numbers)
 }

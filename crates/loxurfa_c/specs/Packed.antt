@@ -1,5 +1,7 @@
 -- Each answer as one 64-bit number.
 use Prim.Native.Nat.{ℕ, _+_, _*_, _^_}
+use Rattle.connectivity.specs.Outcome as connected
+use Rattle.files.specs.Outcomes as file
 use Rattle.loxurfa.specs.Answers.{Answer, refused, done, EqualityAnswer, refused-equality, same, differs, PointAnswer, refused-point, yes, no}
 
 -- bit 63, the number in bits 32 to 39, the place in bits 0 to 31
@@ -25,3 +27,13 @@ abbrev pub packedPoint : PointAnswer → ℕ
 packedPoint (refused-point number place) = refusal number place
 packedPoint yes = success 1 0
 packedPoint no = success 0 0
+
+-- the trapezoids of a layer file, and no overlays
+abbrev pub packedFile : file.Answer → ℕ
+packedFile (file.refused number place) = refusal number place
+packedFile (file.done pieces) = success pieces 0
+
+-- the number of components, and no overlays
+abbrev pub packedCount : connected.Answer → ℕ
+packedCount (connected.refused number place) = refusal number place
+packedCount (connected.counted components) = success components 0

@@ -1,13 +1,18 @@
 // The functions that C calls: each answers one 64-bit number. include/loxurfa.h says what its bits mean.
+use connectivity::Connected;
+use files::LayersRead;
+use files::LayersWritten;
 use loxurfa::Combined;
 use loxurfa::Containment;
 use loxurfa::Deoverlapped;
 use loxurfa::Equality;
 ghost use mathlib.Core.Path.{_≡_};
 ghost use Prim.Native.Nat.{_<_, _≤_};
+ghost use Rattle.connectivity.specs.Outcome.{componentsOutcome};
+ghost use Rattle.files.specs.Outcomes.{readLayers, writeLayers};
 ghost use Rattle.loxurfa.specs.Rows.{pointAt};
 ghost use Rattle.loxurfa.specs.Outcomes.{combined, deoverlapOutcome, equalOutcome, containsAnswer};
-ghost use Rattle.loxurfa_c.specs.Packed.{refusal as refusalOf, success as successOf, packed, packedEquality, packedPoint};
+ghost use Rattle.loxurfa_c.specs.Packed.{refusal as refusalOf, success as successOf, packed, packedEquality, packedPoint, packedFile, packedCount};
 
 fn refusal(number: u32, place: usize) -> u64
     requires { ⌜ (number ≤ 12) × (place < 1024) ⌝ }
@@ -97,6 +102,54 @@ pub extern "C" fn loxurfa_contains(x: i32, y: i32, d: i32, a: &[i32], b: &[i32],
         }
         Containment::No => {
             return success(0, 0);
+        }
+    }
+}
+
+#[no_mangle]
+pub extern "C" fn loxurfa_read_layers(file: &[u8], out: &mut [i32]) -> u64
+    ensures { λ r. ⌜ r ≡ packedFile (readLayers (now (file .entry)) (now (out .entry)) .answer) ⌝ }
+    ensures { λ _. ⌜ now (out .exit) ≡ readLayers (now (file .entry)) (now (out .entry)) .out ⌝ }
+{
+    let answer = loxurfa::read_layers(file, out);
+    match answer {
+        LayersRead::Refused { number, place } => {
+            return refusal(number, place);
+        }
+        LayersRead::Done { pieces } => {
+            return success(pieces, 0);
+        }
+    }
+}
+
+#[no_mangle]
+pub extern "C" fn loxurfa_write_layers(words: &[i32], out: &mut [u8]) -> u64
+    ensures { λ r. ⌜ r ≡ packedFile (writeLayers (now (words .entry)) (now (out .entry)) .answer) ⌝ }
+    ensures { λ _. ⌜ now (out .exit) ≡ writeLayers (now (words .entry)) (now (out .entry)) .out ⌝ }
+{
+    let answer = loxurfa::write_layers(words, out);
+    match answer {
+        LayersWritten::Refused { number, place } => {
+            return refusal(number, place);
+        }
+        LayersWritten::Done { pieces } => {
+            return success(pieces, 0);
+        }
+    }
+}
+
+#[no_mangle]
+pub extern "C" fn loxurfa_components(a: &[i32], numbers: &mut [u32]) -> u64
+    ensures { λ r. ⌜ r ≡ packedCount (componentsOutcome (now (a .entry)) (now (numbers .entry)) .answer) ⌝ }
+    ensures { λ _. ⌜ now (numbers .exit) ≡ componentsOutcome (now (a .entry)) (now (numbers .entry)) .numbers ⌝ }
+{
+    let answer = loxurfa::components(a, numbers);
+    match answer {
+        Connected::Refused { number, place } => {
+            return refusal(number, place);
+        }
+        Connected::Done { components } => {
+            return success(components, 0);
         }
     }
 }

@@ -41,7 +41,7 @@ pub fn place(t: Trapezoid) -> Placed
 }
 
 // The righter of the left bases.
-fn common_left(a: Placed, b: Placed) -> Position
+pub fn common_left(a: Placed, b: Placed) -> Position
     requires { ⌜ Pair a b ⌝ }
     ensures { λ r. ⌜ CommonLeft a b r ⌝ }
 {
@@ -51,7 +51,7 @@ fn common_left(a: Placed, b: Placed) -> Position
 }
 
 // The lefter of the right bases.
-fn common_right(a: Placed, b: Placed) -> Position
+pub fn common_right(a: Placed, b: Placed) -> Position
     requires { ⌜ Pair a b ⌝ }
     ensures { λ r. ⌜ CommonRight a b r ⌝ }
 {

@@ -5,6 +5,9 @@
 
 #![allow(dead_code)]
 
+pub mod components;
+pub mod files;
+
 use std::cmp::Ordering;
 
 /// Words in a trapezoid.

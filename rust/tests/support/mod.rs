@@ -2,6 +2,10 @@
 
 #![allow(dead_code)]
 
+pub mod files;
+pub mod outcomes;
+pub mod shapes;
+
 use crate::reference::{self, Fraction, Line, Point, Trapezoid, LIMIT, WORDS};
 
 /// Rounds of a test: a share, in percent, of LOXURFA_ROUNDS, which counts as 1,000 at least.

@@ -1,0 +1,74 @@
+-- Laws of chains, and of the elements of a list by their numbers.
+use mathlib.Core.Path.{_≡_, refl, sym, _∙_, ap, subst}
+use mathlib.Core.Bool.{Bool}
+use mathlib.Core.List.{List, [], _∷_, _++_}
+use mathlib.Core.Logic.{_↔_}
+use Prim.Native.Nat.{ℕ, zero, suc, _<_}
+use native.Mathlib.Omega.{arith}
+use lib.Dec.{T}
+use lib.ListN.{length}
+use Rattle.records.specs.Lists.{All}
+use Rattle.connectivity.specs.Chains.{Leads, Chained, At}
+use Rattle.connectivity.specs.Components.{testAt}
+
+-- ---- chains
+module _ (R : ℕ → ℕ → Type 0) where
+  leads-on : (i j k : ℕ) (js ks : List ℕ) → Leads R i js j → Leads R j ks k → Leads R i (js ++ ks) k
+  leads-on i j k [] ks e l = subst (λ (x : ℕ). Leads R x ks k) (sym e) l
+  leads-on i j k (x ∷ js) ks h l = (h .0, leads-on x j k js ks (h .1) l)
+
+  -- what related ones have in common, chained ones have
+  leads-same : (f : ℕ → ℕ) → ((i j : ℕ) → R i j → f i ≡ f j) → (i k : ℕ) (js : List ℕ) → Leads R i js k → f i ≡ f k
+  leads-same f same i k [] e = ap f e
+  leads-same f same i k (j ∷ js) h = same i j (h .0) ∙ leads-same f same j k js (h .1)
+
+  -- and what is kept from one to the next holds at the end
+  leads-keeps : (P : ℕ → Type 0) → ((i j : ℕ) → R i j → P j) → (i k : ℕ) (js : List ℕ) → Leads R i js k → P i → P k
+  leads-keeps P keep i k [] e h = subst P e h
+  leads-keeps P keep i k (j ∷ js) l h = leads-keeps P keep j k js (l .1) (keep i j (l .0))
+
+pub chain-here : (R : ℕ → ℕ → Type 0) (i : ℕ) → Chained R i i
+chain-here R i = record { through = []; leads = refl }
+
+pub chain-one : (R : ℕ → ℕ → Type 0) (i j : ℕ) → R i j → Chained R i j
+chain-one R i j r = record { through = j ∷ []; leads = (r, refl) }
+
+pub chain-on : {R : ℕ → ℕ → Type 0} {i j k : ℕ} → Chained R i j → Chained R j k → Chained R i k
+chain-on {R} {i} {j} {k} c d = record { through = c .through ++ d .through; leads = leads-on R i j k (c .through) (d .through) (c .leads) (d .leads) }
+
+leads-back : (R : ℕ → ℕ → Type 0) → ((i j : ℕ) → R i j → R j i) → (i k : ℕ) (js : List ℕ) → Leads R i js k → Chained R k i
+leads-back R turn i k [] e = record { through = []; leads = sym e }
+leads-back R turn i k (j ∷ js) h = chain-on (leads-back R turn j k js (h .1)) (chain-one R j i (turn i j (h .0)))
+
+pub chain-back : {R : ℕ → ℕ → Type 0} → ((i j : ℕ) → R i j → R j i) → {i k : ℕ} → Chained R i k → Chained R k i
+chain-back {R} turn {i} {k} c = leads-back R turn i k (c .through) (c .leads)
+
+pub chain-same : {R : ℕ → ℕ → Type 0} (f : ℕ → ℕ) → ((i j : ℕ) → R i j → f i ≡ f j) → {i k : ℕ} → Chained R i k → f i ≡ f k
+chain-same {R} f same {i} {k} c = leads-same R f same i k (c .through) (c .leads)
+
+pub chain-keeps : {R : ℕ → ℕ → Type 0} (P : ℕ → Type 0) → ((i j : ℕ) → R i j → P j) → {i k : ℕ} → Chained R i k → P i → P k
+chain-keeps {R} P keep {i} {k} c h = leads-keeps R P keep i k (c .through) (c .leads) h
+
+-- ---- elements by their numbers
+module _ {A : Type 0} where
+  pub at-range : (P : A → Type 0) (xs : List A) (i : ℕ) → At P xs i → i < length xs
+  at-range P [] i h = absurd h
+  at-range P (x ∷ xs) zero h = omega arith
+  at-range P (x ∷ xs) (suc i) h = let k = at-range P xs i h in omega arith
+
+  pub at-map : (P Q : A → Type 0) → ((x : A) → P x → Q x) → (xs : List A) (i : ℕ) → At P xs i → At Q xs i
+  at-map P Q f [] i h = absurd h
+  at-map P Q f (x ∷ xs) zero h = f x h
+  at-map P Q f (x ∷ xs) (suc i) h = at-map P Q f xs i h
+
+  -- two elements, either first
+  pub at-swap : (S : A → A → Type 0) (xs ys : List A) (i j : ℕ) → At (λ (x : A). At (S x) ys j) xs i → At (λ (y : A). At (λ (x : A). S x y) xs i) ys j
+  at-swap S [] ys i j h = absurd h
+  at-swap S (x ∷ xs) ys zero j h = h
+  at-swap S (x ∷ xs) ys (suc i) j h = at-swap S xs ys i j h
+
+  -- the test that says what is meant of each element says it of the element with a number
+  pub test-exact : (f : A → Bool) (P : A → Type 0) (xs : List A) (i : ℕ) → All (λ (x : A). T (f x) ↔ P x) xs → T (testAt f xs i) ↔ At P xs i
+  test-exact f P [] i h = ((λ k. k), (λ k. k))
+  test-exact f P (x ∷ xs) zero h = h .0
+  test-exact f P (x ∷ xs) (suc i) h = test-exact f P xs i (h .1)

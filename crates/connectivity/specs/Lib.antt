@@ -1,0 +1,6 @@
+-- Trapezoids that touch, and the connected components of a layer (paper 01: components).
+pub mod Touching
+pub mod Chains
+pub mod Components
+pub mod Code
+pub mod Outcome

@@ -1,0 +1,11 @@
+pub mod Numbers
+pub mod Reading
+pub mod Walk
+pub mod Right
+pub mod Layers
+pub mod Polygons
+pub mod Bounds
+pub mod Answering
+pub mod Calls
+pub mod RoundTrip
+pub mod Pairs

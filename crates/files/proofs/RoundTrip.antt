@@ -1,0 +1,126 @@
+-- A layer file written and read back, and read and written back.
+use mathlib.Core.Path.{_≡_, refl, sym, ap, _∙_}
+use mathlib.Core.Bool.{Bool, true, false, _&&_}
+use mathlib.Core.List.{List, _++_}
+use Prim.Native.Nat.{ℕ, _*_, _-_, _/_, _%_, _≤_}
+use native.Mathlib.Omega.{arith}
+use lib.Dec.{T, leb, eqb}
+use lib.ListN.{length, take, replicate}
+use lib.Seq.{take-at}
+use lib.IntN.{ℤ, pos}
+use borrow.Author.Tests.{leb-true, eqb-true, le-leb, eq-eqb}
+use Rattle.records.specs.Lists.{All}
+use Rattle.records.specs.Records.{wordsOf}
+use Rattle.records.specs.Words.{Word, wordCodec}
+use Rattle.records.proofs.Records.{records-words, words-records}
+use Rattle.records.proofs.Words.{words-faithful}
+use Rattle.geometry.specs.declared.Checked.{Checked}
+use Rattle.geometry.specs.declared.Checked.the-variants.{Passed, Refused}
+use Rattle.geometry.specs.Trapezoids.{trapezoidCodec}
+use Rattle.files.specs.Formats.{fileSized, fileWords, layerWords}
+use Rattle.files.specs.Contents.{unitsOf, fileCodec, layersOf, fileLayersOf}
+use Rattle.files.specs.Rows.{layerFileChecked, layerWordsChecked}
+use Rattle.files.specs.Outcomes.{Outcome, done, isDone, observed, placed, outcome, readLayers, writeLayers}
+use Rattle.files.specs.Statements.{bytesWritten, wordsRead, WrittenReads, ReadWrites}
+use Rattle.files.proofs.Reading.{length-file}
+use Rattle.files.proofs.Right.{right}
+use Rattle.files.proofs.Bounds.{passes}
+use Rattle.files.proofs.Answering.{done-is}
+use Rattle.files.proofs.Calls.{file-passes, length-bytes}
+
+-- ---- a success
+outcome-done : {W : Type 0} (c : Checked) (z : W) (pieces : ℕ) (content out : List W) → T (isDone (outcome c z pieces content out .answer)) → (c ≡ Passed) × (length content ≤ length out)
+outcome-done (Refused number place) z pieces content out h = absurd h
+outcome-done Passed z pieces content out h = (refl, go (leb (length content) (length out)) refl h)
+  where
+    go : (t : Bool) → leb (length content) (length out) ≡ t → T (isDone (placed t z pieces content (length out) .answer)) → length content ≤ length out
+    go true e h = leb-true (length content) (length out) e
+    go false e h = absurd h
+
+-- what a success of the reader and of the writer is
+module _ (bs : List ℕ) (out : List ℤ) (e : layerFileChecked bs ≡ Passed) (h : length (fileWords bs) ≤ length out) where
+  read-is : observed (done (length (unitsOf fileCodec (fileWords bs)))) (fileWords bs ++ replicate (length out - length (fileWords bs)) (pos 0)) ≡ readLayers bs out
+  unfolding readLayers
+  read-is = done-is (pos 0) (length (unitsOf fileCodec (fileWords bs))) (fileWords bs) out e h
+
+  read-words : wordsRead bs out ≡ fileWords bs
+  read-words =
+      ap (λ (o : Outcome ℤ). take (length bs / 4) (o .out)) (sym read-is)
+      ∙ take-at (fileWords bs) (replicate (length out - length (fileWords bs)) (pos 0)) (length bs / 4) (length-file bs)
+
+module _ (ws : List ℤ) (out : List ℕ) (e : layerWordsChecked ws ≡ Passed) (h : length (wordsOf wordCodec ws) ≤ length out) where
+  write-is : observed (done (length (unitsOf trapezoidCodec ws))) (wordsOf wordCodec ws ++ replicate (length out - length (wordsOf wordCodec ws)) 0) ≡ writeLayers ws out
+  unfolding writeLayers
+  write-is = done-is 0 (length (unitsOf trapezoidCodec ws)) (wordsOf wordCodec ws) out e h
+
+  write-bytes : bytesWritten ws out ≡ wordsOf wordCodec ws
+  write-bytes =
+      ap (λ (o : Outcome ℕ). take (4 * length ws) (o .out)) (sym write-is)
+      ∙ take-at (wordsOf wordCodec ws) (replicate (length out - length (wordsOf wordCodec ws)) 0) (4 * length ws) (length-bytes ws)
+
+read-passed : (bs : List ℕ) (out : List ℤ) → T (isDone (readLayers bs out .answer)) → (layerFileChecked bs ≡ Passed) × (length (fileWords bs) ≤ length out)
+unfolding readLayers
+read-passed bs out h = outcome-done (layerFileChecked bs) (pos 0) (length (unitsOf fileCodec (fileWords bs))) (fileWords bs) out h
+
+write-passed : (ws : List ℤ) (out : List ℕ) → T (isDone (writeLayers ws out .answer)) → (layerWordsChecked ws ≡ Passed) × (length (wordsOf wordCodec ws) ≤ length out)
+unfolding writeLayers
+write-passed ws out h = outcome-done (layerWordsChecked ws) 0 (length (unitsOf trapezoidCodec ws)) (wordsOf wordCodec ws) out h
+
+-- ---- words that pass are a file that passes
+size-fits : (ws : List ℤ) → layerWordsChecked ws ≡ Passed → fileSized (length (wordsOf wordCodec ws)) ≡ true
+unfolding fileSized
+size-fits ws e =
+    let r = right layerWords ws (passes layerWords trapezoidCodec ws e .found) in
+    let b = length-bytes ws in
+    rw (
+      eq-eqb (length (wordsOf wordCodec ws) % 4) 0 (omega (arith, b)),
+      le-leb 4 (length (wordsOf wordCodec ws)) (omega (arith, b, r .fit)),
+      le-leb (length (wordsOf wordCodec ws)) 65532 (omega (arith, b, r .end, r .most, r .units)),
+    )
+
+module _ (ws : List ℤ) (g : All Word ws) where
+  back : fileWords (wordsOf wordCodec ws) ≡ ws
+  back = records-words wordCodec words-faithful ws g
+
+  written-passes : layerWordsChecked ws ≡ Passed → layerFileChecked (wordsOf wordCodec ws) ≡ Passed
+  unfolding layerFileChecked
+  written-passes e = rw (size-fits ws e, back) e
+
+pub written-reads : WrittenReads
+written-reads ws out into g d l =
+    let p = write-passed ws out d in
+    let b = write-bytes ws out (p .0) (p .1) in
+    let w = back ws g in
+    let c = written-passes ws g (p .0) in
+    let h : length (fileWords (wordsOf wordCodec ws)) ≤ length into = omega (arith, ap length w) in
+    let answers : readLayers (wordsOf wordCodec ws) into .answer ≡ writeLayers ws out .answer
+    = ap (λ (o : Outcome ℤ). o .answer) (sym (read-is (wordsOf wordCodec ws) into c h))
+    ∙ ap (λ (t : List ℤ). done (length (unitsOf fileCodec t))) w
+    ∙ ap (λ (o : Outcome ℕ). o .answer) (write-is ws out (p .0) (p .1)) in (
+      ap (λ (t : List ℕ). readLayers t into .answer) b ∙ answers,
+      ap (λ (t : List ℕ). wordsRead t into) b ∙ read-words (wordsOf wordCodec ws) into c h ∙ w,
+      ap (λ (t : List ℕ). fileLayersOf (fileWords t)) b ∙ ap fileLayersOf w,
+    )
+
+-- ---- a file that passes is words that pass
+whole : (bs : List ℕ) → fileSized (length bs) ≡ true → length bs ≡ 4 * (length bs / 4)
+unfolding fileSized
+whole bs e = go (eqb (length bs % 4) 0) refl e
+  where
+    go : (t : Bool) → eqb (length bs % 4) 0 ≡ t → t && (leb 4 (length bs) && leb (length bs) 65532) ≡ true → length bs ≡ 4 * (length bs / 4)
+    go true p e = omega (arith, eqb-true (length bs % 4) 0 p)
+    go false p e = let z : _≡_ {A = ℕ} 0 1 = cc in absurd (omega arith)
+
+pub read-writes : ReadWrites
+read-writes bs out into g d l =
+    let p = read-passed bs out d in
+    let q = file-passes bs (p .0) in
+    let w = read-words bs out (p .0) (p .1) in
+    let b = words-records wordCodec words-faithful bs (length bs / 4) (whole bs (q .0)) g in
+    let h : length (wordsOf wordCodec (fileWords bs)) ≤ length into = omega (arith, ap length b) in
+    let answers : writeLayers (fileWords bs) into .answer ≡ readLayers bs out .answer
+    = ap (λ (o : Outcome ℕ). o .answer) (sym (write-is (fileWords bs) into (q .1) h)) ∙ ap (λ (o : Outcome ℤ). o .answer) (read-is bs out (p .0) (p .1)) in (
+      ap (λ (t : List ℤ). writeLayers t into .answer) w ∙ answers,
+      ap (λ (t : List ℤ). bytesWritten t into) w ∙ write-bytes (fileWords bs) into (q .1) h ∙ b,
+      ap layersOf w,
+    )

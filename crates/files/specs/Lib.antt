@@ -1,0 +1,7 @@
+-- Polygon files and layer files (paper 01: sheets and books): which are refused, what they hold, and what a reader and a writer of layers do.
+pub mod Formats
+pub mod Directory
+pub mod Contents
+pub mod Rows
+pub mod Outcomes
+pub mod Statements

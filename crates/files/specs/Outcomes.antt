@@ -1,0 +1,69 @@
+-- What a reader and a writer of layers answer, and what their outputs hold then.
+use mathlib.Core.Bool.{Bool, true, false}
+use mathlib.Core.List.{List, _++_}
+use Prim.Native.Nat.{ℕ, _-_, _<_, _≤_}
+use lib.Dec.{leb}
+use lib.IntN.{ℤ, pos}
+use lib.ListN.{length, replicate}
+use Rattle.records.specs.Limits.{maxRecords}
+use Rattle.records.specs.Records.{wordsOf}
+use Rattle.records.specs.Words.{wordCodec}
+use Rattle.geometry.specs.declared.Checked.{Checked}
+use Rattle.geometry.specs.declared.Checked.the-variants.{Passed, Refused}
+use Rattle.geometry.specs.Trapezoids.{trapezoidCodec}
+use Rattle.files.specs.declared.LayersRead.{LayersRead}
+use Rattle.files.specs.declared.LayersRead.the-variants as read
+use Rattle.files.specs.declared.LayersWritten.{LayersWritten}
+use Rattle.files.specs.declared.LayersWritten.the-variants as written
+use Rattle.files.specs.Formats.{fileWords}
+use Rattle.files.specs.Contents.{unitsOf, fileCodec}
+use Rattle.files.specs.Rows.{layerFileChecked, layerWordsChecked}
+
+-- "A refusal answers its number and place, a success its pieces"
+pub data Answer : Type 0 where
+  refused : (number place : ℕ) → Answer
+  done : (pieces : ℕ) → Answer
+
+abbrev pub isDone : Answer → Bool
+isDone (refused number place) = false
+isDone (done pieces) = true
+
+-- ---- each enum read as the paper's answer
+abbrev pub readAnswer : LayersRead → Answer
+readAnswer (read.Refused number place) = refused number place
+readAnswer (read.Done pieces) = done pieces
+
+abbrev pub writtenAnswer : LayersWritten → Answer
+writtenAnswer (written.Refused number place) = refused number place
+writtenAnswer (written.Done pieces) = done pieces
+
+-- the sizes of the numbers in an answer
+abbrev pub Small : Answer → Type 0
+Small (refused number place) = (number ≤ 12) × (place < 1024)
+Small (done pieces) = pieces ≤ maxRecords
+
+-- ---- an answer, and the output's words or bytes
+pub record Outcome (W : Type 0) : Type 0 where
+  pub answer : Answer
+  pub out : List W
+
+-- what was seen of a call
+abbrev pub observed : {W : Type 0} → Answer → List W → Outcome W
+observed answer out = record { answer = answer; out = out }
+
+-- "For a book reader or writer it means an output shorter than the book." Of an output of n: "zero past the book", and all zero where it is refused with 12
+abbrev pub placed : {W : Type 0} → Bool → W → ℕ → List W → ℕ → Outcome W
+placed true z pieces content n = record { answer = done pieces; out = content ++ replicate (n - length content) z }
+placed false z pieces content n = record { answer = refused 12 0; out = replicate n z }
+
+-- "1 to 11 change nothing."
+abbrev pub outcome : {W : Type 0} → Checked → W → ℕ → List W → List W → Outcome W
+outcome (Refused number place) z pieces content out = record { answer = refused number place; out = out }
+outcome Passed z pieces content out = placed (leb (length content) (length out)) z pieces content (length out)
+
+-- "A book reader writes the book's words (count, pairs, pieces) and a writer takes them"
+unfoldable pub readLayers : List ℕ → List ℤ → Outcome ℤ
+readLayers bytes out = outcome (layerFileChecked bytes) (pos 0) (length (unitsOf fileCodec (fileWords bytes))) (fileWords bytes) out
+
+unfoldable pub writeLayers : List ℤ → List ℕ → Outcome ℕ
+writeLayers ws out = outcome (layerWordsChecked ws) 0 (length (unitsOf trapezoidCodec ws)) (wordsOf wordCodec ws) out

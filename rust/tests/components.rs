@@ -1,0 +1,454 @@
+//! Compares connected components with the reference: the whole answer and all numbers.
+
+mod reference;
+mod support;
+
+use loxurfa::{raw, Refusal};
+use reference::components::{holds_closed, touch};
+use reference::{read_layer, Fraction, Point, Trapezoid, WORDS};
+use support::outcomes::{refusal, Outcomes};
+use support::shapes::{
+    apart, chequers, comb, fans, far_bases, near_bases, near_sides, reordered, snake, tiles,
+};
+use support::{assert_met, damage, rectangle, rounds, Random, Scene};
+
+/// Numbers the components by the library and by the reference and gives what they agree on.
+fn components_into(a: &[i32], before: &[u32]) -> (u64, Vec<u32>) {
+    let (mut numbers, mut expected) = (before.to_vec(), before.to_vec());
+    let answer = raw::components(a, &mut numbers);
+    let right = reference::components::components(a, &mut expected);
+    assert!(
+        answer == right,
+        "answer {answer:#x}, not {right:#x}, numbers {}\n{a:?}",
+        before.len()
+    );
+    assert!(
+        numbers == expected,
+        "numbers {numbers:?}\nnot {expected:?}\n{a:?}"
+    );
+    (answer, numbers)
+}
+
+/// The same with one entry for each trapezoid.
+fn components(a: &[i32]) -> (u64, Vec<u32>) {
+    components_into(a, &vec![u32::MAX; a.len() / WORDS])
+}
+
+fn count(components: u64) -> u64 {
+    components << 32
+}
+
+/// Whether two closed trapezoids share a corner of one of them or a point where their boundaries
+/// cross. Convex forms that share a point share one of these.
+fn share_a_corner(a: &Trapezoid, b: &Trapezoid) -> bool {
+    let mut points = Vec::new();
+    for base in [a.left, a.right, b.left, b.right] {
+        for side in [a.bottom, a.top, b.bottom, b.top] {
+            points.push(Point {
+                x: base.x,
+                y: side.height(base.x),
+            });
+        }
+    }
+    for first in [a.bottom, a.top] {
+        for second in [b.bottom, b.top] {
+            if let Some(x) = first.crossing(second) {
+                points.push(Point {
+                    x,
+                    y: first.height(x),
+                });
+            }
+        }
+    }
+    points
+        .iter()
+        .any(|&p| holds_closed(a, p) && holds_closed(b, p))
+}
+
+/// The reference's touching, decided in another way.
+#[test]
+fn touch_of_the_reference() {
+    let random = &mut Random(41);
+    let rounds = rounds(100);
+    let mut parts = Vec::new();
+    let (mut overlapping, mut touching, mut apart) = (0, 0, 0);
+    for _ in 0..rounds {
+        let scene = Scene::new(random);
+        let a = Trapezoid::read(&scene.trapezoid(random));
+        let b = Trapezoid::read(&scene.trapezoid(random));
+        let said = touch(&a, &b);
+        assert!(said == share_a_corner(&a, &b), "{a:?} {b:?}");
+        assert!(said == touch(&b, &a), "{a:?} {b:?}");
+        reference::overlay(&a, &b, &mut parts);
+        if parts.iter().any(|part| part.tag == 3) {
+            assert!(said, "{a:?} {b:?}");
+            overlapping += 1;
+        } else if said {
+            touching += 1;
+        } else {
+            apart += 1;
+        }
+    }
+    assert_met("overlapping", overlapping, rounds, 5);
+    assert_met("touching only", touching, rounds, 20);
+    assert_met("apart", apart, rounds, 10);
+}
+
+/// Component numbers in another way: the lowest number is handed on until nothing changes.
+fn numbers_by_corners(layer: &[Trapezoid]) -> Vec<u32> {
+    let mut numbers: Vec<u32> = (0..layer.len() as u32).collect();
+    loop {
+        let mut changed = false;
+        for one in 0..layer.len() {
+            for other in 0..layer.len() {
+                if numbers[other] < numbers[one] && share_a_corner(&layer[one], &layer[other]) {
+                    numbers[one] = numbers[other];
+                    changed = true;
+                }
+            }
+        }
+        if !changed {
+            return numbers;
+        }
+    }
+}
+
+/// Random layers, overlapping or not.
+#[test]
+fn layers() {
+    let random = &mut Random(42);
+    let rounds = rounds(160);
+    let mut met = Outcomes::default();
+    let (mut joined_late, mut all_apart, mut one) = (0, 0, 0);
+    for _ in 0..rounds {
+        let scene = Scene::new(random);
+        let most = *random.pick(&[3, 6, 12]);
+        let mut words = scene.layer(random, most);
+        if random.once_in(3) {
+            let second = Scene::new(random).layer(random, most);
+            words.extend(second);
+        }
+        let (answer, numbers) = components(&words);
+        met.note(answer);
+        let layer = read_layer(&words);
+        if layer.len() < 8 {
+            assert_eq!(numbers, numbers_by_corners(&layer), "{words:?}");
+        }
+        let components = (answer >> 32) as usize;
+        if layer.len() > 2 {
+            all_apart += (components == layer.len()) as usize;
+            one += (components == 1) as usize;
+            // Two apart, joined by a later one.
+            let joined = numbers[1] == 0 && !touch(&layer[0], &layer[1]);
+            joined_late += joined as usize;
+        }
+    }
+    met.assert_refusals("components", &[], rounds, 1);
+    met.assert_values("components", rounds, 20);
+    assert_met("all apart", all_apart, rounds, 200);
+    assert_met("one component", one, rounds, 20);
+    assert_met("joined by a later one", joined_late, rounds, 100);
+}
+
+/// Small rectangles and triangles on a small grid: many components of several trapezoids.
+#[test]
+fn many_on_a_small_grid() {
+    let random = &mut Random(43);
+    let rounds = rounds(10);
+    let mut sizes = [0; 5];
+    for _ in 0..rounds {
+        let reach = random.range(3, 12);
+        let number = random.range(2, 20);
+        let mut words = Vec::new();
+        for _ in 0..number {
+            let (x, y) = (random.range(-reach, reach), random.range(-reach, reach));
+            let (width, height) = (random.range(1, 2), random.range(1, 2));
+            let mut one = rectangle(x, x + width, y, y + height);
+            if random.once_in(3) {
+                // The top falls to the bottom, or the bottom rises to the top.
+                let (low, high) = (y, y + height);
+                let side = if random.once_in(2) {
+                    [x, high, x + width, low]
+                } else {
+                    [x, low, x + width, high]
+                };
+                let place = if random.once_in(2) { 16 } else { 20 };
+                one[place..place + 4].copy_from_slice(&side);
+            }
+            words.extend(one);
+        }
+        let (_, numbers) = components(&words);
+        for (number, &lowest) in numbers.iter().enumerate() {
+            assert!(lowest as usize <= number && numbers[lowest as usize] == lowest);
+            if lowest as usize == number {
+                let size = numbers.iter().filter(|&&other| other == lowest).count();
+                sizes[size.min(5) - 1] += 1;
+            }
+        }
+    }
+    for (size, &times) in sizes.iter().enumerate() {
+        assert_met(
+            &format!("components of {} trapezoids", size + 1),
+            times,
+            rounds,
+            10,
+        );
+    }
+}
+
+/// A layer's trapezoids in another order, then cut short, for a known number of components.
+fn known(words: &[i32], expected: u64) {
+    let random = &mut Random(44);
+    assert_eq!(components(words).0, count(expected));
+    let mut order: Vec<usize> = (0..words.len() / WORDS).collect();
+    for _ in 0..3 {
+        random.shuffle(&mut order);
+        assert_eq!(components(&reordered(words, &order)).0, count(expected));
+    }
+    order.reverse();
+    assert_eq!(components(&reordered(words, &order)).0, count(expected));
+    order.truncate(order.len() / 2);
+    components(&reordered(words, &order));
+}
+
+/// Shapes of up to 512 trapezoids.
+#[test]
+fn shapes() {
+    known(&tiles(), 1);
+    known(&apart(), 512);
+    known(&comb(511), 1);
+    known(&comb(3), 1);
+    known(&fans(), 1);
+    // Rows of squares that touch at corners, two by two.
+    known(&chequers(16, 1), 1);
+    known(&chequers(16, 16), 1);
+
+    let whole = snake();
+    known(&whole, 1);
+    // Without one rectangle the snake is in two; without two that aren't neighbours, in three.
+    let without = |gone: &[usize]| {
+        let kept: Vec<usize> = (0..512).filter(|n| !gone.contains(n)).collect();
+        reordered(&whole, &kept)
+    };
+    known(&without(&[0]), 1);
+    known(&without(&[511]), 1);
+    known(&without(&[300]), 2);
+    known(&without(&[30]), 2);
+    known(&without(&[31]), 2);
+    known(&without(&[100, 101]), 2);
+    known(&without(&[100, 102]), 3);
+    let odd: Vec<usize> = (0..256).map(|n| 2 * n).collect();
+    known(&without(&odd), 256);
+
+    // The teeth alone are apart; the comb's numbers are all 0 all the same.
+    let comb = comb(300);
+    assert_eq!(components(&comb[..300 * WORDS]).0, count(300));
+    assert_eq!(components(&comb).1, vec![0; 301]);
+}
+
+/// The snake in any order, with some rectangles gone.
+#[test]
+fn broken_snakes() {
+    let random = &mut Random(45);
+    let whole = snake();
+    for _ in 0..rounds(100) / 1000 {
+        let mut order: Vec<usize> = (0..512).collect();
+        random.shuffle(&mut order);
+        let gone = random.below(20);
+        order.truncate(512 - gone);
+        let (answer, numbers) = components(&reordered(&whole, &order));
+        // Neighbours in the snake have the same number; each gap between two parts divides.
+        let mut along = vec![None; 512];
+        for (place, &number) in order.iter().enumerate() {
+            along[number] = Some(numbers[place]);
+        }
+        let mut parts = 0;
+        let mut before = None;
+        for &here in &along {
+            if let (Some(here), Some(before)) = (here, before) {
+                assert_eq!(here, before);
+            }
+            parts += (here.is_some() && before.is_none()) as u64;
+            before = here;
+        }
+        assert_eq!(answer, count(parts));
+    }
+}
+
+/// Case (e) of the paper's table, and others by hand.
+#[test]
+fn by_hand() {
+    let q = || rectangle(0, 4, 0, 4);
+    let pair = |a: Vec<i32>, b: Vec<i32>| components(&[a, b].concat());
+    let joined = (count(1), vec![0, 0]);
+    let apart = (count(2), vec![0, 1]);
+    assert_eq!(pair(q(), rectangle(4, 8, 0, 4)), joined);
+    assert_eq!(pair(q(), rectangle(5, 8, 0, 4)), apart);
+    // Above, at a corner, and one beside it.
+    assert_eq!(pair(q(), rectangle(0, 4, 4, 8)), joined);
+    assert_eq!(pair(q(), rectangle(4, 8, 4, 8)), joined);
+    assert_eq!(pair(rectangle(4, 8, -4, 0), q()), joined);
+    assert_eq!(pair(q(), rectangle(4, 8, 5, 8)), apart);
+    assert_eq!(pair(q(), rectangle(0, 4, 5, 8)), apart);
+    // One within the other, one twice.
+    assert_eq!(pair(q(), rectangle(1, 2, 1, 2)), joined);
+    assert_eq!(pair(q(), q()), joined);
+    // Joined by a third.
+    let three = [rectangle(6, 8, 0, 4), q(), rectangle(4, 6, 1, 2)].concat();
+    assert_eq!(components(&three), (count(1), vec![0, 0, 0]));
+    let three = [rectangle(9, 10, 0, 4), q(), rectangle(4, 6, 1, 2)].concat();
+    assert_eq!(components(&three), (count(2), vec![0, 1, 1]));
+
+    // Two lines that nearly meet: a tip a little above the other's side, on it, below it.
+    let line = |words: [i32; 4]| reference::Line::new(&words);
+    for (lift, expected) in [(1, &apart), (0, &joined), (-1, &joined)] {
+        let (low, high) = (line([0, lift, 2047, 2]), line([0, lift, 1, 2048]));
+        let tip = support::six_lines([low, high], support::mark(1), low, high);
+        let below = rectangle(-2048, 2048, -2048, 0);
+        assert_eq!(&pair(tip, below), expected);
+    }
+    assert_eq!(components(&[]), (0, vec![]));
+    assert_eq!(components(&q()), (count(1), vec![0]));
+}
+
+/// Trapezoids that overlap, touch or miss each other by less than a double can tell.
+#[test]
+fn near_misses() {
+    let random = &mut Random(48);
+    let rounds = rounds(4);
+    let (mut bases, mut sides) = ([0; 3], [0; 3]);
+    let double = |f: Fraction| f.num as f64 / f.den as f64;
+    for _ in 0..rounds {
+        let (words, right, left) = near_bases(random);
+        let joined = left.at_most(right);
+        assert_eq!(components(&words).0, count(2 - joined as u64), "{words:?}");
+        if double(left) == double(right) {
+            bases[(left.compare(right) as i8 + 1) as usize] += 1;
+        }
+
+        let (words, top, bottom) = near_sides(random);
+        // To the right of there, a bottom above the top stays above it.
+        let joined = bottom.at_most(top);
+        assert_eq!(components(&words).0, count(2 - joined as u64), "{words:?}");
+        if double(top) == double(bottom) {
+            sides[(bottom.compare(top) as i8 + 1) as usize] += 1;
+        }
+    }
+    for (number, name) in ["overlap", "touch", "are apart"].iter().enumerate() {
+        assert_met(&format!("bases {name}"), bases[number], rounds, 200);
+        assert_met(&format!("sides {name}"), sides[number], rounds, 200);
+    }
+}
+
+/// Bases far outside the grid.
+#[test]
+fn far_away() {
+    let random = &mut Random(49);
+    let rounds = rounds(10);
+    let mut met = Outcomes::default();
+    for _ in 0..rounds {
+        let number = random.range(2, 6) as usize;
+        let words = far_bases(random, number);
+        let (answer, numbers) = components(&words);
+        assert_eq!(numbers, numbers_by_corners(&read_layer(&words)));
+        met.note(answer);
+    }
+    assert_met("one component", met.values[1], rounds, 20);
+    assert_met("more components", met.values[2], rounds, 20);
+}
+
+/// Lengths and trapezoids with one or two things wrong.
+#[test]
+fn refusals() {
+    let random = &mut Random(46);
+    let rounds = rounds(100);
+    let mut met = Outcomes::default();
+    for _ in 0..rounds {
+        let mut words = Scene::new(random).layer(random, 6);
+        let mut entries = words.len() / WORDS;
+        for _ in 0..random.range(1, 2) {
+            match random.below(10) {
+                0 => {
+                    let length = words.len() + random.below(30);
+                    words.resize(length, 1);
+                }
+                1 => {
+                    let length = random.below(words.len() + 1);
+                    words.truncate(length);
+                }
+                2 if random.once_in(50) => words.resize(12_288 + 24 * random.below(3), 0),
+                3 => entries += 1,
+                4 => entries = entries.saturating_sub(1),
+                5 => entries = *random.pick(&[0, 1, 24 * entries, 512, 513]),
+                _ => damage(random, &mut words),
+            }
+        }
+        if random.once_in(4) {
+            entries = words.len() / WORDS;
+        }
+        let before: Vec<u32> = (0..entries).map(|_| random.next() as u32).collect();
+        met.note(components_into(&words, &before).0);
+    }
+    met.assert_refusals("components", &[1, 7, 8, 9, 10, 11], rounds, 200);
+    met.assert_later("components", &[7, 8, 9, 10, 11], rounds, 400);
+    met.assert_values("components", rounds, 100);
+}
+
+/// 512 trapezoids are a layer, 513 are not.
+#[test]
+fn longest_layer() {
+    let layer: Vec<i32> = (0..514)
+        .flat_map(|k| rectangle(k, k + 1, 0, k + 1))
+        .collect();
+    let lent = |pieces: usize, entries: usize| {
+        components_into(&layer[..pieces * WORDS], &vec![7; entries]).0
+    };
+    assert_eq!(lent(512, 512), count(1));
+    for (pieces, entries) in [
+        (512, 511),
+        (512, 513),
+        (513, 513),
+        (513, 512),
+        (1, 0),
+        (0, 1),
+    ] {
+        assert_eq!(lent(pieces, entries), refusal(1, 0));
+    }
+    for length in [1, 23, 25, 47, 12_287, 12_289] {
+        for entries in [length / WORDS, length / WORDS + 1, length] {
+            let answer = components_into(&layer[..length], &vec![7; entries]).0;
+            assert_eq!(answer, refusal(1, 0));
+        }
+    }
+    assert_eq!(lent(0, 0), count(0));
+}
+
+/// The safe wrapper reads the answer as it is meant.
+#[test]
+fn wrapper() {
+    let random = &mut Random(47);
+    let rounds = rounds(10);
+    let mut met = Outcomes::default();
+    for _ in 0..rounds {
+        let mut words = Scene::new(random).layer(random, 6);
+        if random.once_in(3) {
+            damage(random, &mut words);
+        }
+        let (answer, expected) = components(&words);
+        let mut numbers = vec![u32::MAX; words.len() / WORDS];
+        let typed = loxurfa::components(&words, &mut numbers);
+        let meant = if answer >> 63 == 1 {
+            Err(Refusal {
+                number: (answer >> 32 & 0xff) as u8,
+                place: (answer & 0xffff_ffff) as u32,
+            })
+        } else {
+            Ok((answer >> 32) as u32)
+        };
+        assert_eq!(typed, meant);
+        assert!(numbers == expected);
+        met.note(answer);
+    }
+    met.assert_values("components", rounds, 50);
+    assert_met("refused", met.refusals.iter().sum(), rounds, 50);
+}

@@ -1,0 +1,492 @@
+//! Compares the reading and writing of layer files with the reference: the whole answer and the
+//! whole output.
+
+mod reference;
+mod support;
+
+use loxurfa::{raw, Refusal};
+use reference::{files, unfit, WORDS};
+use support::files::{about, damage_bytes, damage_file, file_bytes, file_words};
+use support::outcomes::{refusal, Outcomes};
+use support::{assert_met, damage, rectangle, rounds, Random, Scene};
+
+/// Words of a layer file of at most 16 layers and 512 trapezoids.
+const LONGEST_WORDS: usize = 1 + 2 * 16 + 512 * WORDS;
+
+/// Reads by the library and by the reference and gives the answer and output they agree on.
+fn read(file: &[u8], before: &[i32]) -> (u64, Vec<i32>) {
+    let (mut out, mut expected) = (before.to_vec(), before.to_vec());
+    let answer = raw::read_layers(file, &mut out);
+    let right = files::read_layers(file, &mut expected);
+    assert!(
+        answer == right,
+        "read: answer {answer:#x}, not {right:#x}, output {}\n{file:?}",
+        before.len()
+    );
+    assert!(
+        out == expected,
+        "read: output {out:?}\nnot {expected:?}\n{file:?}"
+    );
+    (answer, out)
+}
+
+/// The same for writing.
+fn write(words: &[i32], before: &[u8]) -> (u64, Vec<u8>) {
+    let (mut out, mut expected) = (before.to_vec(), before.to_vec());
+    let answer = raw::write_layers(words, &mut out);
+    let right = files::write_layers(words, &mut expected);
+    assert!(
+        answer == right,
+        "write: answer {answer:#x}, not {right:#x}, output {}\n{words:?}",
+        before.len()
+    );
+    assert!(
+        out == expected,
+        "write: output {out:?}\nnot {expected:?}\n{words:?}"
+    );
+    (answer, out)
+}
+
+/// Reads the words' file and writes the words, with outputs long enough, and gives the answer, which
+/// is the same for both.
+fn both(words: &[i32]) -> u64 {
+    let (answer, _) = read(&file_bytes(words), &[77; LONGEST_WORDS]);
+    let (written, _) = write(words, &[77; 4 * LONGEST_WORDS]);
+    assert_eq!(answer, written, "{words:?}");
+    answer
+}
+
+fn garbage_bytes(random: &mut Random, bytes: usize) -> Vec<u8> {
+    (0..bytes).map(|_| random.next() as u8 | 1).collect()
+}
+
+/// Layers for a fit file.
+fn layers(random: &mut Random) -> Vec<Vec<i32>> {
+    let scene = Scene::new(random);
+    let count = match random.below(8) {
+        0 => 0,
+        1 => 1,
+        2 => 16,
+        3 => random.below(17),
+        _ => random.range(2, 5) as usize,
+    };
+    (0..count)
+        .map(|_| {
+            let trapezoids = *random.pick(&[0, 0, 1, 1, 2, 3]);
+            (0..trapezoids)
+                .flat_map(|_| scene.trapezoid(random))
+                .collect()
+        })
+        .collect()
+}
+
+/// The words of a file, damaged half the time.
+fn any_words(random: &mut Random) -> Vec<i32> {
+    let mut words = file_words(&layers(random), WORDS);
+    if random.once_in(2) {
+        for _ in 0..random.range(1, 2) {
+            if random.once_in(2) {
+                let body = (1 + 2 * words.first().map_or(0, |&n| n.clamp(0, 16)) as usize)
+                    .min(words.len());
+                damage(random, &mut words[body..]);
+            } else {
+                damage_file(random, &mut words, WORDS);
+            }
+        }
+    }
+    words
+}
+
+/// Random files, fit and damaged, and outputs of any length.
+#[test]
+fn reading_and_writing() {
+    let random = &mut Random(21);
+    let rounds = rounds(100);
+    let mut reader = Outcomes::default();
+    let mut writer = Outcomes::default();
+    let (mut at_the_end, mut at_a_pair) = (0, 0);
+    for _ in 0..rounds {
+        let words = any_words(random);
+        let mut file = file_bytes(&words);
+        if random.once_in(12) {
+            damage_bytes(random, &mut file);
+        }
+        let length = about(random, words.len());
+        let (answer, out) = read(&file, &random.garbage(length));
+        reader.note(answer);
+        if answer >> 63 == 0 {
+            let (start, rest) = out.split_at(file.len() / 4);
+            assert!(file_bytes(start) == file && rest.iter().all(|&word| word == 0));
+        }
+        if answer >> 32 == refusal(6, 0) >> 32 {
+            let end = (answer as u32).to_le_bytes() == file[..4];
+            at_the_end += end as usize;
+            at_a_pair += !end as usize;
+        }
+
+        let length = about(random, 4 * words.len());
+        let before = garbage_bytes(random, length);
+        let (answer, out) = write(&words, &before);
+        writer.note(answer);
+        if answer >> 63 == 0 {
+            let (start, rest) = out.split_at(4 * words.len());
+            assert!(start == file_bytes(&words) && rest.iter().all(|&byte| byte == 0));
+        }
+    }
+    let numbers = [4, 5, 6, 7, 8, 9, 10, 11, 12];
+    let places = [6, 7, 8, 9, 10, 11];
+    reader.assert_refusals("read", &numbers, rounds, 400);
+    reader.assert_later("read", &places, rounds, 400);
+    reader.assert_values("read", rounds, 50);
+    writer.assert_refusals("write", &numbers[1..], rounds, 400);
+    writer.assert_later("write", &places, rounds, 400);
+    writer.assert_values("write", rounds, 50);
+    assert_met("6 at a pair", at_a_pair, rounds, 100);
+    assert_met("6 at the end", at_the_end, rounds, 100);
+}
+
+/// By the library alone: what was read is written back as the same bytes, what was written reads
+/// back as the same words, and what one refuses the other refuses.
+#[test]
+fn round_trips() {
+    let random = &mut Random(22);
+    let rounds = rounds(60);
+    let mut met = Outcomes::default();
+    for _ in 0..rounds {
+        let words = any_words(random);
+        let file = file_bytes(&words);
+        let mut read = random.garbage(words.len());
+        let mut written = garbage_bytes(random, file.len());
+        let answer = raw::read_layers(&file, &mut read);
+        let other = raw::write_layers(&words, &mut written);
+        if words.is_empty() {
+            assert_eq!((answer, other), (refusal(4, 0), refusal(5, 0)));
+            continue;
+        }
+        met.note(answer);
+        assert_eq!(answer, other, "{words:?}");
+        if answer >> 63 == 1 {
+            continue;
+        }
+        assert!(read == words && written == file, "{words:?}");
+        let mut file_again = garbage_bytes(random, file.len());
+        assert_eq!(raw::write_layers(&read, &mut file_again), answer);
+        assert!(file_again == file, "{words:?}");
+        let mut words_again = random.garbage(words.len());
+        assert_eq!(raw::read_layers(&written, &mut words_again), answer);
+        assert!(words_again == words, "{words:?}");
+    }
+    met.assert_refusals("both", &[5, 6, 7, 8, 9, 10, 11], rounds, 400);
+    met.assert_values("both", rounds, 50);
+}
+
+/// Small files, cut off after each byte and each word, lengthened, and with each word changed.
+#[test]
+fn every_place_of_small_files() {
+    let random = &mut Random(23);
+    let mut reader = Outcomes::default();
+    let mut writer = Outcomes::default();
+    let one = || rectangle(0, 1, 0, 1);
+    let two = || [rectangle(-5, 5, -5, 5), rectangle(2, 3, 4, 2048)].concat();
+    let none = Vec::new;
+    let mut many = vec![
+        vec![],
+        vec![none()],
+        vec![one()],
+        vec![two()],
+        vec![none(), none()],
+        vec![none(), one()],
+        vec![one(), none()],
+        vec![one(), one()],
+        vec![two(), none(), one()],
+        vec![none(); 16],
+        vec![none(); 17],
+        vec![one(); 16],
+        vec![one(); 17],
+    ];
+    for _ in 0..rounds(100) / 50_000 {
+        many.push(layers(random));
+    }
+    let wrong = [
+        i32::MIN,
+        i32::MAX,
+        -1,
+        0,
+        1,
+        2,
+        3,
+        16,
+        17,
+        512,
+        513,
+        2049,
+        -2049,
+        1 << 16,
+        -(1 << 24),
+    ];
+    for layers in &many {
+        let words = file_words(layers, WORDS);
+        let file = file_bytes(&words);
+        reader.note(read(&file, &random.garbage(words.len())).0);
+        writer.note(write(&words, &garbage_bytes(random, file.len())).0);
+        // Cut off.
+        for bytes in 0..file.len() {
+            reader.note(read(&file[..bytes], &random.garbage(words.len())).0);
+            writer.note(write(&words, &garbage_bytes(random, bytes)).0);
+        }
+        for length in 0..words.len() {
+            reader.note(read(&file, &random.garbage(length)).0);
+            writer.note(write(&words[..length], &garbage_bytes(random, file.len())).0);
+        }
+        // Lengthened.
+        for more in 1..=2 * WORDS {
+            let mut longer = words.clone();
+            longer.resize(words.len() + more, 0);
+            writer.note(write(&longer, &garbage_bytes(random, 4 * longer.len())).0);
+            reader.note(read(&file_bytes(&longer), &random.garbage(longer.len())).0);
+            let mut longer = file.clone();
+            longer.resize(file.len() + more, 0);
+            reader.note(read(&longer, &random.garbage(words.len() + more)).0);
+        }
+        // Each word changed.
+        for place in 0..words.len() {
+            let mut changed = words.clone();
+            let near = [words[place].wrapping_add(1), words[place].wrapping_sub(1)];
+            for word in wrong.into_iter().chain(near) {
+                changed[place] = word;
+                reader.note(read(&file_bytes(&changed), &random.garbage(words.len())).0);
+                writer.note(write(&changed, &garbage_bytes(random, file.len())).0);
+            }
+        }
+    }
+    let numbers = [4, 5, 6, 7, 8, 9, 10, 11, 12];
+    reader.assert_refusals("read", &numbers, 1, 1);
+    writer.assert_refusals("write", &numbers[1..], 1, 1);
+    for met in [reader, writer] {
+        met.assert_later("either", &[6, 7, 8, 9, 10, 11], 1, 1);
+        met.assert_values("either", 1, 1);
+    }
+}
+
+/// A number of trapezoids, all different.
+fn many(first: i32, count: i32) -> Vec<i32> {
+    let number = |n: i32| n % 2048;
+    (first..first + count)
+        .flat_map(|n| rectangle(-number(n) - 1, number(n) + 1, -number(n), number(n) + 1))
+        .collect()
+}
+
+/// 16 layers and 512 trapezoids are a file, one more of either is not.
+#[test]
+fn most_layers_and_trapezoids() {
+    let file = |lengths: &[i32]| {
+        let mut layers = Vec::new();
+        let mut first = 0;
+        for &length in lengths {
+            layers.push(many(first, length));
+            first += length;
+        }
+        file_words(&layers, WORDS)
+    };
+    let pieces = |count: u64| count << 32;
+
+    assert_eq!(both(&file(&[])), pieces(0));
+    assert_eq!(both(&file(&[0; 16])), pieces(0));
+    assert_eq!(both(&file(&[0; 17])), refusal(5, 0));
+    assert_eq!(both(&file(&[1; 16])), pieces(16));
+    assert_eq!(both(&file(&[32; 16])), pieces(512));
+    assert_eq!(both(&file(&[32; 17])), refusal(5, 0));
+
+    // Totals of 512 and 513.
+    assert_eq!(both(&file(&[512])), pieces(512));
+    assert_eq!(both(&file(&[513])), refusal(6, 0));
+    assert_eq!(both(&file(&[511, 1])), pieces(512));
+    assert_eq!(both(&file(&[512, 0])), pieces(512));
+    assert_eq!(both(&file(&[0, 512])), pieces(512));
+    assert_eq!(both(&file(&[512, 1])), refusal(6, 1));
+    assert_eq!(both(&file(&[1, 512])), refusal(6, 1));
+    assert_eq!(both(&file(&[256, 257])), refusal(6, 1));
+    assert_eq!(both(&file(&[0, 513])), refusal(6, 1));
+    assert_eq!(both(&file(&[200, 200, 112, 0, 0])), pieces(512));
+    assert_eq!(both(&file(&[200, 200, 113, 0, 0])), refusal(6, 2));
+    assert_eq!(both(&file(&[200, 200, 112, 0, 1])), refusal(6, 4));
+    let lengths = [[32; 15].as_slice(), &[33]].concat();
+    assert_eq!(both(&file(&lengths)), refusal(6, 15));
+
+    // The longest file there is, and outputs shorter by one.
+    let words = file(&[32; 16]);
+    assert_eq!(words.len(), LONGEST_WORDS);
+    let bytes = file_bytes(&words);
+    for less in [0, 1, 24, LONGEST_WORDS] {
+        let (answer, _) = read(&bytes, &vec![5; LONGEST_WORDS - less]);
+        let expected = [refusal(12, 0), pieces(512)][(less == 0) as usize];
+        assert_eq!(answer, expected);
+        let (answer, _) = write(&words, &vec![5; 4 * LONGEST_WORDS - less]);
+        assert_eq!(answer, expected);
+    }
+    for more in [1, 2, 3, 4, 5, 1000, 100_000] {
+        let (answer, _) = read(&bytes, &vec![5; LONGEST_WORDS + more]);
+        assert_eq!(answer, pieces(512));
+        let (answer, _) = write(&words, &vec![5; 4 * LONGEST_WORDS + more]);
+        assert_eq!(answer, pieces(512));
+    }
+}
+
+/// Lengths of files, and counts without body or with one.
+#[test]
+fn lengths_of_files() {
+    let mut out = vec![3; 20_000];
+    let mut length = |bytes: usize, count: i32| {
+        let mut file = vec![0; bytes];
+        let first = count.to_le_bytes();
+        let there = bytes.min(4);
+        file[..there].copy_from_slice(&first[..there]);
+        let (answer, now) = read(&file, &out);
+        out = now;
+        answer
+    };
+    for bytes in [0, 1, 2, 3, 5, 6, 7, 65_529, 65_530, 65_531, 65_533, 65_536] {
+        assert_eq!(length(bytes, 0), refusal(4, 0));
+        assert_eq!(length(bytes, -1), refusal(4, 0));
+    }
+    assert_eq!(length(65_540, 0), refusal(4, 0));
+    assert_eq!(length(1 << 20, 0), refusal(4, 0));
+    // The file end is not met: place N. The pairs of zeros are fit.
+    assert_eq!(length(65_532, 0), refusal(6, 0));
+    assert_eq!(length(65_532, 3), refusal(6, 3));
+    assert_eq!(length(65_532, 16), refusal(6, 16));
+    assert_eq!(length(65_532, 17), refusal(5, 0));
+    assert_eq!(length(65_532, -1), refusal(5, 0));
+    assert_eq!(length(8, 0), refusal(6, 0));
+    assert_eq!(length(4 + 4 * 24, 0), refusal(6, 0));
+    assert_eq!(length(4, 1), refusal(5, 0));
+    assert_eq!(length(8, 1), refusal(5, 0));
+    assert_eq!(length(16, 1), refusal(6, 1));
+    assert_eq!(length(4 + 8 * 16, 16), 0);
+    assert_eq!(length(8 * 16, 16), refusal(5, 0));
+    assert_eq!(length(4, 0), 0);
+
+    // A writer has no row 4.
+    let mut words = vec![0; 16_384];
+    for (count, expected) in [
+        (0, refusal(6, 0)),
+        (16, refusal(6, 16)),
+        (17, refusal(5, 0)),
+        (i32::MIN, refusal(5, 0)),
+        (i32::MAX, refusal(5, 0)),
+    ] {
+        words[0] = count;
+        for length in [16_382, 16_383, 16_384] {
+            assert_eq!(write(&words[..length], &[9; 100]).0, expected);
+        }
+    }
+    assert_eq!(write(&[], &[9; 9]).0, refusal(5, 0));
+    assert_eq!(write(&[], &[]).0, refusal(5, 0));
+    assert_eq!(write(&[0], &[]).0, refusal(12, 0));
+    assert_eq!(write(&[0], &[9; 3]).0, refusal(12, 0));
+    assert_eq!(write(&[0], &[9; 5]), (0, vec![0; 5]));
+    assert_eq!(read(&[0; 4], &[]).0, refusal(12, 0));
+    assert_eq!(read(&[0; 4], &[9; 2]), (0, vec![0; 2]));
+}
+
+/// Each row from 7 to 11 in each layer of a file, numbered through all layers; the lowest place
+/// first; pairs before trapezoids; space last.
+#[test]
+fn unfit_trapezoids() {
+    let random = &mut Random(24);
+    let mut met = [[0; 16]; 12];
+    let mut two_unfit = 0;
+    for round in 0..rounds(2) {
+        let scene = Scene::new(random);
+        let count = 1 + round % 16;
+        let mut lengths = Vec::new();
+        for _ in 0..count {
+            lengths.push(random.below(4));
+        }
+        lengths[count - 1] += 1;
+        let mut layers: Vec<Vec<i32>> = Vec::new();
+        for &length in &lengths {
+            layers.push((0..length).flat_map(|_| scene.trapezoid(random)).collect());
+        }
+        damage(random, &mut layers[count - 1]);
+        if random.once_in(4) {
+            damage(random, &mut layers[count / 2]);
+        }
+        let mut words = file_words(&layers, WORDS);
+        let all = layers.concat();
+        let mut bad = all
+            .chunks(WORDS)
+            .enumerate()
+            .filter_map(|(place, record)| Some((unfit(record)? as usize, place)));
+        let Some((number, place)) = bad.next() else {
+            continue;
+        };
+        two_unfit += bad.next().is_some() as usize;
+        let expected = refusal(number as u64, place as u64);
+        // No room doesn't matter yet.
+        for length in [0, words.len()] {
+            assert_eq!(
+                read(&file_bytes(&words), &random.garbage(length)).0,
+                expected
+            );
+            assert_eq!(
+                write(&words, &garbage_bytes(random, 4 * length)).0,
+                expected
+            );
+        }
+        let first = lengths[..count - 1].iter().sum::<usize>();
+        if place >= first {
+            met[number][count - 1] += 1;
+        }
+        // A wrong pair comes first.
+        let pair = random.below(count);
+        words[1 + 2 * pair] += 1;
+        let (answer, _) = read(&file_bytes(&words), &[]);
+        assert_eq!(answer, refusal(6, pair as u64));
+        assert_eq!(write(&words, &[]).0, refusal(6, pair as u64));
+    }
+    for (number, met) in met.iter().enumerate().skip(7) {
+        for (layer, &times) in met.iter().enumerate() {
+            let name = format!("{number} in layer {layer}");
+            assert_met(&name, times, rounds(2), 2000);
+        }
+    }
+    assert_met("two unfit", two_unfit, rounds(2), 50);
+}
+
+/// The safe wrappers read the answers as they are meant.
+#[test]
+fn wrappers() {
+    let random = &mut Random(25);
+    let mut met = Outcomes::default();
+    for _ in 0..rounds(4) {
+        let words = any_words(random);
+        let file = file_bytes(&words);
+        let meant = |answer: u64| {
+            if answer >> 63 == 1 {
+                Err(Refusal {
+                    number: (answer >> 32 & 0xff) as u8,
+                    place: (answer & 0xffff_ffff) as u32,
+                })
+            } else {
+                Ok((answer >> 32) as u32)
+            }
+        };
+        let length = about(random, words.len());
+        let before = random.garbage(length);
+        let mut out = before.clone();
+        let (answer, expected) = read(&file, &before);
+        assert_eq!(loxurfa::read_layers(&file, &mut out), meant(answer));
+        assert!(out == expected);
+        met.note(answer);
+
+        let length = about(random, file.len());
+        let before = garbage_bytes(random, length);
+        let mut out = before.clone();
+        let (answer, expected) = write(&words, &before);
+        assert_eq!(loxurfa::write_layers(&words, &mut out), meant(answer));
+        assert!(out == expected);
+    }
+    met.assert_values("read", rounds(4), 50);
+    assert_met("refused", met.refusals.iter().sum(), rounds(4), 4);
+}

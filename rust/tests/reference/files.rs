@@ -1,0 +1,134 @@
+//! Polygon files and layer files (paper: sheets and books).
+
+use super::{accepted, refuse_if, refused, rows_7_to_11, Refusal, LIMIT, NO_SPACE, WORDS};
+
+/// The longest file, in bytes.
+pub const LONGEST_FILE: usize = 65_532;
+
+/// What a kind of file allows.
+struct Kind {
+    /// The most entries (polygons or layers).
+    most: i32,
+    /// The shortest and the longest entry, in units.
+    shortest: i32,
+    longest: i32,
+    /// The most units in all.
+    total: i64,
+    /// Words in a unit (a vertex or a trapezoid).
+    unit: i64,
+}
+
+const POLYGONS: Kind = Kind {
+    most: 64,
+    shortest: 3,
+    longest: 32,
+    total: 64 * 32,
+    unit: 2,
+};
+
+const LAYERS: Kind = Kind {
+    most: 16,
+    shortest: 0,
+    longest: 512,
+    total: 512,
+    unit: WORDS as i64,
+};
+
+/// The words of a file, low byte first.
+fn row_4(file: &[u8]) -> Result<Vec<i32>, Refusal> {
+    let bad = !file.len().is_multiple_of(4) || file.len() < 4 || file.len() > LONGEST_FILE;
+    refuse_if(bad, 4, 0)?;
+    let mut words = Vec::new();
+    for four in file.chunks(4) {
+        let low_first = four.iter().rev();
+        let word = low_first.fold(0u32, |word, &byte| word << 8 | byte as u32);
+        words.push(word as i32);
+    }
+    Ok(words)
+}
+
+/// The number of entries. Their pairs of offset and length are all there.
+fn row_5(words: &[i32], kind: &Kind) -> Result<usize, Refusal> {
+    refuse_if(words.is_empty(), 5, 0)?;
+    refuse_if(!(0..=kind.most).contains(&words[0]), 5, 0)?;
+    let count = words[0] as usize;
+    refuse_if(words.len() < 1 + 2 * count, 5, 0)?;
+    Ok(count)
+}
+
+/// The lengths of the entries, in units. They fill the body.
+fn row_6(words: &[i32], count: usize, kind: &Kind) -> Result<Vec<usize>, Refusal> {
+    let mut lengths = Vec::new();
+    let mut so_far: i64 = 0;
+    for pair in 0..count {
+        let offset = words[1 + 2 * pair];
+        let length = words[2 + 2 * pair];
+        let wrong = offset as i64 != so_far || !(kind.shortest..=kind.longest).contains(&length);
+        refuse_if(wrong, 6, pair as u32)?;
+        so_far += length as i64;
+        refuse_if(so_far > kind.total, 6, pair as u32)?;
+        lengths.push(length as usize);
+    }
+    let body = words.len() - 1 - 2 * count;
+    refuse_if(body as i64 != so_far * kind.unit, 6, count as u32)?;
+    Ok(lengths)
+}
+
+/// A polygon's vertices.
+pub type Polygon = Vec<[i32; 2]>;
+
+/// Rows 4 to 7: the polygons of a polygon file.
+pub fn read_polygons(file: &[u8]) -> Result<Vec<Polygon>, Refusal> {
+    let words = row_4(file)?;
+    let count = row_5(&words, &POLYGONS)?;
+    let lengths = row_6(&words, count, &POLYGONS)?;
+    let mut vertices = words[1 + 2 * count..].chunks(2).map(|v| [v[0], v[1]]);
+    let mut polygons = Vec::new();
+    for length in lengths {
+        let polygon: Polygon = vertices.by_ref().take(length).collect();
+        polygons.push(polygon);
+    }
+    for (place, polygon) in polygons.iter().enumerate() {
+        let mut coordinates = polygon.iter().flatten();
+        let beyond = coordinates.any(|word| !(-LIMIT..=LIMIT).contains(word));
+        refuse_if(beyond, 7, place as u32)?;
+    }
+    Ok(polygons)
+}
+
+/// Rows 5 to 11: the number of trapezoids in a layer file.
+fn check_layers(words: &[i32]) -> Result<u32, Refusal> {
+    let count = row_5(words, &LAYERS)?;
+    let lengths = row_6(words, count, &LAYERS)?;
+    rows_7_to_11(&[&words[1 + 2 * count..]])?;
+    Ok(lengths.iter().sum::<usize>() as u32)
+}
+
+pub fn read_layers(file: &[u8], out: &mut [i32]) -> u64 {
+    let read = row_4(file).and_then(|words| Ok((check_layers(&words)?, words)));
+    match read {
+        Err(refusal) => refused(refusal),
+        Ok((pieces, words)) => deliver(pieces, &words, out),
+    }
+}
+
+pub fn write_layers(words: &[i32], out: &mut [u8]) -> u64 {
+    match check_layers(words) {
+        Err(refusal) => refused(refusal),
+        Ok(pieces) => {
+            let low_first = |&word: &i32| (0..4).map(move |byte| (word >> (8 * byte)) as u8);
+            let file: Vec<u8> = words.iter().flat_map(low_first).collect();
+            deliver(pieces, &file, out)
+        }
+    }
+}
+
+/// Row 12, or the result with zero past it.
+fn deliver<T: Copy + Default>(pieces: u32, result: &[T], out: &mut [T]) -> u64 {
+    out.fill(T::default());
+    if out.len() < result.len() {
+        return refused(NO_SPACE);
+    }
+    out[..result.len()].copy_from_slice(result);
+    accepted(pieces, 0)
+}
