@@ -1,4 +1,5 @@
-/* Layers of trapezoids: set operations, deoverlapping, equality and the point question, exact for every input.
+/* Layers of trapezoids: polygons fractured into them, set operations, deoverlapping, equality and the point question, exact
+ * for every input.
  *
  * A layer is a pointer to signed 32-bit words and their number, 24 words to a trapezoid, at most 512 trapezoids: the two
  * lines of its left base, the two of its right base, its bottom and its top, each line as x1 y1 x2 y2 with x1 < x2 and
@@ -22,6 +23,13 @@
 #ifdef __cplusplus
 extern "C" {
 #endif
+
+/* The trapezoids of the polygons of a polygon file, one polygon after the other: the points with a winding number other than 0.
+ * The file has the number of polygons, offset and length of each in vertices, then x and y of each vertex, as signed 32-bit words,
+ * low byte first; at most 64 polygons of 3 to 32 vertices, with coordinates from -2048 to 2048. Bits 32 to 62: the trapezoids
+ * written. Bits 0 to 31: 0. */
+uint64_t loxurfa_fracture(const uint8_t *file, size_t file_bytes, int32_t *out, size_t out_words,
+                          int32_t *scratch, size_t scratch_words);
 
 /* The set operation with this code on a and b: 0 union, 1 intersection, 2 a less b, 3 b less a, 4 either and not both.
  * Bits 32 to 62: the trapezoids written. */

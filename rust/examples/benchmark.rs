@@ -9,6 +9,8 @@ mod support;
 
 #[path = "rows/components.rs"]
 mod components;
+#[path = "rows/fracture.rs"]
+mod fracture;
 
 use loxurfa::raw;
 use reference::{Line, LIMIT, WORDS};
@@ -220,5 +222,6 @@ fn main() {
     let b = tiles(16, 32, whole, whole, 200);
     row("dense", EQUALITY, &a, &b);
 
+    fracture::rows();
     components::rows();
 }

@@ -11,9 +11,11 @@
 
 mod components;
 mod files;
+mod fracture;
 
 pub use components::components;
 pub use files::{read_layers, write_layers, MAX_LAYERS};
+pub use fracture::{fracture, MAX_POLYGONS, MAX_VERTICES};
 
 /// Words in one trapezoid.
 pub const TRAPEZOID_WORDS: usize = 24;
@@ -170,9 +172,11 @@ fn done(answer: u64) -> Result<Done, Refusal> {
 pub mod raw {
     mod components;
     mod files;
+    mod fracture;
 
     pub use components::components;
     pub use files::{read_layers, write_layers};
+    pub use fracture::fracture;
 
     mod c {
         extern "C" {

@@ -19,7 +19,8 @@ use Rattle.geometry.specs.Lines.{IsLine}
 use Rattle.sweep.specs.Lists.{sum}
 use Rattle.sweep.specs.Segments.{spans}
 use Rattle.sweep.proofs.Lists.{sum-append}
-use Rattle.fracture.specs.Polygons.{Vertex, Polygon, Edge, directionOf, through, edge, edgesFrom, edges, whole, segment}
+use Rattle.files.specs.declared.Vertex.{Vertex}
+use Rattle.fracture.specs.Polygons.{Polygon, Edge, directionOf, through, edge, edgesFrom, edges, whole, segment}
 
 -- ---- whole positions
 pub whole-proper : (k : ℤ) → Proper (whole k)

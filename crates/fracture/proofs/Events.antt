@@ -16,7 +16,8 @@ use Rattle.geometry.specs.Positions.{crosses, meet, position}
 use Rattle.geometry.proofs.Meet.{meet-proper}
 use Rattle.sweep.specs.Segments.{inside, crossInside}
 use Rattle.sweep.specs.Sweep.{Complete}
-use Rattle.fracture.specs.Polygons.{Vertex, Polygon, Edge, edges, whole, segment}
+use Rattle.files.specs.declared.Vertex.{Vertex}
+use Rattle.fracture.specs.Polygons.{Polygon, Edge, edges, whole, segment}
 use Rattle.fracture.specs.Fracture.{mark, marks, crossing, edgesCross, crossingsWith, crossings, events}
 use Rattle.fracture.specs.Statements.{SomePair, CrossAt, EventsExact}
 use Rattle.fracture.proofs.Edges.{Ends, edges-ends}

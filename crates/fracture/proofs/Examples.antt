@@ -21,7 +21,9 @@ use Rattle.sweep.specs.Lists.{keep, sum}
 use Rattle.sweep.specs.Segments.{spans, inside, crossInside}
 use Rattle.sweep.specs.Columns.{slabs, upTo, column}
 use Rattle.sweep.specs.Sweep.{columns, sweep}
-use Rattle.fracture.specs.Polygons.{Vertex, Polygon, vertexOnGrid, polygonOnGrid, edge, edgesFrom, edges, windingNumber}
+use Rattle.files.specs.declared.Vertex.{Vertex}
+use Rattle.files.specs.Rows.{vertexOnGrid}
+use Rattle.fracture.specs.Polygons.{Polygon, polygonOnGrid, edge, edgesFrom, edges, windingNumber}
 use Rattle.fracture.specs.Fracture.{lineBy, mark, marks, crossingsWith, crossings, events, trapezoids, fracture}
 
 abbrev vertex : ℕ → ℕ → Vertex

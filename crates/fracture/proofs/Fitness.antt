@@ -19,7 +19,8 @@ use Rattle.sweep.specs.Columns.{Slab, Below, column}
 use Rattle.sweep.proofs.Lists.{keep-all}
 use Rattle.sweep.proofs.Column.{column-open}
 use Rattle.sweep.proofs.Sweep.{sweep-all}
-use Rattle.fracture.specs.Polygons.{Vertex, VertexOnGrid, Polygon, PolygonOnGrid, Edge, lineOf, directionOf, edges, segment}
+use Rattle.files.specs.declared.Vertex.{Vertex}
+use Rattle.fracture.specs.Polygons.{VertexOnGrid, Polygon, PolygonOnGrid, Edge, lineOf, directionOf, edges, segment}
 use Rattle.fracture.specs.Fracture.{mark, events, trapezoid, trapezoids, fracture, fractureAll}
 use Rattle.fracture.specs.Statements.{FractureFit, IsSide, FractureSides, IsBase, FractureBases}
 use Rattle.fracture.proofs.Edges.{edges-ends}

@@ -5,7 +5,9 @@ use lib.Dec.{T}
 use mir.Facts.{and-yes, yes-and}
 use Rattle.geometry.specs.Limit.{onGrid}
 use Rattle.geometry.proofs.Fitness.{grid-coordinate, all-exact}
-use Rattle.fracture.specs.Polygons.{Vertex, VertexOnGrid, vertexOnGrid, polygonOnGrid, PolygonGridExact}
+use Rattle.files.specs.declared.Vertex.{Vertex}
+use Rattle.files.specs.Rows.{vertexOnGrid}
+use Rattle.fracture.specs.Polygons.{VertexOnGrid, polygonOnGrid, PolygonGridExact}
 
 vertex-grid-exact : (L : ℕ) (v : Vertex) → T (vertexOnGrid L v) ↔ VertexOnGrid L v
 unfolding vertexOnGrid

@@ -29,7 +29,7 @@ zero-difference : (a b : ℤ) → a ≡ b → T (isZero (a ⊖ b))
 zero-difference a b e = subst (λ (z : ℤ). T (isZero z)) (sym (ap (λ (z : ℤ). z ⊖ b) e ∙ ring 1 (λ b. b ⊟ b ≗ con (pos 0)) tt b)) tt
 
 -- to prove something of a mark: of either form, where k is not the limit and where it is
-mark-cases : (R : Base → Type 0) (L : ℕ) (k : ℤ) → (k ≡ pos L → R (record { first = axis; second = fallingAt k })) → (¬ (k ≡ pos L) → R (record { first = axis; second = risingAt k })) → R (mark L k)
+pub mark-cases : (R : Base → Type 0) (L : ℕ) (k : ℤ) → (k ≡ pos L → R (record { first = axis; second = fallingAt k })) → (¬ (k ≡ pos L) → R (record { first = axis; second = risingAt k })) → R (mark L k)
 unfolding mark
 mark-cases R L k f g =
     cond-cases (λ (l : Line). R (record { first = axis; second = l })) (isZero (k ⊖ pos L)) (fallingAt k) (risingAt k)

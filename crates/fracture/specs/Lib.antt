@@ -2,3 +2,4 @@
 pub mod Polygons
 pub mod Fracture
 pub mod Statements
+pub mod Code

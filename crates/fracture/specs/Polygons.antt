@@ -9,15 +9,12 @@ use lib.Signed.{ltZ}
 use Rattle.integer.specs.Fraction.{Fraction}
 use Rattle.records.specs.Lists.{All}
 use Rattle.geometry.specs.declared.Line.{Line}
-use Rattle.geometry.specs.Limit.{onGrid}
 use Rattle.geometry.specs.Points.{Point, at, under}
 use Rattle.geometry.specs.Fitness.{all}
 use Rattle.sweep.specs.Lists.{sum}
 use Rattle.sweep.specs.Segments.{Segment, spans}
-
-pub record Vertex : Type 0 where
-  pub x : ℤ
-  pub y : ℤ
+use Rattle.files.specs.declared.Vertex.{Vertex}
+use Rattle.files.specs.Rows.{vertexOnGrid}
 
 -- the vertices in order
 abbrev pub Polygon : Type 0
@@ -32,9 +29,6 @@ abbrev pub PolygonOnGrid : ℕ → Polygon → Type 0
 PolygonOnGrid L polygon = All (VertexOnGrid L) polygon
 
 -- the test, which says what it means (proofs/Grid.antt: `polygon-grid-exact`)
-unfoldable pub vertexOnGrid : ℕ → Vertex → Bool
-vertexOnGrid L v = onGrid L (v .x) && onGrid L (v .y)
-
 unfoldable pub polygonOnGrid : ℕ → Polygon → Bool
 polygonOnGrid L polygon = all (vertexOnGrid L) polygon
 

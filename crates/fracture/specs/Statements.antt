@@ -19,7 +19,8 @@ use Rattle.geometry.specs.Fitness.{FitFor}
 use Rattle.sweep.specs.Lists.{bit, count}
 use Rattle.sweep.specs.Segments.{crossInside}
 use Rattle.sweep.specs.Columns.{isZero}
-use Rattle.fracture.specs.Polygons.{Vertex, Polygon, PolygonOnGrid, Edge, edges, whole, segment, windingNumber}
+use Rattle.files.specs.declared.Vertex.{Vertex}
+use Rattle.fracture.specs.Polygons.{Polygon, PolygonOnGrid, Edge, edges, whole, segment, windingNumber}
 use Rattle.fracture.specs.Fracture.{mark, events, fracture, fractureAll}
 
 -- ---- which points lie in it, for every limit and all polygons, of any size (proofs/Points.antt, the count in proofs/Count.antt)

@@ -30,7 +30,7 @@ use Rattle.loxurfa.specs.Rows.{row, buffersSized, pointPasses, layersChe
 use Rattle.loxurfa.proofs.Rows.{left-of, right-of, sized-most, sized-whole}
 
 -- ---- passed
-row-passed : (n : ℕ) (b : Bool) (c : Checked) → row n b c ≡ Passed → (b ≡ true) × (c ≡ Passed)
+pub row-passed : (n : ℕ) (b : Bool) (c : Checked) → row n b c ≡ Passed → (b ≡ true) × (c ≡ Passed)
 row-passed n true c e = (refl, e)
 row-passed n false c e = let z : _≡_ {A = ℕ} 0 1 = cc in absurd (omega arith)
 
@@ -43,7 +43,7 @@ pub record Buffers (out scratch : ℕ) : Type 0 where
   pub few : out / memoryWidth ≤ maxRecords
   pub whole : memoryWidth * (out / memoryWidth) ≡ out
 
-buffers-ready : (out scratch : ℕ) → buffersSized out scratch ≡ true → Buffers out scratch
+pub buffers-ready : (out scratch : ℕ) → buffersSized out scratch ≡ true → Buffers out scratch
 buffers-ready out scratch e =
     record {
       same = eqb-true scratch out (right-of (sized scratch) (eqb scratch out) (right-of (sized out) (sized scratch && eqb scratch out) e));
@@ -139,7 +139,7 @@ abbrev SmallVerdict : Verdict → Type 0
 SmallVerdict Fit = Unit {0}
 SmallVerdict (Row n) = n ≤ 12
 
-small-row : (n : ℕ) → n ≤ 12 → (b : Bool) (c : Checked) → (b ≡ true → SmallChecked c) → SmallChecked (row n b c)
+pub small-row : (n : ℕ) → n ≤ 12 → (b : Bool) (c : Checked) → (b ≡ true → SmallChecked c) → SmallChecked (row n b c)
 small-row n l true c h = h refl
 small-row n l false c h = (l, omega arith)
 

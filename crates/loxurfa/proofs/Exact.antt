@@ -2,7 +2,9 @@
 use mathlib.Core.Path.{_≡_, refl, sym, subst}
 use mathlib.Core.Bool.{Bool, true, false}
 use mathlib.Core.List.{List}
+use mathlib.Core.Logic.{_↔_}
 use lib.Dec.{T}
+use Rattle.records.specs.Lists.{Any}
 use Rattle.geometry.specs.declared.Trapezoid.{Trapezoid}
 use Rattle.geometry.specs.declared.Checked.{Checked}
 use Rattle.geometry.specs.declared.Checked.the-variants.{Passed, Refused}
@@ -10,17 +12,28 @@ use Rattle.geometry.specs.Limit.{coordinateLimit}
 use Rattle.geometry.specs.Trapezoids.{layerOf, LiesInLayer, Disjoint}
 use Rattle.boolean.specs.Operations.{codeAt, result, says, liesInLayer}
 use Rattle.boolean.specs.Statements.{IsYes, SamePoints}
+use Rattle.files.specs.Formats.{fileWords}
+use Rattle.files.specs.Contents.{polygonsOf}
+use Rattle.fracture.specs.Statements.{Wound}
+use Rattle.fracture.proofs.Points.{fracture-exact}
 use Rattle.boolean.proofs.Results.{result-exact}
 use Rattle.boolean.proofs.Deoverlapping.{deoverlapped-exact, deoverlapped-disjoint}
 use Rattle.boolean.proofs.Containing.{lies-exact}
 use Rattle.loxurfa.specs.Answers.{isAnswered, isYes}
 use Rattle.loxurfa.specs.Rows.{containsChecked}
 use Rattle.loxurfa.specs.Outcomes.{asked, containsAnswer}
-use Rattle.loxurfa.specs.Statements.{CombineExact, DeoverlapExact, EqualExact, ContainsExact}
+use Rattle.loxurfa.specs.Statements.{FractureFileExact, CombineExact, DeoverlapExact, EqualExact, ContainsExact}
 use Rattle.loxurfa.proofs.Bounds.{point-real}
 use Rattle.loxurfa.proofs.Checks.{contains-ready}
 use Rattle.loxurfa.proofs.Success.{combined-accepted, deoverlap-accepted}
 use Rattle.loxurfa.proofs.Same.{equal-exactly}
+use Rattle.loxurfa.proofs.Fracturing.{fracture-accepted}
+
+pub fracture-file-exact : FractureFileExact
+fracture-file-exact file out scratch h =
+    let k = fracture-accepted file out scratch h in
+    let ps = polygonsOf (fileWords file) in
+    (k .fit, (λ P hP. subst (λ (ts : List Trapezoid). LiesInLayer P ts ↔ Any (Wound P) ps) (sym (k .is)) (fracture-exact coordinateLimit ps P hP)))
 
 pub combine-exact : CombineExact
 combine-exact code a b out scratch h =

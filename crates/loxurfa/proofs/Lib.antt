@@ -6,4 +6,5 @@ pub mod Outcomes
 pub mod Room
 pub mod Success
 pub mod Same
+pub mod Fracturing
 pub mod Exact

@@ -33,6 +33,9 @@ space-held room (m ∷ ms) h = go (ltb room (held m)) (nltb→le room (held m)) 
     go true f g k = absurd k
     go false f g k = (f tt, g (plus-enough (overlaysOf m) (space room ms) k))
 
+pub addition-room : (room k : ℕ) → T (isEnough (space room (addition k ∷ []))) → k ≤ room
+addition-room room k h = space-held room (addition k ∷ []) h .0
+
 module _ (room : ℕ) where
   difference-room : (k : ℕ) (A B : List Trapezoid) → k ≤ room → All (Held room) (differenceMarks k A B) → k + length (difference A B) ≤ room
   unfolding difference differenceMarks

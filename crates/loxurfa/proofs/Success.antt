@@ -36,25 +36,25 @@ abbrev pub FitTrapezoids : List Trapezoid → Type 0
 FitTrapezoids ts = All (FitFor coordinateLimit) ts
 
 -- ---- what a success wrote
-record Wrote (s : Space) (ts : List Trapezoid) (records : List ℤ) : Type 0 where
-  room : T (isEnough s)
-  is : records ≡ wordsOf trapezoidCodec ts
+pub record Wrote (s : Space) (ts : List Trapezoid) (records : List ℤ) : Type 0 where
+  pub room : T (isEnough s)
+  pub is : records ≡ wordsOf trapezoidCodec ts
 
 wrote : (n : ℕ) (ts : List Trapezoid) (s : Space) → T (isDone (written n ts s .answer)) → Wrote s ts (recordsOf (written n ts s .answer) (written n ts s .out))
 wrote n ts (enough cuts) h = record { room = tt; is = image-take trapezoidCodec trapezoid-faithful n ts }
 wrote n ts (short cuts) h = absurd h
 
-passed : (c : Checked) (out scratch : List ℤ) (ts : List Trapezoid) (ms : List Mark) → T (isDone (outcome c out scratch ts ms .answer)) → c ≡ Passed
+pub passed : (c : Checked) (out scratch : List ℤ) (ts : List Trapezoid) (ms : List Mark) → T (isDone (outcome c out scratch ts ms .answer)) → c ≡ Passed
 passed Passed out scratch ts ms h = refl
 passed (Refused number place) out scratch ts ms h = absurd h
 
-outcome-wrote : (c : Checked) (out scratch : List ℤ) (ts : List Trapezoid) (ms : List Mark) → T (isDone (outcome c out scratch ts ms .answer))
+pub outcome-wrote : (c : Checked) (out scratch : List ℤ) (ts : List Trapezoid) (ms : List Mark) → T (isDone (outcome c out scratch ts ms .answer))
     → Wrote (space (roomOf out) ms) ts (recordsOf (outcome c out scratch ts ms .answer) (outcome c out scratch ts ms .out))
 outcome-wrote Passed out scratch ts ms h = wrote (length out) ts (space (roomOf out) ms) h
 outcome-wrote (Refused number place) out scratch ts ms h = absurd h
 
 -- ---- the words of a list of trapezoids
-layer-words : (ts : List Trapezoid) → layerOf (wordsOf trapezoidCodec ts) ≡ ts
+pub layer-words : (ts : List Trapezoid) → layerOf (wordsOf trapezoidCodec ts) ≡ ts
 layer-words ts = records-words trapezoidCodec trapezoid-faithful ts (all-of (λ (t : Trapezoid). Unit {0}) (λ t. tt) ts)
 
 few-sized : (n : ℕ) → n ≤ maxRecords → T (sized (memoryWidth * n))
@@ -64,7 +64,7 @@ few-sized n h =
     (subst (λ (k : ℕ). T (eqb k 0)) (sym (mul-mod-right memoryWidth n)) (eqb-refl 0))
     (le→leb (memoryWidth * n) (memoryWidth * maxRecords) (omega arith))
 
-words-fit : (ts : List Trapezoid) → FitTrapezoids ts → length ts ≤ maxRecords → FitLayer (wordsOf trapezoidCodec ts)
+pub words-fit : (ts : List Trapezoid) → FitTrapezoids ts → length ts ≤ maxRecords → FitLayer (wordsOf trapezoidCodec ts)
 words-fit ts h l =
     record {
       size = subst (λ (n : ℕ). T (sized n)) (sym (length-words trapezoidCodec trapezoid-faithful ts)) (few-sized (length ts) l);

@@ -2,6 +2,8 @@
 use mathlib.Core.Bool.{Bool, true, false}
 use Prim.Native.Nat.{ℕ, _<_, _≤_}
 use Rattle.records.specs.Limits.{maxRecords}
+use Rattle.loxurfa.specs.declared.Fractured.{Fractured}
+use Rattle.loxurfa.specs.declared.Fractured.the-variants as fractured
 use Rattle.loxurfa.specs.declared.Combined.{Combined}
 use Rattle.loxurfa.specs.declared.Combined.the-variants as combined
 use Rattle.loxurfa.specs.declared.Deoverlapped.{Deoverlapped}
@@ -29,6 +31,10 @@ pub data PointAnswer : Type 0 where
   no : PointAnswer
 
 -- ---- each enum read as the paper's answer
+abbrev pub fracturedAnswer : Fractured → Answer
+fracturedAnswer (fractured.Refused number place) = refused number place
+fracturedAnswer (fractured.Done pieces overlays) = done pieces overlays
+
 abbrev pub combinedAnswer : Combined → Answer
 combinedAnswer (combined.Refused number place) = refused number place
 combinedAnswer (combined.Done pieces overlays) = done pieces overlays
@@ -73,7 +79,7 @@ isYes yes = true
 isYes no = false
 
 -- ---- the sizes of the numbers in an answer
--- places are numbers of trapezoids in two layers
+-- places are numbers of polygons, or of trapezoids in two layers
 abbrev pub Small : Answer → Type 0
 Small (refused number place) = (number ≤ 12) × (place < 1024)
 Small (done pieces cuts) = (pieces ≤ maxRecords) × (cuts < 4294967296)

@@ -9,12 +9,16 @@ use Rattle.records.specs.Records.{image}
 use Rattle.geometry.specs.declared.Trapezoid.{Trapezoid}
 use Rattle.geometry.specs.declared.Checked.{Checked}
 use Rattle.geometry.specs.declared.Checked.the-variants.{Passed, Refused}
+use Rattle.geometry.specs.Limit.{coordinateLimit}
 use Rattle.geometry.specs.Points.{Point}
 use Rattle.geometry.specs.Trapezoids.{trapezoidCodec, layerOf}
 use Rattle.boolean.specs.Operations.{codeAt, result, difference, deoverlapped, liesInLayer}
-use Rattle.boolean.specs.Space.{Mark, Space, enough, short, space, marks, deoverlappedMarks, equalityMarks}
+use Rattle.files.specs.Formats.{fileWords}
+use Rattle.files.specs.Contents.{polygonsOf}
+use Rattle.fracture.specs.Fracture.{fractureAll}
+use Rattle.boolean.specs.Space.{Mark, addition, Space, enough, short, space, marks, deoverlappedMarks, equalityMarks}
 use Rattle.loxurfa.specs.Answers.{Answer, refused, done, EqualityAnswer, refused-equality, same, differs, PointAnswer, refused-point, yes, no}
-use Rattle.loxurfa.specs.Rows.{combineChecked, deoverlapChecked, equalChecked, containsChecked}
+use Rattle.loxurfa.specs.Rows.{fractureChecked, combineChecked, deoverlapChecked, equalChecked, containsChecked}
 
 pub record Outcome (A : Type 0) : Type 0 where
   pub answer : A
@@ -48,6 +52,13 @@ written n ts (short cuts) = record { answer = refused 12 0; out = zeros n; scrat
 abbrev pub outcome : Checked → List ℤ → List ℤ → List Trapezoid → List Mark → Outcome Answer
 outcome (Refused number place) out scratch ts ms = record { answer = refused number place; out = out; scratch = scratch }
 outcome Passed out scratch ts ms = written (length out) ts (space (roomOf out) ms)
+
+-- cutting the polygons of a polygon file: "Cutting reports 0 cuts."
+abbrev pub fracturedOf : List ℕ → List Trapezoid
+fracturedOf file = fractureAll coordinateLimit (polygonsOf (fileWords file))
+
+unfoldable pub fractureOutcome : List ℕ → List ℤ → List ℤ → Outcome Answer
+fractureOutcome file out scratch = outcome (fractureChecked file (length out) (length scratch)) out scratch (fracturedOf file) (addition (length (fracturedOf file)) ∷ [])
 
 -- the five set operations, by the code's number
 unfoldable pub combined : ℕ → List ℤ → List ℤ → List ℤ → List ℤ → Outcome Answer

@@ -1,4 +1,4 @@
--- The table of refusals, rows 1, 2, 3 and 7 to 11: "Rows are checked downward".
+-- The table of refusals: "Rows are checked downward". Rows 4 to 7 of a polygon file are defined in the crate files.
 use mathlib.Core.Bool.{Bool, true, false, _&&_}
 use mathlib.Core.List.{List, _++_}
 use Prim.Native.Nat.{ℕ}
@@ -15,6 +15,7 @@ use Rattle.geometry.specs.Points.{Point}
 use Rattle.geometry.specs.Trapezoids.{layerOf}
 use Rattle.geometry.specs.Fitness.{firstRefusal}
 use Rattle.boolean.specs.Operations.{isCode}
+use Rattle.files.specs.Rows.{polygonFileChecked}
 
 -- a row with place 0: it refuses, or the rows below it decide
 abbrev pub row : ℕ → Bool → Checked → Checked
@@ -42,6 +43,9 @@ abbrev pub layersChecked : List ℤ → List ℤ → Checked
 layersChecked a b = firstRefusal coordinateLimit 0 (layerOf a ++ layerOf b)
 
 -- ---- the rows of each call, with an output and a scratch area of so many words
+unfoldable pub fractureChecked : List ℕ → ℕ → ℕ → Checked
+fractureChecked file out scratch = row 1 (buffersSized out scratch) (polygonFileChecked coordinateLimit file)
+
 unfoldable pub combineChecked : ℕ → List ℤ → List ℤ → ℕ → ℕ → Checked
 combineChecked code a b out scratch = row 1 (sized (length a) && (sized (length b) && buffersSized out scratch)) (row 2 (isCode code) (layersChecked a b))
 

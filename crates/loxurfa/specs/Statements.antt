@@ -9,20 +9,35 @@ use lib.Dec.{T}
 use lib.ListN.{length}
 use lib.IntN.{ℤ}
 use Rattle.records.specs.Limits.{sized}
+use Rattle.records.specs.Lists.{Any}
 use Rattle.geometry.specs.declared.Checked.the-variants.{Passed}
 use Rattle.geometry.specs.Limit.{coordinateLimit}
 use Rattle.geometry.specs.Points.{Point, IsPoint}
 use Rattle.geometry.specs.Trapezoids.{layerOf, LiesInLayer, Disjoint}
 use Rattle.geometry.specs.Fitness.{firstRefusal}
+use Rattle.files.specs.Formats.{fileWords}
+use Rattle.files.specs.Contents.{polygonsOf}
+use Rattle.fracture.specs.Statements.{Wound}
 use Rattle.boolean.specs.Operations.{codeAt, says}
 use Rattle.boolean.specs.Statements.{IsYes, SamePoints}
 use Rattle.loxurfa.specs.Answers.{isDone, isRefused, isSame, isAnswered, isYes}
-use Rattle.loxurfa.specs.Outcomes.{Outcome, recordsOf, combined, deoverlapOutcome, equalOutcome, containsAnswer}
+use Rattle.loxurfa.specs.Outcomes.{recordsOf, fractureOutcome, combined, deoverlapOutcome, equalOutcome, containsAnswer}
 
 -- "fit as input if row 1 accepts its length and rows 7 to 11 find nothing in its pieces"
 pub record FitLayer (a : List ℤ) : Type 0 where
   pub size : T (sized (length a))
   pub rows : firstRefusal coordinateLimit 0 (layerOf a) ≡ Passed
+
+-- the words that a success of `fracture` wrote
+abbrev pub fracturedLayer : List ℕ → List ℤ → List ℤ → List ℤ
+fracturedLayer file out scratch = recordsOf (fractureOutcome file out scratch .answer) (fractureOutcome file out scratch .out)
+
+-- they are fit, and a rational point lies in them exactly if the winding number of some polygon of the file is not zero there
+abbrev pub FractureFileExact : Type 0
+FractureFileExact =
+    (file : List ℕ) (out scratch : List ℤ) → T (isDone (fractureOutcome file out scratch .answer))
+    → FitLayer (fracturedLayer file out scratch)
+    × ((P : Point) → IsPoint P → LiesInLayer P (layerOf (fracturedLayer file out scratch)) ↔ Any (Wound P) (polygonsOf (fileWords file)))
 
 -- the words that a success of `combine` wrote
 abbrev pub combinedLayer : ℕ → List ℤ → List ℤ → List ℤ → List ℤ → List ℤ

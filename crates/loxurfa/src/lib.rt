@@ -1,5 +1,5 @@
-// The public interface: set operations, deoverlapping, equality, the point question and connected components of layers of
-// trapezoids, and layer files, for every input.
+// The public interface: polygons fractured into trapezoids; set operations, deoverlapping, equality, the point question and
+// connected components of layers of trapezoids; and layer files, for every input.
 use boolean::Compared;
 use boolean::Folded;
 use connectivity::Connected;
@@ -7,6 +7,7 @@ use files::LayersRead;
 use files::LayersWritten;
 use geometry::Checked;
 use integer::Int;
+use overlay::Fill;
 ghost use mathlib.Core.Path.{_≡_};
 ghost use mathlib.Core.Bool.{_&&_};
 ghost use Prim.Native.Nat.{_<_, _≤_};
@@ -17,9 +18,15 @@ ghost use Rattle.records.specs.Limits.{sized};
 ghost use Rattle.geometry.specs.Code.{pointOf};
 ghost use Rattle.connectivity.specs.Outcome.{connectedAnswer, Small as SmallConnected, observed as observedNumbers, componentsOutcome};
 ghost use Rattle.files.specs.Outcomes.{readAnswer, writtenAnswer, Small as SmallFile, observed as observedFile, readLayers, writeLayers};
-ghost use Rattle.loxurfa.specs.Answers.{combinedAnswer, deoverlappedAnswer, equalityAnswer, pointAnswer, Small, SmallEquality, SmallPoint};
-ghost use Rattle.loxurfa.specs.Outcomes.{zeros, observed, combined, deoverlapOutcome, equalOutcome, containsAnswer};
-ghost use Rattle.loxurfa.specs.Rows.{buffersSized, withinTimes, pointAt, pointPasses, layersChecked, combineChecked, deoverlapChecked, equalChecked, containsChecked};
+ghost use Rattle.loxurfa.specs.Answers.{fracturedAnswer, combinedAnswer, deoverlappedAnswer, equalityAnswer, pointAnswer, Small, SmallEquality, SmallPoint};
+ghost use Rattle.loxurfa.specs.Outcomes.{zeros, observed, fractureOutcome, combined, deoverlapOutcome, equalOutcome, containsAnswer};
+ghost use Rattle.loxurfa.specs.Rows.{buffersSized, withinTimes, pointAt, pointPasses, layersChecked, fractureChecked, combineChecked, deoverlapChecked, equalChecked, containsChecked};
+
+// What `fracture` answers: the refusal's number and place, or the trapezoids written and the overlays made, which are none.
+pub enum Fractured {
+    Refused { number: u32, place: usize },
+    Done { pieces: usize, overlays: usize },
+}
 
 // What `combine` answers: the refusal's number and place, or the trapezoids written and the overlays made.
 pub enum Combined {
@@ -175,6 +182,19 @@ fn combine_checked(code: u32, a: &[i32], b: &[i32], out: usize, scratch: usize) 
     }
 }
 
+// The rows of `fracture`.
+fn fracture_checked(file: &[u8], out: usize, scratch: usize) -> Checked
+    ensures { λ r. ⌜ r ≡ fractureChecked (now (file .entry)) out scratch ⌝ }
+{
+    if buffers_sized(out, scratch) {
+        return files::check_polygon_file(file, LIMIT);
+    }
+    Checked::Refused {
+        number: 1,
+        place: 0,
+    }
+}
+
 // The rows of `deoverlap`.
 fn deoverlap_checked(a: &[i32], out: usize, scratch: usize) -> Checked
     ensures { λ r. ⌜ r ≡ deoverlapChecked (now (a .entry)) out scratch ⌝ }
@@ -286,6 +306,37 @@ pub fn combine(code: u32, a: &[i32], b: &[i32], out: &mut [i32], scratch: &mut [
             return Combined::Done {
                 pieces: trapezoids,
                 overlays,
+            };
+        }
+    }
+}
+
+// The trapezoids of the polygons of a polygon file, written to `out`. `scratch` is as long as `out`.
+pub fn fracture(file: &[u8], out: &mut [i32], scratch: &mut [i32]) -> Fractured
+    ensures { λ r. ⌜ observed (fracturedAnswer r) (now (out .exit)) (now (scratch .exit)) ≡ fractureOutcome (now (file .entry)) (now (out .entry)) (now (scratch .entry)) ⌝ }
+    ensures small { λ r. ⌜ Small (fracturedAnswer r) ⌝ }
+{
+    let checked = fracture_checked(file, out.len(), scratch.len());
+    match checked {
+        Checked::Refused { number, place } => {
+            return Fractured::Refused { number, place };
+        }
+        Checked::Passed => {}
+    }
+    let room = out.len() / records::MEMORY_WIDTH;
+    clear_both(out, scratch);
+    let f = fracture::fracture_file(file, LIMIT, out, room);
+    match f {
+        Fill::NoRoom => {
+            return Fractured::Refused {
+                number: 12,
+                place: 0,
+            };
+        }
+        Fill::Written(n) => {
+            return Fractured::Done {
+                pieces: n,
+                overlays: 0,
             };
         }
     }

@@ -6,12 +6,13 @@ use loxurfa::Combined;
 use loxurfa::Containment;
 use loxurfa::Deoverlapped;
 use loxurfa::Equality;
+use loxurfa::Fractured;
 ghost use mathlib.Core.Path.{_≡_};
 ghost use Prim.Native.Nat.{_<_, _≤_};
 ghost use Rattle.connectivity.specs.Outcome.{componentsOutcome};
 ghost use Rattle.files.specs.Outcomes.{readLayers, writeLayers};
 ghost use Rattle.loxurfa.specs.Rows.{pointAt};
-ghost use Rattle.loxurfa.specs.Outcomes.{combined, deoverlapOutcome, equalOutcome, containsAnswer};
+ghost use Rattle.loxurfa.specs.Outcomes.{fractureOutcome, combined, deoverlapOutcome, equalOutcome, containsAnswer};
 ghost use Rattle.loxurfa_c.specs.Packed.{refusal as refusalOf, success as successOf, packed, packedEquality, packedPoint, packedFile, packedCount};
 
 fn refusal(number: u32, place: usize) -> u64
@@ -26,6 +27,23 @@ fn success(high: usize, overlays: usize) -> u64
     ensures { λ r. ⌜ r ≡ successOf high overlays ⌝ }
 {
     4294967296 * (high as u64) + (overlays as u64)
+}
+
+#[no_mangle]
+pub extern "C" fn loxurfa_fracture(file: &[u8], out: &mut [i32], scratch: &mut [i32]) -> u64
+    ensures { λ r. ⌜ r ≡ packed (fractureOutcome (now (file .entry)) (now (out .entry)) (now (scratch .entry)) .answer) ⌝ }
+    ensures { λ _. ⌜ now (out .exit) ≡ fractureOutcome (now (file .entry)) (now (out .entry)) (now (scratch .entry)) .out ⌝ }
+    ensures { λ _. ⌜ now (scratch .exit) ≡ fractureOutcome (now (file .entry)) (now (out .entry)) (now (scratch .entry)) .scratch ⌝ }
+{
+    let answer = loxurfa::fracture(file, out, scratch);
+    match answer {
+        Fractured::Refused { number, place } => {
+            return refusal(number, place);
+        }
+        Fractured::Done { pieces, overlays } => {
+            return success(pieces, overlays);
+        }
+    }
 }
 
 #[no_mangle]

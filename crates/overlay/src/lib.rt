@@ -158,7 +158,7 @@ fn with_crossing(v: EventList, l: Line, m: Line, lo: Position, hi: Position) -> 
     EventList { n: n + 1, list }
 }
 
-fn event_at(base: Base, at: Position) -> Event
+pub fn event_at(base: Base, at: Position) -> Event
     ensures { λ r. ⌜ (r .base ≡ base) × (r .at ≡ at) ⌝ }
 {
     Event { base, at }
@@ -196,7 +196,7 @@ fn events_of(a: Placed, b: Placed) -> EventList
 }
 
 // The lefter of the best so far and an event that is right of g, or any where nothing has been started; the best where they are level.
-fn better(best: Next, started: bool, g: Event, e: Event) -> Next
+pub fn better(best: Next, started: bool, g: Event, e: Event) -> Next
     requires { ⌜ NextPlaced best × EventOf g × EventOf e ⌝ }
     ensures { λ r. ⌜ Better best (after started g) e r ⌝ }
 {
@@ -376,7 +376,7 @@ fn put(t: Trapezoid, out: &mut [i32], room: usize) -> Fill
     Fill::Written(1)
 }
 
-fn put_if(yes: bool, t: Trapezoid, out: &mut [i32], room: usize) -> Fill
+pub fn put_if(yes: bool, t: Trapezoid, out: &mut [i32], room: usize) -> Fill
     requires { ⌜ Borrowed (now out) room ⌝ }
     ensures { λ r. ⌜ FilledAs (length (now (out .entry))) room (inFront yes t []) r (now (out .exit)) ⌝ }
 {

@@ -7,6 +7,7 @@
 
 pub mod components;
 pub mod files;
+pub mod fracture;
 
 use std::cmp::Ordering;
 

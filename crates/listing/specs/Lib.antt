@@ -1,0 +1,3 @@
+-- The text that the lister prints.
+pub mod Listing
+pub mod Statements
