@@ -8,3 +8,4 @@ pub mod Success
 pub mod Same
 pub mod Fracturing
 pub mod Exact
+pub mod Table

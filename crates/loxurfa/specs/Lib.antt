@@ -3,3 +3,4 @@ pub mod Answers
 pub mod Rows
 pub mod Outcomes
 pub mod Statements
+pub mod Table

@@ -1,0 +1,94 @@
+-- What is printed goes by what the calls answered and wrote; what buffers held before makes no difference.
+use mathlib.Core.Path.{_≡_, refl, sym, _∙_, ap, subst}
+use mathlib.Core.List.{List, [], _∷_}
+use Prim.Native.Nat.{ℕ, _/_, _*_, _≤_}
+use native.Mathlib.Omega.{arith}
+use lib.IntN.{ℤ, pos}
+use lib.ListN.{length, take, drop, length-append, length-replicate}
+use Rattle.records.specs.Limits.{memoryWidth}
+use Rattle.geometry.specs.declared.Trapezoid.{Trapezoid}
+use Rattle.geometry.specs.declared.Checked.{Checked}
+use Rattle.geometry.specs.declared.Checked.the-variants.{Passed, Refused}
+use Rattle.geometry.specs.Trapezoids.{layerOf}
+use Rattle.boolean.specs.Operations.{deoverlapped}
+use Rattle.boolean.specs.Space.{Mark, addition, space, deoverlappedMarks}
+use Rattle.listing.specs.Listing.{listing, refusalLine}
+use Rattle.loxurfa.specs.declared.Fractured.{Fractured}
+use Rattle.loxurfa.specs.declared.Fractured.the-variants as fractured
+use Rattle.loxurfa.specs.declared.Deoverlapped.{Deoverlapped}
+use Rattle.loxurfa.specs.declared.Deoverlapped.the-variants as after-deoverlap
+use Rattle.loxurfa.specs.Answers.{Answer, fracturedAnswer, deoverlappedAnswer}
+use Rattle.loxurfa.specs.Rows.{fractureChecked, deoverlapChecked}
+use Rattle.loxurfa.specs.Outcomes.{Outcome, observed, written, outcome, fracturedOf, fractureOutcome, deoverlapOutcome}
+use Rattle.lister.specs.Lister.{layerSize, blank, printedAs, deoverlapListed, listedAs, listed, Put}
+
+pub blank-length : length blank ≡ layerSize
+blank-length = length-replicate layerSize (pos 0)
+
+-- the same text, put into a buffer
+pub put-as : {s t : List ℕ} (d : List ℕ) (r : ℕ) (e : List ℕ) → s ≡ t → Put s d r e → Put t d r e
+put-as d r e h p = subst (λ (x : List ℕ). Put x d r e) h p
+
+pub put-within : (t d : List ℕ) (r : ℕ) (e : List ℕ) → Put t d r e → r ≤ length e
+put-within t d r e (l, h) = omega (arith, l, ap length h, length-append t (drop r d))
+
+-- ---- a layer deoverlapped
+module _ (ts : List Trapezoid) (ms : List Mark) where
+  printed-outcome : (c : Checked) (out scratch : List ℤ) → length out ≡ layerSize
+      → printedAs (outcome c out scratch ts ms .answer) (outcome c out scratch ts ms .out) ≡ printedAs (outcome c blank blank ts ms .answer) (outcome c blank blank ts ms .out)
+  printed-outcome (Refused number place) out scratch e = refl
+  printed-outcome Passed out scratch e =
+      ap (λ (n : ℕ). printedAs (written n ts (space (n / memoryWidth) ms) .answer) (written n ts (space (n / memoryWidth) ms) .out)) (e ∙ sym blank-length)
+
+  listed-outcome : (c : Checked) (out scratch : List ℤ) → length out ≡ layerSize
+      → listedAs (outcome c out scratch ts ms .answer) (outcome c out scratch ts ms .out) ≡ listedAs (outcome c blank blank ts ms .answer) (outcome c blank blank ts ms .out)
+  listed-outcome (Refused number place) out scratch e = refl
+  listed-outcome Passed out scratch e =
+      ap (λ (n : ℕ). listedAs (written n ts (space (n / memoryWidth) ms) .answer) (written n ts (space (n / memoryWidth) ms) .out)) (e ∙ sym blank-length)
+
+module _ (a out scratch : List ℤ) (m : length out ≡ layerSize) (n : length scratch ≡ layerSize) where
+  checked-blank : deoverlapChecked a (length out) (length scratch) ≡ deoverlapChecked a (length blank) (length blank)
+  checked-blank =
+      ap (λ (k : ℕ). deoverlapChecked a k (length scratch)) (m ∙ sym blank-length) ∙ ap (deoverlapChecked a (length blank)) (n ∙ sym blank-length)
+
+  deoverlap-printed : printedAs (deoverlapOutcome a out scratch .answer) (deoverlapOutcome a out scratch .out) ≡ deoverlapListed a
+  unfolding deoverlapOutcome deoverlapListed
+  deoverlap-printed =
+      let ts = deoverlapped (layerOf a) in
+      let ms = deoverlappedMarks [] (layerOf a) in
+      printed-outcome ts ms (deoverlapChecked a (length out) (length scratch)) out scratch m
+      ∙ ap (λ (c : Checked). printedAs (outcome c blank blank ts ms .answer) (outcome c blank blank ts ms .out)) checked-blank
+
+  module _ (answer : Deoverlapped) (o s : List ℤ) (e : observed (deoverlappedAnswer answer) o s ≡ deoverlapOutcome a out scratch) where
+    answered : printedAs (deoverlappedAnswer answer) o ≡ deoverlapListed a
+    answered = ap (λ (x : Outcome Answer). printedAs (x .answer) (x .out)) e ∙ deoverlap-printed
+
+    pub layer-refused : (number place : ℕ) → answer ≡ after-deoverlap.Refused number place → refusalLine number place ≡ deoverlapListed a
+    layer-refused number place h = ap (λ (x : Deoverlapped). printedAs (deoverlappedAnswer x) o) (sym h) ∙ answered
+
+    pub layer-done : (pieces overlays : ℕ) → answer ≡ after-deoverlap.Done pieces overlays → listing pieces o ≡ deoverlapListed a
+    layer-done pieces overlays h = ap (λ (x : Deoverlapped). printedAs (deoverlappedAnswer x) o) (sym h) ∙ answered
+
+-- ---- a polygon file fractured
+module _ (file : List ℕ) (out scratch : List ℤ) (m : length out ≡ layerSize) (n : length scratch ≡ layerSize) where
+  fracture-blank : fractureChecked file (length out) (length scratch) ≡ fractureChecked file (length blank) (length blank)
+  fracture-blank =
+      ap (λ (k : ℕ). fractureChecked file k (length scratch)) (m ∙ sym blank-length) ∙ ap (fractureChecked file (length blank)) (n ∙ sym blank-length)
+
+  fracture-listed : listedAs (fractureOutcome file out scratch .answer) (fractureOutcome file out scratch .out) ≡ listed file
+  unfolding fractureOutcome listed
+  fracture-listed =
+      let ts = fracturedOf file in
+      let ms = addition (length ts) ∷ [] in
+      listed-outcome ts ms (fractureChecked file (length out) (length scratch)) out scratch m
+      ∙ ap (λ (c : Checked). listedAs (outcome c blank blank ts ms .answer) (outcome c blank blank ts ms .out)) fracture-blank
+
+  module _ (answer : Fractured) (o s : List ℤ) (e : observed (fracturedAnswer answer) o s ≡ fractureOutcome file out scratch) where
+    fractured-answer : listedAs (fracturedAnswer answer) o ≡ listed file
+    fractured-answer = ap (λ (x : Outcome Answer). listedAs (x .answer) (x .out)) e ∙ fracture-listed
+
+    pub file-refused : (number place : ℕ) → answer ≡ fractured.Refused number place → refusalLine number place ≡ listed file
+    file-refused number place h = ap (λ (x : Fractured). listedAs (fracturedAnswer x) o) (sym h) ∙ fractured-answer
+
+    pub file-done : (pieces overlays : ℕ) → answer ≡ fractured.Done pieces overlays → deoverlapListed (take (memoryWidth * pieces) o) ≡ listed file
+    file-done pieces overlays h = ap (λ (x : Fractured). listedAs (fracturedAnswer x) o) (sym h) ∙ fractured-answer

@@ -1,0 +1,3 @@
+-- What the lister prints.
+pub mod Lister
+pub mod Statements

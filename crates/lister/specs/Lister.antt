@@ -1,0 +1,39 @@
+-- What the lister prints for the bytes of a polygon file (paper 01: sheet).
+use mathlib.Core.Path.{_≡_}
+use mathlib.Core.List.{List, _++_}
+use Prim.Native.Nat.{ℕ, _*_}
+use lib.IntN.{ℤ}
+use lib.ListN.{length, take, drop}
+use Rattle.records.specs.Limits.{memoryWidth, maxRecords}
+use Rattle.listing.specs.Listing.{listing, refusalLine}
+use Rattle.loxurfa.specs.Answers.{Answer, refused, done}
+use Rattle.loxurfa.specs.Outcomes.{zeros, fractureOutcome, deoverlapOutcome}
+
+-- an output or a scratch area of 512 records
+abbrev pub layerSize : ℕ
+layerSize = memoryWidth * maxRecords
+
+abbrev pub blank : List ℤ
+blank = zeros layerSize
+
+-- what is printed of an answer, with the words of the output
+abbrev pub printedAs : Answer → List ℤ → List ℕ
+printedAs (refused number place) out = refusalLine number place
+printedAs (done pieces cuts) out = listing pieces out
+
+-- "disjoints ... into 512 records, and prints"
+unfoldable pub deoverlapListed : List ℤ → List ℕ
+deoverlapListed a = printedAs (deoverlapOutcome a blank blank .answer) (deoverlapOutcome a blank blank .out)
+
+-- what is printed once the polygons are cut
+abbrev pub listedAs : Answer → List ℤ → List ℕ
+listedAs (refused number place) out = refusalLine number place
+listedAs (done pieces cuts) out = deoverlapListed (take (memoryWidth * pieces) out)
+
+-- "The lister reads a sheet on standard input, cuts, disjoints, each into 512 records, and prints."
+unfoldable pub listed : List ℕ → List ℕ
+listed file = listedAs (fractureOutcome file blank blank .answer) (fractureOutcome file blank blank .out)
+
+-- a function that puts a text at the start of d leaves e, and answers the text's length
+abbrev pub Put : List ℕ → List ℕ → ℕ → List ℕ → Type 0
+Put text d r e = (r ≡ length text) × (e ≡ text ++ drop r d)

@@ -1,0 +1,69 @@
+// Lists a polygon file: reads it on standard input, fractures it, deoverlaps the trapezoids, and prints them on standard output.
+use libc::STDIN_FILENO;
+use libc::STDOUT_FILENO;
+use loxurfa::Deoverlapped;
+use loxurfa::Fractured;
+ghost use mathlib.Core.Path.{_≡_};
+ghost use Prim.Native.Nat.{_≤_};
+ghost use lib.ListN.{length};
+ghost use Rattle.listing.specs.Listing.{listingRoom};
+ghost use Rattle.lister.specs.Lister.{layerSize, deoverlapListed, listed, Put};
+
+// The text for a layer, deoverlapped into `out`, at the start of `text`. The answer is its length.
+fn list_layer(layer: &[i32], out: &mut [i32], scratch: &mut [i32], text: &mut [u8]) -> usize
+    requires { ⌜ (length (now out) ≡ layerSize) × (length (now scratch) ≡ layerSize) × (listingRoom ≤ length (now text)) ⌝ }
+    ensures { λ r. ⌜ Put (deoverlapListed (now (layer .entry))) (now (text .entry)) r (now (text .exit)) ⌝ }
+{
+    let d = loxurfa::deoverlap(layer, out, scratch);
+    match d {
+        Deoverlapped::Refused { number, place } => {
+            return listing::refuse_into(number, place, text);
+        }
+        Deoverlapped::Done { pieces, overlays } => {
+            return listing::list_into(out, pieces, text);
+        }
+    }
+}
+
+// The text for the bytes of a polygon file, fractured into `first`, likewise.
+fn list_file(
+    file: &[u8],
+    first: &mut [i32],
+    out: &mut [i32],
+    scratch: &mut [i32],
+    text: &mut [u8],
+) -> usize
+    requires { ⌜ (length (now first) ≡ layerSize) × (length (now out) ≡ layerSize) × (length (now scratch) ≡ layerSize) × (listingRoom ≤ length (now text)) ⌝ }
+    ensures { λ r. ⌜ Put (listed (now (file .entry))) (now (text .entry)) r (now (text .exit)) ⌝ }
+{
+    let f = loxurfa::fracture(file, first, scratch);
+    match f {
+        Fractured::Refused { number, place } => {
+            return listing::refuse_into(number, place, text);
+        }
+        Fractured::Done { pieces, overlays } => {
+            let end = records::MEMORY_WIDTH * pieces;
+            return list_layer(&first[..end], out, scratch, text);
+        }
+    }
+}
+
+// The text for the bytes of a polygon file, printed; where it cannot be, a line on standard error.
+fn print_listing(file: &[u8]) {
+    let mut first = [0i32; 12288];
+    let mut out = [0i32; 12288];
+    let mut scratch = [0i32; 12288];
+    let mut text = [0u8; 147468];
+    let n = list_file(file, &mut first, &mut out, &mut scratch, &mut text);
+    let is_written = io::write_all(STDOUT_FILENO, &text[..n]);
+    if !is_written {
+        os::fail(b"standard output");
+    }
+}
+
+// More than 65,532 bytes are refused, and 65,536 are enough to know.
+fn main() {
+    let mut file = io::large_buffer();
+    let n = io::read_full(STDIN_FILENO, &mut file);
+    print_listing(&file[..n]);
+}
