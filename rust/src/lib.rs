@@ -14,7 +14,7 @@ mod files;
 mod fracture;
 
 pub use components::components;
-pub use files::{read_layers, write_layers, MAX_LAYERS};
+pub use files::{decode_layers, encode_layers, read_layers, write_layers, MAX_LAYERS};
 pub use fracture::{fracture, MAX_POLYGONS, MAX_VERTICES};
 
 /// Words in one trapezoid.
@@ -74,6 +74,13 @@ pub struct Done {
     pub pieces: u32,
     /// Overlays of two trapezoids made.
     pub overlays: u32,
+}
+
+impl Done {
+    /// Words of the trapezoids in the output.
+    pub fn words(&self) -> usize {
+        self.pieces as usize * TRAPEZOID_WORDS
+    }
 }
 
 /// The answer of [`equal`].

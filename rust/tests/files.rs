@@ -490,3 +490,78 @@ fn wrappers() {
     met.assert_values("read", rounds(4), 50);
     assert_met("refused", met.refusals.iter().sum(), rounds(4), 4);
 }
+
+/// Layers decoded and encoded: the words and refusals of reading and writing.
+#[test]
+fn layers_of_files() {
+    let random = &mut Random(26);
+    let rounds = rounds(4);
+    let mut decoded = Outcomes::default();
+    let mut encoded = Outcomes::default();
+    let refused = |answer: u64| Refusal {
+        number: (answer >> 32 & 0xff) as u8,
+        place: (answer & 0xffff_ffff) as u32,
+    };
+    for _ in 0..rounds {
+        // Any file.
+        let mut file = file_bytes(&any_words(random));
+        if random.once_in(12) {
+            damage_bytes(random, &mut file);
+        }
+        let (answer, words) = read(&file, &vec![0; file.len() / 4]);
+        decoded.note(answer);
+        match loxurfa::decode_layers(&file) {
+            Ok(layers) => {
+                assert_eq!(answer, (layers.concat().len() as u64 / 24) << 32);
+                assert_eq!(file_words(&layers, WORDS), words);
+            }
+            Err(refusal) => assert_eq!(refusal, refused(answer)),
+        }
+
+        // Any layers.
+        let mut layers = layers(random);
+        match random.below(12) {
+            0 => layers.resize(random.range(15, 18) as usize, vec![]),
+            1 => layers.push(many(0, random.range(500, 513))),
+            2 | 3 if !layers.is_empty() => {
+                let number = random.below(layers.len());
+                damage(random, &mut layers[number]);
+            }
+            // Layers that aren't whole trapezoids.
+            4 if !layers.is_empty() => {
+                for _ in 0..2 {
+                    let number = random.below(layers.len());
+                    let length = layers[number].len() + 1 + random.below(30);
+                    layers[number].resize(length, 0);
+                }
+            }
+            _ => {}
+        }
+        let words = file_words(&layers, WORDS);
+        let (answer, file) = write(&words, &vec![0; 4 * words.len()]);
+        encoded.note(answer);
+        match loxurfa::encode_layers(&layers) {
+            Ok(bytes) => {
+                assert_eq!(answer >> 63, 0);
+                assert!(bytes == file);
+                assert_eq!(loxurfa::decode_layers(&bytes), Ok(layers));
+            }
+            Err(refusal) => assert_eq!(refusal, refused(answer)),
+        }
+    }
+    let numbers = [4, 5, 6, 7, 8, 9, 10, 11];
+    decoded.assert_refusals("decode", &numbers, rounds, 400);
+    decoded.assert_values("decode", rounds, 50);
+    encoded.assert_refusals("encode", &numbers[1..], rounds, 400);
+    encoded.assert_values("encode", rounds, 50);
+
+    // One word too many in one layer and one too few in the next.
+    let split = [vec![0; 25], vec![0; 23]];
+    let refusal = Refusal {
+        number: 6,
+        place: 2,
+    };
+    assert_eq!(loxurfa::encode_layers(&split), Err(refusal));
+    assert_eq!(loxurfa::encode_layers::<&[i32]>(&[]), Ok(vec![0; 4]));
+    assert_eq!(loxurfa::decode_layers(&[0; 4]), Ok(vec![]));
+}

@@ -6,12 +6,13 @@ mod support;
 
 use loxurfa::{raw, Done, Refusal};
 use reference::files::{read_polygons, Polygon};
-use reference::fracture::{edges, events, fracture_polygon, list, list_answer, winding};
+use reference::fracture::{edges, events, fracture_polygon, winding};
+use reference::listing::{list, list_answer};
 use reference::{read_layer, Fraction, Line, Point, WORDS};
 use std::cmp::Ordering;
 use support::files::{about, damage_bytes, damage_file, file_bytes};
 use support::outcomes::{refusal, Outcomes};
-use support::polygons::{point_near_polygon, polygon_file, polygon_words, Window};
+use support::polygons::{any_polygons, point_near_polygon, polygon_file, polygon_words, Window};
 use support::{assert_met, rounds, Random};
 
 /// Fractures by the library and by the reference and gives the answer and output they agree on.
@@ -58,20 +59,6 @@ fn fractured(polygons: &[Polygon], records: usize) -> (u64, Vec<i32>) {
 
 fn pieces(count: u64) -> u64 {
     count << 32
-}
-
-/// Polygons of a file, in one window.
-fn any_polygons(random: &mut Random) -> Vec<Polygon> {
-    let window = Window::new(random);
-    let (count, most) = match random.below(24) {
-        0 => (0, 8),
-        1 => (random.below(65), 8),
-        2 => (random.below(9), 16),
-        3..=8 => (random.range(2, 4) as usize, 12),
-        9..=13 => (1, 32),
-        _ => (1, 12),
-    };
-    (0..count).map(|_| window.polygon(random, most)).collect()
 }
 
 /// What to see in the tests.

@@ -6,7 +6,8 @@ mod support;
 
 use loxurfa::{raw, Code, Done, Equality, Refusal};
 use reference::{read_layer, WORDS};
-use support::{assert_met, damage, point_near, rounds, whole_point, Random, Scene};
+use support::outcomes::refusal;
+use support::{assert_met, damage, point_near, rectangle, rounds, whole_point, Random, Scene};
 
 /// How often each outcome came up.
 #[derive(Default, Debug)]
@@ -618,6 +619,197 @@ fn large() {
     }
     assert!(met.refusals[1] > 0 && met.refusals[12] > 0 && met.done() > rounds / 2);
     assert!(full > 0, "{met:?}");
+}
+
+/// A call with room for 40 records.
+fn call(code: u32, a: &[i32], b: &[i32]) -> Call {
+    Call {
+        code,
+        a: a.to_vec(),
+        b: b.to_vec(),
+        twice: false,
+        out: vec![7; 40 * WORDS],
+        scratch: vec![9; 40 * WORDS],
+    }
+}
+
+/// The answers of the four calls that take layers: `combine`, `deoverlap`, `equal`, and `contains` at
+/// (1, 1).
+fn answers(call: &Call) -> [u64; 4] {
+    [
+        call.combine().0,
+        call.deoverlap().0,
+        call.equal().0,
+        call.contains(1, 1, 1),
+    ]
+}
+
+fn is_refused(answer: u64) -> bool {
+    answer >> 63 == 1
+}
+
+/// Row 1: each lent length, one at a time, and two that are equal and wrong.
+#[test]
+fn lengths() {
+    let (q, r) = (rectangle(0, 4, 0, 4), rectangle(2, 6, 2, 6));
+    let bad = refusal(1, 0);
+    for code in 0..5 {
+        assert!(!answers(&call(code, &q, &r)).into_iter().any(is_refused));
+        for length in [1, 23, 25, 47, 12_287, 12_289, 12_312, 24_576] {
+            let mut wrong = call(code, &q, &r);
+            wrong.a.resize(length, 0);
+            assert_eq!(answers(&wrong), [bad; 4], "A {length}");
+            let mut wrong = call(code, &q, &r);
+            wrong.b.resize(length, 0);
+            let [combine, deoverlap, equal, contains] = answers(&wrong);
+            assert_eq!([combine, equal, contains], [bad; 3], "B {length}");
+            assert!(!is_refused(deoverlap));
+            for (out, scratch) in [(length, 960), (960, length), (length, length)] {
+                let mut wrong = call(code, &q, &r);
+                wrong.out.resize(out, 7);
+                wrong.scratch.resize(scratch, 9);
+                let [combine, deoverlap, equal, contains] = answers(&wrong);
+                assert_eq!([combine, deoverlap, equal], [bad; 3], "{out} {scratch}");
+                assert!(!is_refused(contains));
+            }
+        }
+        // Fit by themselves, but unlike.
+        for (out, scratch) in [(960, 936), (936, 960), (0, 24), (24, 0), (12_288, 0)] {
+            let mut wrong = call(code, &q, &r);
+            wrong.out.resize(out, 7);
+            wrong.scratch.resize(scratch, 9);
+            let [combine, deoverlap, equal, _] = answers(&wrong);
+            assert_eq!([combine, deoverlap, equal], [bad; 3], "{out} {scratch}");
+        }
+        let mut longest = call(code, &q, &r);
+        longest.out.resize(12_288, 7);
+        longest.scratch.resize(12_288, 9);
+        assert!(!answers(&longest).into_iter().any(is_refused));
+    }
+}
+
+/// Row 2: codes past 4. Row 1 comes before it, rows 3 and 7 after it.
+#[test]
+fn codes() {
+    let q = rectangle(0, 4, 0, 4);
+    let bad = refusal(2, 0);
+    for code in [5, 6, 7, 8, 255, 256, 1 << 16, 1 << 31, u32::MAX] {
+        let mut wrong = call(code, &q, &q);
+        assert_eq!(wrong.combine().0, bad);
+        assert_eq!(wrong.contains(1, 1, 1), bad);
+        assert_eq!(wrong.contains(1, 1, 0), bad);
+        let (mut out, mut scratch) = (wrong.out.clone(), wrong.scratch.clone());
+        let typed = loxurfa::combine_by_number(code, &q, &q, &mut out, &mut scratch);
+        assert_eq!(typed, as_done(bad));
+        assert!(out == wrong.out && scratch == wrong.scratch);
+        let typed = loxurfa::contains_by_number(1, 1, 1, &q, &q, code);
+        assert_eq!(typed.map_err(|refusal| refusal.number), Err(2));
+        wrong.b[0] = 2049;
+        assert_eq!(wrong.combine().0, bad);
+        assert_eq!(wrong.contains(1, 1, 1), bad);
+        wrong.b.push(0);
+        assert_eq!(wrong.combine().0, refusal(1, 0));
+        assert_eq!(wrong.contains(1, 1, 1), refusal(1, 0));
+    }
+}
+
+/// Row 3: D from 1 to 1024, X and Y within 2048 times D. Row 7 comes after it.
+#[test]
+fn points() {
+    let q = rectangle(0, 4, 0, 4);
+    let bad = refusal(3, 0);
+    let fit = call(0, &q, &[]);
+    let mut unfit = call(0, &q, &q);
+    unfit.b[0] = -2049;
+    for d in [0, -1, -1024, 1025, 1026, 1 << 20, i32::MIN, i32::MAX] {
+        for (x, y) in [(0, 0), (1, 1), (d, d)] {
+            assert_eq!(fit.contains(x, y, d), bad, "{x} {y} {d}");
+            assert_eq!(unfit.contains(x, y, d), bad, "{x} {y} {d}");
+        }
+    }
+    for d in [1, 2, 3, 1023, 1024] {
+        let most = 2048 * d;
+        for (x, y) in [(most, 0), (0, most), (-most, 0), (0, -most), (most, -most)] {
+            assert_eq!(fit.contains(x, y, d), 0, "{x} {y} {d}");
+            assert_eq!(unfit.contains(x, y, d), refusal(7, 1), "{x} {y} {d}");
+        }
+        assert_eq!(fit.contains(d, 4 * d - 1, d), 1 << 32);
+        for beyond in [most + 1, -most - 1, i32::MIN, i32::MAX] {
+            for (x, y) in [(beyond, 0), (0, beyond), (beyond, beyond)] {
+                assert_eq!(fit.contains(x, y, d), bad, "{x} {y} {d}");
+                assert_eq!(unfit.contains(x, y, d), bad, "{x} {y} {d}");
+            }
+        }
+    }
+}
+
+/// Rows 7 to 11 at each place of A and of B; the lowest place first, whatever the rows.
+#[test]
+fn places() {
+    let fit = |k: i32| rectangle(k, k + 1, 0, 1);
+    // One trapezoid for each row, made from a fit one.
+    let mut unfit: Vec<(u64, Vec<i32>)> = Vec::new();
+    let mut change = |number: u64, at: usize, words: &[i32]| {
+        let mut wrong = fit(0);
+        wrong[at..at + words.len()].copy_from_slice(words);
+        unfit.push((number, wrong));
+    };
+    change(7, 23, &[2049]);
+    change(8, 16, &[1]);
+    // Two lines that are the same; two that are parallel.
+    change(9, 4, &[0, 0, 1, 0]);
+    change(9, 12, &[0, 5, 1, 5]);
+    // Level, and the wrong way round.
+    change(10, 4, &[1, 0, 2, 1]);
+    change(10, 4, &[2, 0, 3, 1]);
+    // Coinciding sides, a top below the bottom, and sides that cross in the middle.
+    change(11, 20, &[0, 0, 1, 0]);
+    change(11, 20, &[0, -1, 1, -1]);
+    change(11, 20, &[0, 1, 1, -1]);
+    for (number, wrong) in &unfit {
+        assert_eq!(reference::unfit(wrong), Some(*number as u8));
+    }
+
+    let whole = [fit(0), fit(2), fit(4)].concat();
+    for (index, (number, wrong)) in unfit.iter().enumerate() {
+        let (later_number, later) = &unfit[unfit.len() - 1 - index];
+        for place in 0..6 {
+            let mut both = [whole.clone(), whole.clone()].concat();
+            both[place * WORDS..(place + 1) * WORDS].copy_from_slice(wrong);
+            let mut answer = refusal(*number, place as u64);
+            for _ in 0..2 {
+                for code in 0..5 {
+                    let (a, b) = both.split_at(3 * WORDS);
+                    let [combine, deoverlap, equal, contains] = answers(&call(code, a, b));
+                    assert_eq!([combine, equal, contains], [answer; 3]);
+                    let in_a = place < 3 || (answer as u32) < 3;
+                    assert_eq!(is_refused(deoverlap), in_a);
+                    assert!(!in_a || deoverlap == answer);
+                }
+                // Another one, the first or the last.
+                let other = if place == 0 { 5 } else { 0 };
+                both[other * WORDS..(other + 1) * WORDS].copy_from_slice(later);
+                if other == 0 {
+                    answer = refusal(*later_number, 0);
+                }
+            }
+        }
+    }
+}
+
+/// A refusal as text.
+#[test]
+fn refusal_as_text() {
+    let refusal = Refusal {
+        number: 12,
+        place: 4_294_967_295,
+    };
+    assert_eq!(refusal.to_string(), "refused 12 place 4294967295");
+    let done = Done {
+        pieces: 512,
+        overlays: 7,
+    };
+    assert_eq!(done.words(), 12_288);
 }
 
 /// The safe wrappers read the answers as they are meant.

@@ -1,9 +1,8 @@
-//! Polygons to trapezoids by nonzero winding (paper: cutting a sheet), and the lister's text.
+//! Polygons to trapezoids by nonzero winding (paper: cutting a sheet).
 
 use super::files::{read_polygons, Polygon};
 use super::{
-    accepted, deoverlap, refused, row_1, Base, Fraction, Line, Point, Trapezoid, LIMIT, NO_SPACE,
-    WORDS,
+    accepted, refused, row_1, Base, Fraction, Line, Point, Trapezoid, LIMIT, NO_SPACE, WORDS,
 };
 use std::cmp::Ordering;
 
@@ -164,37 +163,4 @@ pub fn fracture(file: &[u8], out: &mut [i32], scratch: &mut [i32]) -> u64 {
         trapezoid.write(record);
     }
     accepted(result.len() as u32, 0)
-}
-
-// ---------------------------------------------------------------------------------------------
-// The lister
-
-/// What the lister prints for a polygon file: it is fractured, then the overlaps are taken out, each
-/// into 512 records.
-pub fn list(file: &[u8]) -> String {
-    let mut fractured = vec![0; 512 * WORDS];
-    let mut out = vec![0; 512 * WORDS];
-    let mut scratch = vec![0; 512 * WORDS];
-    let mut answer = fracture(file, &mut fractured, &mut scratch);
-    if answer >> 63 == 0 {
-        let words = (answer >> 32) as usize * WORDS;
-        answer = deoverlap(&fractured[..words], &mut out, &mut scratch);
-    }
-    list_answer(answer, &out)
-}
-
-/// What the lister prints for an answer and an output.
-pub fn list_answer(answer: u64, out: &[i32]) -> String {
-    if answer >> 63 == 1 {
-        let (number, place) = (answer >> 32 & 0xff, answer & 0xffff_ffff);
-        return format!("refused {number} place {place}\n");
-    }
-    let pieces = (answer >> 32) as usize;
-    let mut text = format!("pieces {pieces}\n");
-    for record in out.chunks(WORDS).take(pieces) {
-        let words: Vec<String> = record.iter().map(i32::to_string).collect();
-        text += &words.join(" ");
-        text += "\n";
-    }
-    text
 }

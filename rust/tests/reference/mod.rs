@@ -8,6 +8,7 @@
 pub mod components;
 pub mod files;
 pub mod fracture;
+pub mod listing;
 
 use std::cmp::Ordering;
 

@@ -5,6 +5,7 @@
 pub mod files;
 pub mod outcomes;
 pub mod polygons;
+pub mod programs;
 pub mod shapes;
 
 use crate::reference::{self, Fraction, Line, Point, Trapezoid, LIMIT, WORDS};

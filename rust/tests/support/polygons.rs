@@ -182,6 +182,20 @@ impl Window {
     }
 }
 
+/// Polygons of a file, in one window.
+pub fn any_polygons(random: &mut Random) -> Vec<Polygon> {
+    let window = Window::new(random);
+    let (count, most) = match random.below(24) {
+        0 => (0, 8),
+        1 => (random.below(65), 8),
+        2 => (random.below(9), 16),
+        3..=8 => (random.range(2, 4) as usize, 12),
+        9..=13 => (1, 32),
+        _ => (1, 12),
+    };
+    (0..count).map(|_| window.polygon(random, most)).collect()
+}
+
 /// A point of the plane, often at a vertex's or a crossing's position or on an edge.
 pub fn point_near_polygon(random: &mut Random, polygon: &Polygon) -> Point {
     let edges = edges(polygon);

@@ -1,0 +1,67 @@
+//! Lists the trapezoids of a polygon file.
+//!
+//! `cargo run --release --example list -- ../examples/plate.polygons`
+//!
+//! Fractures the polygons, deoverlaps what they give, each into 512 records, and prints `pieces` and
+//! their number, then a line of 24 words for each trapezoid; or one line, `refused` with the
+//! refusal's number, `place` with its place. Without a path it reads standard input.
+
+use loxurfa::{deoverlap, fracture, Refusal, MAX_TRAPEZOIDS, TRAPEZOID_WORDS};
+use std::io::{self, Read, Write};
+use std::process::ExitCode;
+use std::{env, fs};
+
+/// The words of the polygons' trapezoids, without overlaps.
+fn trapezoids(file: &[u8]) -> Result<Vec<i32>, Refusal> {
+    let room = || vec![0; MAX_TRAPEZOIDS * TRAPEZOID_WORDS];
+    let (mut layer, mut out, mut scratch) = (room(), room(), room());
+    let done = fracture(file, &mut layer, &mut scratch)?;
+    layer.truncate(done.words());
+    let done = deoverlap(&layer, &mut out, &mut scratch)?;
+    out.truncate(done.words());
+    Ok(out)
+}
+
+fn listing(words: &[i32]) -> String {
+    let mut text = format!("pieces {}\n", words.len() / TRAPEZOID_WORDS);
+    for trapezoid in words.chunks(TRAPEZOID_WORDS) {
+        let words: Vec<String> = trapezoid.iter().map(i32::to_string).collect();
+        text += &words.join(" ");
+        text += "\n";
+    }
+    text
+}
+
+fn input(path: Option<impl AsRef<std::path::Path>>) -> io::Result<Vec<u8>> {
+    match path {
+        Some(path) => fs::read(path),
+        None => {
+            let mut file = Vec::new();
+            io::stdin().read_to_end(&mut file)?;
+            Ok(file)
+        }
+    }
+}
+
+fn main() -> ExitCode {
+    let mut arguments = env::args_os().skip(1);
+    let path = arguments.next();
+    if arguments.next().is_some() {
+        eprintln!("usage: list [FILE]");
+        return ExitCode::from(2);
+    }
+    let listed = input(path).and_then(|file| {
+        let text = match trapezoids(&file) {
+            Ok(words) => listing(&words),
+            Err(refusal) => format!("{refusal}\n"),
+        };
+        io::stdout().write_all(text.as_bytes())
+    });
+    match listed {
+        Ok(()) => ExitCode::SUCCESS,
+        Err(error) => {
+            eprintln!("list: {error}");
+            ExitCode::from(2)
+        }
+    }
+}
