@@ -1,6 +1,7 @@
 -- The trapezoids of the fracture: their sides are edges of the polygon, their bases its events, and they are fit.
 use mathlib.Core.Path.{ap}
 use mathlib.Core.List.{List, [], _∷_, map}
+use mathlib.Core.Logic.{inl, inr}
 use Prim.Native.Nat.{ℕ, _≤_}
 use Rattle.records.specs.Lists.{All}
 use Rattle.records.proofs.Lists.{all-append, all-map, any-map}
@@ -22,7 +23,7 @@ use Rattle.sweep.proofs.Sweep.{sweep-all}
 use Rattle.files.specs.declared.Vertex.{Vertex}
 use Rattle.fracture.specs.Polygons.{VertexOnGrid, Polygon, PolygonOnGrid, Edge, lineOf, directionOf, edges, segment}
 use Rattle.fracture.specs.Fracture.{mark, events, trapezoid, trapezoids, fracture, fractureAll}
-use Rattle.fracture.specs.Statements.{FractureFit, IsSide, FractureSides, IsBase, FractureBases}
+use Rattle.fracture.specs.Statements.{FractureFit, IsSide, FractureSides, SidesOfOne, FractureAllSides, IsBase, FractureBases}
 use Rattle.fracture.proofs.Edges.{edges-ends}
 use Rattle.fracture.proofs.Marks.{mark-on-grid, mark-lines}
 use Rattle.fracture.proofs.Events.{events-all, crossings-all, complete}
@@ -63,6 +64,15 @@ fracture-sides L polygon = each-trapezoid L polygon (λ (t : Trapezoid). IsSide 
   where
     side : (e : Edge) → Member e (edges polygon) → IsSide polygon (e .line)
     side e m = any-map (λ d k. ap lineOf k) (edges polygon) m
+
+pub fracture-all-sides : FractureAllSides
+unfolding fractureAll
+fracture-all-sides L [] = tt
+fracture-all-sides L (polygon ∷ polygons) =
+    let Sides = SidesOfOne (polygon ∷ polygons) in
+    all-append Sides (fracture L polygon) (fractureAll L polygons)
+    (all-map {P = λ (t : Trapezoid). IsSide polygon (t .bottom) × IsSide polygon (t .top)} {Q = Sides} (λ t h. inl h) (fracture L polygon) (fracture-sides L polygon))
+    (all-map {P = SidesOfOne polygons} {Q = Sides} (λ t h. inr h) (fractureAll L polygons) (fracture-all-sides L polygons))
 
 pub fracture-bases : FractureBases
 fracture-bases L polygon = each-trapezoid L polygon (λ (t : Trapezoid). IsBase L polygon (t .left) × IsBase L polygon (t .right)) (λ p q s b. (b .cell .first, b .cell .last))

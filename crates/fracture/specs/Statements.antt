@@ -52,6 +52,13 @@ IsSide polygon l = Any (λ (e : Edge). l ≡ e .line) (edges polygon)
 abbrev pub FractureSides : Type 0
 FractureSides = (L : ℕ) (polygon : Polygon) → All (λ (t : Trapezoid). IsSide polygon (t .bottom) × IsSide polygon (t .top)) (fracture L polygon)
 
+-- the same of several polygons: both sides of a trapezoid are lines of edges of one of them
+abbrev pub SidesOfOne : List Polygon → Trapezoid → Type 0
+SidesOfOne polygons t = Any (λ (polygon : Polygon). IsSide polygon (t .bottom) × IsSide polygon (t .top)) polygons
+
+abbrev pub FractureAllSides : Type 0
+FractureAllSides = (L : ℕ) (polygons : List Polygon) → All (SidesOfOne polygons) (fractureAll L polygons)
+
 -- the bases are events of the polygon, word for word
 abbrev pub IsBase : ℕ → Polygon → Base → Type 0
 IsBase L polygon b = Any (λ (k : Base). b ≡ k) (events L polygon)

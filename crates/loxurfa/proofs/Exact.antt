@@ -4,7 +4,7 @@ use mathlib.Core.Bool.{Bool, true, false}
 use mathlib.Core.List.{List}
 use mathlib.Core.Logic.{_↔_}
 use lib.Dec.{T}
-use Rattle.records.specs.Lists.{Any}
+use Rattle.records.specs.Lists.{All, Any}
 use Rattle.geometry.specs.declared.Trapezoid.{Trapezoid}
 use Rattle.geometry.specs.declared.Checked.{Checked}
 use Rattle.geometry.specs.declared.Checked.the-variants.{Passed, Refused}
@@ -14,8 +14,9 @@ use Rattle.boolean.specs.Operations.{codeAt, result, says, liesInLayer}
 use Rattle.boolean.specs.Statements.{IsYes, SamePoints}
 use Rattle.files.specs.Formats.{fileWords}
 use Rattle.files.specs.Contents.{polygonsOf}
-use Rattle.fracture.specs.Statements.{Wound}
+use Rattle.fracture.specs.Statements.{Wound, SidesOfOne}
 use Rattle.fracture.proofs.Points.{fracture-exact}
+use Rattle.fracture.proofs.Fitness.{fracture-all-sides}
 use Rattle.boolean.proofs.Results.{result-exact}
 use Rattle.boolean.proofs.Deoverlapping.{deoverlapped-exact, deoverlapped-disjoint}
 use Rattle.boolean.proofs.Containing.{lies-exact}
@@ -32,8 +33,11 @@ use Rattle.loxurfa.proofs.Fracturing.{fracture-accepted}
 pub fracture-file-exact : FractureFileExact
 fracture-file-exact file out scratch h =
     let k = fracture-accepted file out scratch h in
-    let ps = polygonsOf (fileWords file) in
-    (k .fit, (λ P hP. subst (λ (ts : List Trapezoid). LiesInLayer P ts ↔ Any (Wound P) ps) (sym (k .is)) (fracture-exact coordinateLimit ps P hP)))
+    let ps = polygonsOf (fileWords file) in (
+      k .fit,
+      (λ P hP. subst (λ (ts : List Trapezoid). LiesInLayer P ts ↔ Any (Wound P) ps) (sym (k .is)) (fracture-exact coordinateLimit ps P hP)),
+      subst (λ (ts : List Trapezoid). All (SidesOfOne ps) ts) (sym (k .is)) (fracture-all-sides coordinateLimit ps),
+    )
 
 pub combine-exact : CombineExact
 combine-exact code a b out scratch h =

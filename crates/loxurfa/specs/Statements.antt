@@ -9,7 +9,7 @@ use lib.Dec.{T}
 use lib.ListN.{length}
 use lib.IntN.{ℤ}
 use Rattle.records.specs.Limits.{sized}
-use Rattle.records.specs.Lists.{Any}
+use Rattle.records.specs.Lists.{All, Any}
 use Rattle.geometry.specs.declared.Checked.the-variants.{Passed}
 use Rattle.geometry.specs.Limit.{coordinateLimit}
 use Rattle.geometry.specs.Points.{Point, IsPoint}
@@ -17,7 +17,7 @@ use Rattle.geometry.specs.Trapezoids.{layerOf, LiesInLayer, Disjoint}
 use Rattle.geometry.specs.Fitness.{firstRefusal}
 use Rattle.files.specs.Formats.{fileWords}
 use Rattle.files.specs.Contents.{polygonsOf}
-use Rattle.fracture.specs.Statements.{Wound}
+use Rattle.fracture.specs.Statements.{Wound, SidesOfOne}
 use Rattle.boolean.specs.Operations.{codeAt, says}
 use Rattle.boolean.specs.Statements.{IsYes, SamePoints}
 use Rattle.loxurfa.specs.Answers.{isDone, isRefused, isSame, isAnswered, isYes}
@@ -32,12 +32,14 @@ pub record FitLayer (a : List ℤ) : Type 0 where
 abbrev pub fracturedLayer : List ℕ → List ℤ → List ℤ → List ℤ
 fracturedLayer file out scratch = recordsOf (fractureOutcome file out scratch .answer) (fractureOutcome file out scratch .out)
 
--- they are fit, and a rational point lies in them exactly if the winding number of some polygon of the file is not zero there
+-- they are fit, a rational point lies in them exactly if the winding number of some polygon of the file is not zero there, and every side is a line of an
+-- edge of a polygon of the file
 abbrev pub FractureFileExact : Type 0
 FractureFileExact =
     (file : List ℕ) (out scratch : List ℤ) → T (isDone (fractureOutcome file out scratch .answer))
     → FitLayer (fracturedLayer file out scratch)
     × ((P : Point) → IsPoint P → LiesInLayer P (layerOf (fracturedLayer file out scratch)) ↔ Any (Wound P) (polygonsOf (fileWords file)))
+    × All (SidesOfOne (polygonsOf (fileWords file))) (layerOf (fracturedLayer file out scratch))
 
 -- the words that a success of `combine` wrote
 abbrev pub combinedLayer : ℕ → List ℤ → List ℤ → List ℤ → List ℤ → List ℤ
