@@ -1,0 +1,40 @@
+use mathlib.Core.Path.{sym}
+use lib.Seq.{length-take-le}
+use borrow.Author.Needs.{needs}
+use Rattle.fracture_cases.proofs.fracture.Statement.{statement}
+use Rattle.fracture_cases.proofs.fracture.Tie as tie
+
+slice-aggregate-fracture : tie.Need-slice-aggregate-fracture
+slice-aggregate-fracture c =
+    let s = c .before .before .before .args in
+    sym (length-take-le (s .bytes) (s .file .now) (c .before .if1 .taken))
+
+slice-aggregate-fracture-2 : tie.Need-slice-aggregate-fracture-2
+slice-aggregate-fracture-2 c = search needs
+
+slice-aggregate-fracture-3 : tie.Need-slice-aggregate-fracture-3
+slice-aggregate-fracture-3 c = search needs
+
+fracture-requires : tie.Need-fracture-requires
+fracture-requires c κs = search needs
+
+show-requires : tie.Need-show-requires
+show-requires c κs = search needs
+
+returns : tie.Need-returns
+returns c = search needs
+
+returns-2 : tie.Need-returns-2
+returns-2 c = search needs
+
+pub fracture-spec : {M : Type 1} → statement M
+fracture-spec =
+    tie.close
+    (tie.spec
+    slice-aggregate-fracture
+    slice-aggregate-fracture-2
+    slice-aggregate-fracture-3
+    fracture-requires
+    show-requires
+    returns
+    returns-2)
