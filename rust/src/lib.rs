@@ -9,6 +9,11 @@
 
 #![deny(unsafe_op_in_unsafe_fn)]
 
+/// The README's Rust example, which `cargo test` runs.
+#[cfg(doctest)]
+#[doc = include_str!("../../README.md")]
+pub struct Readme;
+
 mod components;
 mod files;
 mod fracture;

@@ -8,6 +8,7 @@ use reference::listing::{list, listing};
 use reference::{read_layer, WORDS};
 use std::fs;
 use std::path::PathBuf;
+use std::process::Command;
 use std::sync::atomic::{AtomicUsize, Ordering};
 use support::files::{damage_bytes, damage_file, file_bytes, file_words};
 use support::polygons::{any_polygons, polygon_words};
@@ -278,4 +279,38 @@ fn combine_in_trouble() {
         assert_eq!(written(output), (String::new(), Some(2)), "{arguments:?}");
         assert!(!out.exists(), "{arguments:?}");
     }
+}
+
+#[test]
+fn union_in_c() {
+    let words = words_in_readme("two.layers");
+    let layers = layers_in(&words);
+    let (first, second) = (read_layer(&layers[0]), read_layer(&layers[1]));
+    let union = reference::result(0, &first, &second);
+    let expected = listing(&reference::layer_words(&union));
+
+    let program = temporary();
+    let compiled = Command::new("cc")
+        .current_dir(root())
+        .args([
+            "-std=c99",
+            "-Wall",
+            "-Wextra",
+            "-pedantic",
+            "-Werror",
+            "-Iinclude",
+        ])
+        .args(["examples/union.c", "target/staticlib/libloxurfa_c.a", "-o"])
+        .arg(&program)
+        .status()
+        .expect("a C compiler");
+    assert!(compiled.success());
+    let file = file("examples/two.layers");
+    let run_on = |input: &[u8]| written(run::<&str>(&program, &[], input, 4096));
+    assert_eq!(run_on(&file), (expected, Some(0)));
+    assert_eq!(
+        run_on(&file[1..]),
+        ("refused 4 place 0\n".to_string(), Some(1))
+    );
+    fs::remove_file(&program).expect("removed");
 }
