@@ -73,7 +73,7 @@ apartBefore a [] = 0
 apartBefore a (b ∷ bs) = cond (overlaps a b) 0 (suc (apartBefore a bs))
 
 -- ---- the number of overlays
--- the most that are made for one trapezoid in hand, for a layer of them, and for an operation
+-- the most that are made for one trapezoid, for a layer of them, and for an operation
 abbrev pub overlaysOfOne : ℕ
 overlaysOfOne = maxRecords * maxRecords + 1
 

@@ -1,4 +1,4 @@
--- The set operations on layers, disjointing and sameness (paper 01: operations), and what is proved of them.
+-- The set operations on layers, deoverlapping (paper 01: disjointing) and equality (sameness), and what is proved of them.
 pub mod Operations
 pub mod Space
 pub mod Statements

@@ -23,7 +23,7 @@ overlaysOf (overlaid n) = 1
 overlaysOf (addition n) = 0
 
 -- ---- the marks of each operation; k is the number of trapezoids in the result so far
--- the remainder less b: new ones so far are counted in k, and the old ones not yet reached are in hand
+-- the remainder less b: new ones so far are counted in k, and the old ones not yet reached are still in the remainder (paper 01: in hand)
 unfoldable pub lessMarks : ℕ → List Trapezoid → Trapezoid → List Mark
 lessMarks k [] b = []
 lessMarks k (r ∷ rs) b = overlaid (k + length (tagged 1 (overlay r b)) + length rs) ∷ lessMarks (k + length (tagged 1 (overlay r b))) rs b
@@ -32,7 +32,7 @@ unfoldable pub lessAllMarks : ℕ → List Trapezoid → List Trapezoid → List
 lessAllMarks k rs [] = []
 lessAllMarks k rs (b ∷ bs) = lessMarks k rs b ++ lessAllMarks k (less rs b) bs
 
--- one trapezoid in hand, and what remains of it added
+-- one trapezoid as the remainder, and what is left of it added
 abbrev pub oneMarks : ℕ → Trapezoid → List Trapezoid → List Mark
 oneMarks k a B = lessAllMarks k (a ∷ []) B ++ (addition (k + length (lessAll (a ∷ []) B)) ∷ [])
 
@@ -40,7 +40,7 @@ unfoldable pub differenceMarks : ℕ → List Trapezoid → List Trapezoid → L
 differenceMarks k [] B = []
 differenceMarks k (a ∷ A) B = oneMarks k a B ++ differenceMarks (k + length (lessAll (a ∷ []) B)) A B
 
--- nothing is in hand
+-- there is no remainder
 unfoldable pub commonMarks : ℕ → Trapezoid → List Trapezoid → List Mark
 commonMarks k a [] = []
 commonMarks k a (b ∷ bs) = overlaid (k + length (tagged 3 (overlay a b))) ∷ commonMarks (k + length (tagged 3 (overlay a b))) a bs

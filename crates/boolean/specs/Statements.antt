@@ -42,7 +42,7 @@ LinesFrom us ts = All (λ (t : Trapezoid). All (LineOf us) (linesOf t)) ts
 abbrev pub ResultLines : Type 0
 ResultLines = (L : ℕ) (A B : List Trapezoid) → All (FitFor L) A → All (FitFor L) B → (c : Code) → LinesFrom (A ++ B) (result c A B)
 
--- disjointing keeps the points, and gives a disjoint layer that is fit
+-- deoverlapping keeps the points, and gives a disjoint layer that is fit
 abbrev pub DeoverlappedExact : Type 0
 DeoverlappedExact = (L : ℕ) (A : List Trapezoid) → All (FitFor L) A → (P : Point) → IsPoint P → LiesInLayer P (deoverlapped A) ↔ LiesInLayer P A
 

@@ -35,7 +35,7 @@ pub enum Compared {
     Differs { side: u32, overlays: usize },
 }
 
-// Each trapezoid in hand, in order, replaced by its parts that are not in b. Those not yet reached count against the room.
+// Each trapezoid of the remainder, in order, replaced by its parts that are not in b. Those not yet reached count against the room.
 pub fn less_into(remainder: &[i32], b: Placed, out: &mut [i32], room: usize) -> Folded
     requires { ⌜ All (FitFor coordinateLimit) (layerOf (now remainder)) × (count trapezoidCodec (now remainder) ≤ room + 1) ⌝ }
     requires { ⌜ PlacedAs (b .shape) b × Borrowed (now out) room ⌝ }
@@ -170,7 +170,7 @@ fn any_overlapping(layer: &[i32], b: Placed) -> bool
     false
 }
 
-// The n trapezoids that `out` holds are in hand: each replaced by its parts that are not in b. They stand if none overlaps b.
+// The n trapezoids that `out` holds are the remainder: each replaced by its parts that are not in b. They stand if none overlaps b.
 fn lessen(b: Placed, n: usize, out: &mut [i32], scratch: &mut [i32], room: usize) -> Folded
     requires { ⌜ PlacedAs (b .shape) b × Remaining (now out) n room ⌝ }
     requires { ⌜ Blank (pos 0) (now scratch) × (length (now scratch) ≡ length (now out)) ⌝ }
@@ -255,7 +255,7 @@ fn more_overlays(n: usize, f: Folded) -> Folded
     }
 }
 
-// One trapezoid in hand, less one other.
+// One trapezoid less one other.
 fn first_into(a: Placed, b: Placed, out: &mut [i32], room: usize) -> Folded
     requires { ⌜ Pair a b × Borrowed (now out) room ⌝ }
     ensures { λ r. ⌜ FoldedAs (length (now (out .entry))) room (less (a .shape ∷ []) (b .shape)) (lessMarks 0 (a .shape ∷ []) (b .shape)) r (now (out .exit)) ⌝ }
@@ -302,7 +302,7 @@ fn first_overlapping(a: Placed, layer: &[i32]) -> usize
     i
 }
 
-// One trapezoid in hand, less the trapezoids of a layer from number j on, and what remains of it added.
+// One trapezoid less the trapezoids of a layer from number j on, and what remains of it added.
 fn one_from(
     a: Placed,
     j: usize,
@@ -334,7 +334,7 @@ fn one_from(
     more_overlays(made, g)
 }
 
-// One trapezoid in hand, less a layer, and what remains of it added. Trapezoids that do not overlap it leave
+// One trapezoid less a layer, and what remains of it added. Trapezoids that do not overlap it leave
 // it whole: with any room, those before the first that does are counted and passed over.
 fn one_into(a: Placed, layer: &[i32], out: &mut [i32], scratch: &mut [i32], room: usize) -> Folded
     requires { ⌜ PlacedAs (a .shape) a × Layer (now layer) × Borrowed (now out) room × (room ≤ maxRecords) ⌝ }
@@ -592,7 +592,7 @@ fn lessen_by_front(
     }
 }
 
-// One trapezoid in hand, less the k trapezoids that `out` holds from number j on, and what remains of it added past them.
+// One trapezoid less the k trapezoids that `out` holds from number j on, and what remains of it added past them.
 fn one_past(
     a: Placed,
     j: usize,
@@ -625,7 +625,7 @@ fn one_past(
     more_overlays(first, g)
 }
 
-// One trapezoid in hand, less the k trapezoids that `out` holds, and what remains of it added past them. With
+// One trapezoid less the k trapezoids that `out` holds, and what remains of it added past them. With
 // any room, those before the first that overlaps it are passed over, as in `one_into`.
 fn one_by_front(a: Placed, k: usize, out: &mut [i32], scratch: &mut [i32], room: usize) -> Folded
     requires { ⌜ PlacedAs (a .shape) a × Remaining (now out) k room × (room ≤ maxRecords) ⌝ }

@@ -314,16 +314,16 @@ fn combine_1() {
     let none = [0i32; 0];
     // done 512 overlays 0: B has nothing
     combine(0, &a, &none);
-    // refused 12 place 0: after the first overlay 512 are in the result and one is in hand
+    // refused 12 place 0: after the first overlay 512 are in the result and one remains
     combine(0, &a, &b);
-    // refused 12 place 0: after the last overlay 512 are in the result and one is in hand
+    // refused 12 place 0: after the last overlay 512 are in the result and one remains
     combine(0, &b, &a);
 }
 
 fn combine_2() {
     let mut a = [0i32; 12288];
     squares(&mut a, 0, 0);
-    // refused 12 place 0: square 0 is gone after one overlay, but square 1 is in hand after its first
+    // refused 12 place 0: square 0 is gone after one overlay, but square 1 remains after its first
     combine(0, &a, &a);
     // done 512 overlays 262144: 512 times 512
     combine(1, &a, &a);

@@ -10,7 +10,7 @@ use Rattle.geometry.specs.Points.{Point, IsPoint}
 use Rattle.geometry.specs.Trapezoids.{layerOf, LiesInLayer}
 use Rattle.boolean.specs.Operations.{liesInLayer}
 use Rattle.boolean.specs.Statements.{IsYes, SamePoints}
-use Rattle.chains.specs.Chains.{Layer, layerAt, run, Step, told, evaluate, Call, stepsOf, held, Contracts, entryAt, fed, tally, merged}
+use Rattle.chains.specs.Chains.{Layer, layerAt, run, Step, told, evaluate, Call, stepsOf, held, Contracts, entryAt, fed, evaluation, merged}
 use Rattle.chains.specs.Statements.{DisjointLayer, startingTrapezoids, Agree, NeverDiffers, Promised, Joined, EveryChain}
 use Rattle.loxurfa.specs.Statements.{FitLayer}
 use Rattle.chains.proofs.Steps.{run-disjoint, found-fit}
@@ -23,9 +23,9 @@ use Rattle.chains.proofs.Same.{same-exactly, never-differs}
 
 -- ---- points
 held-points : (start : List Layer) (calls : List Call) → Contracts start calls → (P : Point) → IsPoint P → (n : ℕ)
-    → IsYes (entryAt (tally (fed P start) start calls) n) (LiesInLayer P (layerOf (layerAt (held start calls) n)))
+    → IsYes (entryAt (evaluation (fed P start) start calls) n) (LiesInLayer P (layerOf (layerAt (held start calls) n)))
 held-points start calls h P hP n =
-    subst (λ (now : List Layer). IsYes (entryAt (tally (fed P start) start calls) n) (LiesInLayer P (layerOf (layerAt now n)))) (sym (held-runs start calls h)) (run-points P hP start (stepsOf calls) n)
+    subst (λ (now : List Layer). IsYes (entryAt (evaluation (fed P start) start calls) n) (LiesInLayer P (layerOf (layerAt now n)))) (sym (held-runs start calls h)) (run-points P hP start (stepsOf calls) n)
 
 -- layers whose set expressions agree have the same points
 agree-points : (start : List Layer) (one two : List Call) → Contracts start one → Contracts start two → (m n : ℕ) → Agree start one two m n
@@ -77,8 +77,8 @@ module _ (start : List Layer) (one two : List Call) (h : Contracts start one) (k
   held-both : held start both ≡ run start steps
   held-both = held-runs start both contracts ∙ ap (run start) (merged-steps start one two h)
 
-  tally-both : (ys : List Bool) → tally ys start both ≡ evaluate ys (told start steps)
-  tally-both ys = ap (λ (ss : List Step). evaluate ys (told start ss)) (merged-steps start one two h)
+  evaluation-both : (ys : List Bool) → evaluation ys start both ≡ evaluate ys (told start steps)
+  evaluation-both ys = ap (λ (ss : List Step). evaluate ys (told start ss)) (merged-steps start one two h)
 
   joined : All DisjointLayer start → Joined start one two
   joined disjoint =
@@ -88,8 +88,8 @@ module _ (start : List Layer) (one two : List Call) (h : Contracts start one) (k
         holds = rw (held-both, held-one, held-two) (merged-holds start (stepsOf one) (stepsOf two));
         first-layer = λ n l. rw (held-both, held-one) (first-layer start (stepsOf one) (stepsOf two) n (rw held-one at l));
         second-layer = λ n. rw (held-both, held-one, held-two) (second-layer start (stepsOf one) (stepsOf two) n);
-        first-entry = λ ys e n l. rw (tally-both ys) (first-entry start (stepsOf one) (stepsOf two) ys e n (rw held-one at l));
-        second-entry = λ ys e n. rw (tally-both ys, held-one) (second-entry start (stepsOf one) (stepsOf two) ys e n);
+        first-entry = λ ys e n l. rw (evaluation-both ys) (first-entry start (stepsOf one) (stepsOf two) ys e n (rw held-one at l));
+        second-entry = λ ys e n. rw (evaluation-both ys, held-one) (second-entry start (stepsOf one) (stepsOf two) ys e n);
         same = λ m n. same-exactly (layerAt (held start one) m) (layerAt (held start two) n);
         agreed = agreed start one two h k;
       }

@@ -70,7 +70,7 @@ module _ (start other : List Layer) where
         alone = ap (λ (layers : List Layer). run layers steps) (alone-stepped more s) ∙ k .alone;
       }
 
--- ---- the tally, alone and with entries put in after those fed
+-- ---- the evaluation, alone and with entries put in after those fed
 abbrev raisedTold : ℕ → ℕ → Told → Told
 raisedTold starting count t =
     record { code = t .code; first = raised starting count (t .first); second = raised starting count (t .second); success = t .success }

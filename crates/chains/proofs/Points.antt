@@ -1,4 +1,4 @@
--- The tally tells of each layer of a chain whether a point lies in it.
+-- The evaluation tells of each layer of a chain whether a point lies in it.
 use mathlib.Core.Path.{_≡_, refl, sym, subst, _∙_, ap}
 use mathlib.Core.Bool.{Bool, true, false}
 use mathlib.Core.List.{List, [], _∷_, _++_}
@@ -72,7 +72,7 @@ module _ (P : Point) (hP : IsPoint P) where
   pub run-points : (start : List Layer) (steps : List Step) (n : ℕ) → IsYes (entryAt (evaluate (fed P start) (told start steps)) n) (LiesInLayer P (layerOf (layerAt (run start steps) n)))
   run-points start steps n = tells-at P (evaluate (fed P start) (told start steps)) (run start steps) (tells-run (fed P start) start steps (tells-fed P start)) n
 
--- ---- the tally has an entry for each layer
+-- ---- the evaluation has an entry for each layer
 added-length : (b : Bool) (ys : List Bool) (layers : List Layer) (y : Bool) (A : Layer) → length ys ≡ length layers → length (added b ys y) ≡ length (added b layers A)
 added-length true ys layers y A e = length-append ys (y ∷ []) ∙ ap (λ (n : ℕ). n + 1) e ∙ sym (length-append layers (A ∷ []))
 added-length false ys layers y A e = e

@@ -1,5 +1,5 @@
--- Chains: calls of the set operations and what they add to a list of layers, the tally, two chains as one, and the sameness test. A layer is here the
--- list of its words, of any number and content.
+-- Chains: calls of the set operations and what they add to a list of layers, the evaluation of their set words (paper 01: tally), two chains as one, and
+-- the equality test (paper 01: sameness test). A layer is here the list of its words, of any number and content.
 use mathlib.Core.Path.{_≡_}
 use mathlib.Core.Bool.{Bool, true, false, _&&_, cond}
 use mathlib.Core.List.{List, [], _∷_, _++_, map}
@@ -23,7 +23,7 @@ abbrev pub layerAt : List Layer → ℕ → Layer
 layerAt layers n = getD layers n []
 
 -- "A step is one call of a set operation: a code, the numbers of its layers A and B, which may be equal, and an output and work area of its own."
--- Output and work area are the words that they hold before.
+-- Output and scratch area are the words that they hold before.
 pub record Step : Type 0 where
   pub code : ℕ
   pub first : ℕ
@@ -62,7 +62,7 @@ run layers [] = layers
 run layers (s ∷ steps) = run (stepped layers s) steps
 
 -- ---- calls that were made
--- a step, what its call answered, and the words that its output and work area held then
+-- a step, what its call answered, and the words that its output and scratch area held then
 pub record Call : Type 0 where
   pub step : Step
   pub answer : Combined
@@ -94,7 +94,7 @@ unfoldable pub Contracts : List Layer → List Call → Type 0
 Contracts layers [] = Unit {0}
 Contracts layers (c ∷ calls) = (T (called layers (c .step)) → Kept layers c) × Contracts (grown layers c) calls
 
--- ---- the tally
+-- ---- the evaluation of the set words (paper 01: tally)
 -- "each step's code and two numbers, and whether this paper makes the call a success"
 pub record Told : Type 0 where
   pub code : ℕ
@@ -102,7 +102,7 @@ pub record Told : Type 0 where
   pub second : ℕ
   pub success : Bool
 
--- what the tally is told of a step, and of a chain's steps
+-- what the evaluation is told of a step, and of a chain's steps
 abbrev pub toldOf : Step → Bool → Told
 toldOf s success = record { code = s .code; first = s .first; second = s .second; success = success }
 
@@ -127,9 +127,9 @@ evaluate entries (t ∷ ts) = evaluate (added (t .success) entries (said entries
 abbrev pub fed : Point → List Layer → List Bool
 fed P start = map (λ (A : Layer). liesInLayer P (layerOf A)) start
 
--- the tally of a chain, whatever it is fed
-abbrev pub tally : List Bool → List Layer → List Call → List Bool
-tally entries start calls = evaluate entries (told start (stepsOf calls))
+-- the evaluation of a chain, whatever it is fed
+abbrev pub evaluation : List Bool → List Layer → List Call → List Bool
+evaluation entries start calls = evaluate entries (told start (stepsOf calls))
 
 -- ---- two chains from the same layers
 -- "each layer number in them past the starting layers raised by the count of the first's results"
@@ -147,7 +147,7 @@ renumbered starting count c = record { step = renumberedStep starting count (c .
 abbrev pub merged : List Layer → List Call → List Call → List Call
 merged start one two = one ++ map (renumbered (length start) (length (results start one))) two
 
--- ---- the sameness test
+-- ---- the equality test
 -- "The sameness test has an output and work area of its own too." What they hold before and then, and what it answered
 pub record Test : Type 0 where
   pub out : List ℤ

@@ -12,7 +12,7 @@ use Rattle.geometry.specs.Trapezoids.{layerOf, LiesInLayer, Disjoint}
 use Rattle.boolean.specs.Statements.{IsYes, LinesFrom, SamePoints}
 use Rattle.loxurfa.specs.Answers.{equalityAnswer, isRefused, isSame}
 use Rattle.loxurfa.specs.Statements.{FitLayer}
-use Rattle.chains.specs.Chains.{Layer, layerAt, called, stepped, run, Call, stepsOf, Kept, held, results, Contracts, entryAt, fed, tally, raised, merged, Test, Tested}
+use Rattle.chains.specs.Chains.{Layer, layerAt, called, stepped, run, Call, stepsOf, Kept, held, results, Contracts, entryAt, fed, evaluation, raised, merged, Test, Tested}
 
 -- of a layer's words: no rational point lies in two of its trapezoids
 abbrev pub DisjointLayer : Layer → Type 0
@@ -29,11 +29,11 @@ Defined layers [] = Unit {0}
 Defined layers (c ∷ calls) = (T (called layers (c .step)) → Kept layers c) × Defined (stepped layers (c .step)) calls
 
 -- "The set expressions of two layers agree if the tally ends with equal entries for them whatever yes or no each starting layer is given." Of a layer
--- of one chain and a layer of another, each with its own tally
+-- of one chain and a layer of another, each with its own evaluation
 abbrev pub Agree : List Layer → List Call → List Call → ℕ → ℕ → Type 0
-Agree start one two m n = (entries : List Bool) → length entries ≡ length start → entryAt (tally entries start one) m ≡ entryAt (tally entries start two) n
+Agree start one two m n = (entries : List Bool) → length entries ≡ length start → entryAt (evaluation entries start one) m ≡ entryAt (evaluation entries start two) n
 
--- of any sameness test of two layers: where it is not refused it says same exactly if no rational point lies in one and not in the other
+-- of any equality test of two layers: where it is not refused it says same exactly if no rational point lies in one and not in the other
 abbrev pub SameExactly : Layer → Layer → Type 0
 SameExactly A B = (t : Test) → Tested A B t → T (not (isRefused (equalityAnswer (t .answer)))) → IsYes (isSame (equalityAnswer (t .answer))) (SamePoints (layerOf A) (layerOf B))
 
@@ -49,15 +49,15 @@ pub record Promised (start : List Layer) (calls : List Call) : Type 0 where
   -- "no step changes a layer already in the list"
   pub unchanged : held start calls ≡ start ++ results start calls
   -- a point lies in a held layer exactly if the set words say so
-  pub points : (P : Point) → IsPoint P → (n : ℕ) → IsYes (entryAt (tally (fed P start) start calls) n) (LiesInLayer P (layerOf (layerAt (held start calls) n)))
-  -- the tally has an entry for each held layer
-  pub entries : (entries : List Bool) → length entries ≡ length start → length (tally entries start calls) ≡ length (held start calls)
+  pub points : (P : Point) → IsPoint P → (n : ℕ) → IsYes (entryAt (evaluation (fed P start) start calls) n) (LiesInLayer P (layerOf (layerAt (held start calls) n)))
+  -- the evaluation has an entry for each held layer
+  pub entries : (entries : List Bool) → length entries ≡ length start → length (evaluation entries start calls) ≡ length (held start calls)
   pub disjoint : All DisjointLayer (held start calls)
-  -- every line in a held layer is a line of a starting piece, word for word
+  -- every line in a held layer is a line of a starting trapezoid, word for word
   pub lines : All (λ (A : Layer). LinesFrom (startingTrapezoids start) (layerOf A)) (held start calls)
   -- no result is unfit as input
   pub fit : All FitLayer (results start calls)
-  -- the sameness test between any two held layers
+  -- the equality test between any two held layers
   pub same : (m n : ℕ) → SameExactly (layerAt (held start calls) m) (layerAt (held start calls) n)
   pub agreed : (m n : ℕ) → Agree start calls calls m n → NeverDiffers (layerAt (held start calls) m) (layerAt (held start calls) n)
 
@@ -72,10 +72,10 @@ pub record Joined (start : List Layer) (one two : List Call) : Type 0 where
   pub first-layer : (n : ℕ) → n < length (held start one) → layerAt (held start (merged start one two)) n ≡ layerAt (held start one) n
   pub second-layer : (n : ℕ) → layerAt (held start (merged start one two)) (raised (length start) (length (results start one)) n) ≡ layerAt (held start two) n
   pub first-entry : (entries : List Bool) → length entries ≡ length start → (n : ℕ) → n < length (held start one)
-      → entryAt (tally entries start (merged start one two)) n ≡ entryAt (tally entries start one) n
+      → entryAt (evaluation entries start (merged start one two)) n ≡ entryAt (evaluation entries start one) n
   pub second-entry : (entries : List Bool) → length entries ≡ length start → (n : ℕ)
-      → entryAt (tally entries start (merged start one two)) (raised (length start) (length (results start one)) n) ≡ entryAt (tally entries start two) n
-  -- the sameness test between a layer of the first and a layer of the second
+      → entryAt (evaluation entries start (merged start one two)) (raised (length start) (length (results start one)) n) ≡ entryAt (evaluation entries start two) n
+  -- the equality test between a layer of the first and a layer of the second
   pub same : (m n : ℕ) → SameExactly (layerAt (held start one) m) (layerAt (held start two) n)
   pub agreed : (m n : ℕ) → Agree start one two m n → NeverDiffers (layerAt (held start one) m) (layerAt (held start two) n)
 

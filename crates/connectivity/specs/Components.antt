@@ -82,7 +82,7 @@ pub record Different (ns : List ℕ) (n : ℕ) : Type 0 where
 
 pub record ComponentsOf (ts : List Trapezoid) (ns : List ℕ) (n : ℕ) : Type 0 where
   pub one-each : length ns ≡ length ts
-  -- "Two trapezoids get one component number exactly if a chain of touching ones joins them"
+  -- demand 2: two trapezoids get one component number exactly if a chain of touching ones joins them
   pub exact : (i j : ℕ) → i < length ts → j < length ts → (numberAt ns i ≡ numberAt ns j) ↔ Chained (TouchAt ts) i j
   -- "Each gets the lowest piece number of its component"
   pub own : (i : ℕ) → i < length ts → Chained (TouchAt ts) i (numberAt ns i)

@@ -64,7 +64,7 @@ abbrev pub CrossingInside : Line → Line → Crossing → Type 0
 CrossingInside l m Parallel = crossInside (lineSegment l) (lineSegment m) ≡ false
 CrossingInside l m (At p) = (crossInside (lineSegment l) (lineSegment m) ≡ true) × PositionOf (baseOf l m) p
 
--- the lesser of the best so far and of the crossing, if it is one and is above g
+-- the lesser of the best so far and of the crossing, if it is one and is right of g
 pub record WithPair (best : Next) (g : Option Base) (l m : Line) (r : Next) : Type 0 where
   pub is : optionOf r ≡ cond (crossInside (lineSegment l) (lineSegment m)) (lesser (earlier position) (optionOf best) (candidate (earlier position) g (baseOf l m))) (optionOf best)
   pub placed : NextPlaced r

@@ -19,7 +19,7 @@ blank = zeros layerSize
 -- what is printed of an answer, with the words of the output
 abbrev pub printedAs : Answer → List ℤ → List ℕ
 printedAs (refused number place) out = refusalLine number place
-printedAs (done pieces cuts) out = listing pieces out
+printedAs (done pieces overlays) out = listing pieces out
 
 -- "disjoints ... into 512 records, and prints"
 unfoldable pub deoverlapListed : List ℤ → List ℕ
@@ -28,7 +28,7 @@ deoverlapListed a = printedAs (deoverlapOutcome a blank blank .answer) (deoverla
 -- what is printed once the polygons are cut
 abbrev pub listedAs : Answer → List ℤ → List ℕ
 listedAs (refused number place) out = refusalLine number place
-listedAs (done pieces cuts) out = deoverlapListed (take (memoryWidth * pieces) out)
+listedAs (done pieces overlays) out = deoverlapListed (take (memoryWidth * pieces) out)
 
 -- "The lister reads a sheet on standard input, cuts, disjoints, each into 512 records, and prints."
 unfoldable pub listed : List ℕ → List ℕ

@@ -16,13 +16,13 @@ use Rattle.loxurfa.specs.declared.Containment.the-variants as containmen
 -- "A refusal answers its number and place, a success its pieces and cuts."
 pub data Answer : Type 0 where
   refused : (number place : ℕ) → Answer
-  done : (pieces cuts : ℕ) → Answer
+  done : (pieces overlays : ℕ) → Answer
 
 -- "Answers same, or differs with side 0 (A−B) or 1."
 pub data EqualityAnswer : Type 0 where
   refused-equality : (number place : ℕ) → EqualityAnswer
-  same : (cuts : ℕ) → EqualityAnswer
-  differs : (side cuts : ℕ) → EqualityAnswer
+  same : (overlays : ℕ) → EqualityAnswer
+  differs : (side overlays : ℕ) → EqualityAnswer
 
 -- "yes if the point lies in the result"
 pub data PointAnswer : Type 0 where
@@ -56,17 +56,17 @@ pointAnswer containment.No = no
 -- ---- what an answer says
 abbrev pub isDone : Answer → Bool
 isDone (refused number place) = false
-isDone (done pieces cuts) = true
+isDone (done pieces overlays) = true
 
 abbrev pub isRefused : EqualityAnswer → Bool
 isRefused (refused-equality number place) = true
-isRefused (same cuts) = false
-isRefused (differs side cuts) = false
+isRefused (same overlays) = false
+isRefused (differs side overlays) = false
 
 abbrev pub isSame : EqualityAnswer → Bool
 isSame (refused-equality number place) = false
-isSame (same cuts) = true
-isSame (differs side cuts) = false
+isSame (same overlays) = true
+isSame (differs side overlays) = false
 
 abbrev pub isAnswered : PointAnswer → Bool
 isAnswered (refused-point number place) = false
@@ -79,15 +79,15 @@ isYes yes = true
 isYes no = false
 
 -- ---- the sizes of the numbers in an answer
--- places are numbers of polygons, or of trapezoids in two layers
+-- places are numbers of polygons, of pairs of offset and length, or of trapezoids in two layers
 abbrev pub Small : Answer → Type 0
 Small (refused number place) = (number ≤ 12) × (place < 1024)
-Small (done pieces cuts) = (pieces ≤ maxRecords) × (cuts < 4294967296)
+Small (done pieces overlays) = (pieces ≤ maxRecords) × (overlays < 4294967296)
 
 abbrev pub SmallEquality : EqualityAnswer → Type 0
 SmallEquality (refused-equality number place) = (number ≤ 12) × (place < 1024)
-SmallEquality (same cuts) = cuts < 4294967296
-SmallEquality (differs side cuts) = (side ≤ 1) × (cuts < 4294967296)
+SmallEquality (same overlays) = overlays < 4294967296
+SmallEquality (differs side overlays) = (side ≤ 1) × (overlays < 4294967296)
 
 abbrev pub SmallPoint : PointAnswer → Type 0
 SmallPoint (refused-point number place) = (number ≤ 12) × (place < 1024)

@@ -39,21 +39,21 @@ roomOf out = length out / memoryWidth
 -- the records that a success wrote: the first ones, as many as its answer counts pieces
 abbrev pub recordsOf : Answer → List ℤ → List ℤ
 recordsOf (refused number place) out = []
-recordsOf (done pieces cuts) out = take (memoryWidth * pieces) out
+recordsOf (done pieces overlays) out = take (memoryWidth * pieces) out
 
 -- ---- operations that write trapezoids
 -- "Pieces go to the output from its first free record on; the rest is zero, and so is the work area." "12 occurs if, and only if, after some cut or
 -- addition of the definition, the result so far plus the pieces in hand exceed the output; output and work area are then zero."
 abbrev pub written : ℕ → List Trapezoid → Space → Outcome Answer
-written n ts (enough cuts) = record { answer = done (length ts) cuts; out = image trapezoidCodec n ts; scratch = zeros n }
-written n ts (short cuts) = record { answer = refused 12 0; out = zeros n; scratch = zeros n }
+written n ts (enough overlays) = record { answer = done (length ts) overlays; out = image trapezoidCodec n ts; scratch = zeros n }
+written n ts (short overlays) = record { answer = refused 12 0; out = zeros n; scratch = zeros n }
 
 -- "1 to 11 change nothing."
 abbrev pub outcome : Checked → List ℤ → List ℤ → List Trapezoid → List Mark → Outcome Answer
 outcome (Refused number place) out scratch ts ms = record { answer = refused number place; out = out; scratch = scratch }
 outcome Passed out scratch ts ms = written (length out) ts (space (roomOf out) ms)
 
--- cutting the polygons of a polygon file: "Cutting reports 0 cuts."
+-- fracturing the polygons of a polygon file: "Cutting reports 0 cuts."
 abbrev pub fracturedOf : List ℕ → List Trapezoid
 fracturedOf file = fractureAll coordinateLimit (polygonsOf (fileWords file))
 
@@ -65,20 +65,20 @@ unfoldable pub combined : ℕ → List ℤ → List ℤ → List ℤ → List �
 combined code a b out scratch =
     outcome (combineChecked code a b (length out) (length scratch)) out scratch (result (codeAt code) (layerOf a) (layerOf b)) (marks (codeAt code) (layerOf a) (layerOf b))
 
--- disjointing
+-- deoverlapping (paper 01: disjointing)
 unfoldable pub deoverlapOutcome : List ℤ → List ℤ → List ℤ → Outcome Answer
 deoverlapOutcome a out scratch = outcome (deoverlapChecked a (length out) (length scratch)) out scratch (deoverlapped (layerOf a)) (deoverlappedMarks [] (layerOf a))
 
--- ---- sameness
+-- ---- equality (paper 01: sameness)
 -- "A−B, and B−A only if that was empty. Answers same, or differs with side 0 (A−B) or 1."
 abbrev pub compared : List Trapezoid → List Trapezoid → ℕ → EqualityAnswer
-compared [] [] cuts = same cuts
-compared [] (t ∷ ts) cuts = differs 1 cuts
-compared (t ∷ ts) us cuts = differs 0 cuts
+compared [] [] overlays = same overlays
+compared [] (t ∷ ts) overlays = differs 1 overlays
+compared (t ∷ ts) us overlays = differs 0 overlays
 
 abbrev pub comparedIn : List Trapezoid → List Trapezoid → Space → EqualityAnswer
-comparedIn ts us (enough cuts) = compared ts us cuts
-comparedIn ts us (short cuts) = refused-equality 12 0
+comparedIn ts us (enough overlays) = compared ts us overlays
+comparedIn ts us (short overlays) = refused-equality 12 0
 
 -- "Sameness leaves both zero."
 abbrev pub equalityOutcome : Checked → List ℤ → List ℤ → EqualityAnswer → Outcome EqualityAnswer
@@ -90,7 +90,7 @@ equalOutcome a b out scratch =
     equalityOutcome (equalChecked a b (length out) (length scratch)) out scratch
     (comparedIn (difference (layerOf a) (layerOf b)) (difference (layerOf b) (layerOf a)) (space (roomOf out) (equalityMarks (layerOf a) (layerOf b))))
 
--- ---- the point question
+-- ---- whether a point lies in the result (paper 01: point question)
 abbrev pub asked : Checked → Bool → PointAnswer
 asked (Refused number place) b = refused-point number place
 asked Passed true = yes

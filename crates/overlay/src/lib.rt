@@ -359,7 +359,7 @@ fn column_at(a: Placed, b: Placed, at: Position, c: Column) -> Column
     exchange(s, t, at, h, 1, 2)
 }
 
-// What a writer says of the tail that it was lent: no room, or how many trapezoids it wrote.
+// What a writer says of the tail that it borrowed: no room, or how many trapezoids it wrote.
 pub enum Fill {
     NoRoom,
     Written(usize),

@@ -1,0 +1,83 @@
+//! Puts the examples of docs/FORMATS.md to the library.
+
+mod reference;
+mod support;
+
+use loxurfa::{decode_layers, deoverlap, fracture};
+use loxurfa::{Refusal, MAX_TRAPEZOIDS, TRAPEZOID_WORDS};
+use reference::listing::{list, listing};
+use support::programs::file;
+
+/// The bytes of each dump: indented lines that begin with the number of their first byte in hex.
+fn dumps(text: &str) -> Vec<Vec<u8>> {
+    let mut dumps: Vec<Vec<u8>> = Vec::new();
+    for line in text.lines() {
+        let Some((start, rest)) = line.strip_prefix("    ").and_then(|l| l.split_once("  ")) else {
+            continue;
+        };
+        let Ok(start) = usize::from_str_radix(start, 16) else {
+            continue;
+        };
+        // Past the bytes, four blanks or more and what they say.
+        let bytes = rest.split("    ").next().unwrap_or(rest);
+        let bytes = bytes.split_whitespace().map(|b| u8::from_str_radix(b, 16));
+        if start == 0 {
+            dumps.push(Vec::new());
+        }
+        let dump = dumps.last_mut().expect("a dump begins at 0000");
+        assert_eq!(dump.len(), start, "{line}");
+        dump.extend(bytes.map(|byte| byte.expect("two hex digits")));
+    }
+    dumps
+}
+
+fn text() -> String {
+    String::from_utf8(file("docs/FORMATS.md")).expect("text")
+}
+
+/// The words of a polygon file's trapezoids, fractured and deoverlapped.
+fn trapezoids(file: &[u8]) -> Result<Vec<i32>, Refusal> {
+    let room = || vec![0; MAX_TRAPEZOIDS * TRAPEZOID_WORDS];
+    let (mut layer, mut out, mut scratch) = (room(), room(), room());
+    let done = fracture(file, &mut layer, &mut scratch)?;
+    let done = deoverlap(&layer[..done.words()], &mut out, &mut scratch)?;
+    out.truncate(done.words());
+    Ok(out)
+}
+
+#[test]
+fn polygon_file_and_listing() {
+    let text = text();
+    let [polygons, listed, _] = &dumps(&text)[..] else {
+        panic!("three dumps");
+    };
+    let words = trapezoids(polygons).expect("not refused");
+    assert_eq!(listing(&words).as_bytes(), listed);
+    assert_eq!(list(polygons).as_bytes(), listed);
+    let printed = String::from_utf8(listed.clone()).expect("ASCII");
+    let indented: String = printed.lines().map(|l| format!("    {l}\n")).collect();
+    assert!(text.contains(&indented));
+    let refused = Refusal {
+        number: 5,
+        place: 0,
+    };
+    assert_eq!(trapezoids(&[2, 0, 0, 0]), Err(refused));
+    assert_eq!(trapezoids(&[0; 4]), Ok(vec![]));
+}
+
+#[test]
+fn layer_file() {
+    let dumps = dumps(&text());
+    let [polygons, _, layers] = &dumps[..] else {
+        panic!("three dumps");
+    };
+    let first = trapezoids(polygons).expect("not refused");
+    assert_eq!(decode_layers(layers), Ok(vec![first, vec![]]));
+    let longer = [&layers[..], &[0; 4]].concat();
+    let refused = Refusal {
+        number: 6,
+        place: 2,
+    };
+    assert_eq!(decode_layers(&longer), Err(refused));
+    assert_eq!(decode_layers(&[0; 4]), Ok(vec![]));
+}
