@@ -9,3 +9,4 @@ pub mod Merged
 pub mod Contracts
 pub mod Same
 pub mod Chains
+mod Examples

@@ -6,3 +6,4 @@ pub mod Unique
 pub mod Next
 pub mod Scan
 pub mod Walk
+mod Examples

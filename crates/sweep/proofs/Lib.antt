@@ -5,3 +5,4 @@ pub mod Column
 pub mod Between
 pub mod Sweep
 pub mod Loop
+mod Examples

@@ -1,0 +1,107 @@
+-- The definitions compute: two chains from the layers of Q and of R, the squares of the table, and both as one chain.
+use mathlib.Core.Path.{_≡_, refl}
+use mathlib.Core.Bool.{Bool, true, false}
+use mathlib.Core.List.{List, [], _∷_, map}
+use Prim.Native.Nat.{ℕ}
+use lib.ListN.{length}
+use lib.IntN.{ℤ}
+use Rattle.integer.specs.Integer.{_⊕_, _⊖_, _⊗_, ⊝_}
+use Rattle.integer.specs.Compare.{orderOf}
+use Rattle.integer.specs.Fraction.{before}
+use Rattle.records.specs.Limits.{sized}
+use Rattle.records.specs.Records.{recordAt, recordsFrom, wordsOf}
+use Rattle.levels.specs.Levels.{insert, levels}
+use Rattle.geometry.specs.declared.Line.{Line}
+use Rattle.geometry.specs.declared.Trapezoid.{Trapezoid}
+use Rattle.geometry.specs.Limit.{onGrid}
+use Rattle.geometry.specs.Lines.{dx, dy, offset, det, numer}
+use Rattle.geometry.specs.Positions.{crosses, root, meet, heights, rightOf, below}
+use Rattle.geometry.specs.Trapezoids.{trapezoidOf, trapezoidWords}
+use Rattle.geometry.specs.Fitness.{lineOnGrid, isLine, belowBetween, shapeVerdict, verdict, firstRefusal}
+use Rattle.sweep.specs.Lists.{keep}
+use Rattle.sweep.specs.Segments.{spans}
+use Rattle.sweep.specs.Sweep.{columns, sweep}
+use Rattle.overlay.specs.Overlaps.{commonLeft, commonRight, crossesInCommon, overlapRight, overlapFrom, overlaps}
+use Rattle.overlay.specs.Overlay.{sides, crossings, events, fills, tagAbove, stack, parts, subdivision, overlay, tagged}
+use Rattle.boolean.specs.Operations.{less, lessAll, difference, common, intersection}
+use Rattle.boolean.specs.Space.{lessMarks, lessAllMarks, differenceMarks, commonMarks, intersectionMarks, space}
+use Rattle.loxurfa.specs.declared.Combined.{Combined}
+use Rattle.loxurfa.specs.declared.Combined.the-variants.{Refused, Done}
+use Rattle.loxurfa.specs.Rows.{combineChecked}
+use Rattle.loxurfa.specs.Outcomes.{combined}
+use Rattle.loxurfa.specs.Table.{line, baseAt, layer, q, r, lent, cleared}
+use Rattle.chains.specs.Chains.{Layer, Step, outcomeOf, called, run, Call, stepsOf, held, Contracts, Told, told, evaluate, merged}
+
+-- layers 0 and 1 are Q and R
+abbrev start : List Layer
+start = q ∷ r ∷ []
+
+abbrev cell : ℕ → ℕ → Line → Line → Trapezoid
+cell a c bottom top = record { left = baseAt a; right = baseAt c; bottom = bottom; top = top }
+
+-- Q−R: [0, 2) × [0, 4) and [2, 4) × [0, 2)
+abbrev q-r : Layer
+q-r = layer (cell 0 2 (line 0 0 4 0) (line 0 4 4 4) ∷ cell 2 4 (line 0 0 4 0) (line 2 2 6 2) ∷ [])
+
+-- Q∩R: [2, 4) × [2, 4)
+abbrev q∩r : Layer
+q∩r = layer (cell 2 4 (line 2 2 6 2) (line 0 4 4 4) ∷ [])
+
+-- code, layers A and B, and space for n trapezoids; then the answer, and the words left in the output and the scratch area
+abbrev call : ℕ → ℕ → ℕ → ℕ → Combined → List ℤ → List ℤ → Call
+call code a b n answer out scratch =
+    record { step = record { code = code; first = a; second = b; out = lent n; scratch = lent n }; answer = answer; out = out; scratch = scratch }
+
+-- there is no code 5
+abbrev no-code : Call
+no-code = call 5 0 1 2 (Refused 2 0) (lent 2) (lent 2)
+
+-- after that, Q−R is refused for space 1, and is layer 2 with space 2; there is no layer 3, so that the last is not called, whatever stands here
+abbrev one : List Call
+one = no-code ∷ call 2 0 1 1 (Refused 12 0) (cleared 1) (cleared 1) ∷ call 2 0 1 2 (Done 2 1) q-r (cleared 2) ∷ call 0 0 3 2 (Done 2 1) q-r (lent 2) ∷ []
+
+-- Q∩R is layer 2, and Q less layer 2 is layer 3
+abbrev two : List Call
+two = call 1 0 1 1 (Done 1 1) q∩r (cleared 1) ∷ call 2 0 2 2 (Done 2 1) q-r (cleared 2) ∷ []
+
+abbrev both : List Call
+both = merged start one two
+
+abbrev tell : ℕ → ℕ → ℕ → Bool → Told
+tell code a b success = record { code = code; first = a; second = b; success = success }
+
+-- what the evaluation is told of both: layer 2 of the second is layer 3 here
+abbrev tells : List Told
+tells = tell 5 0 1 false ∷ tell 2 0 1 false ∷ tell 2 0 1 true ∷ tell 0 0 3 false ∷ tell 1 0 1 true ∷ tell 2 0 3 true ∷ []
+
+-- the layers held, by what the calls answered and wrote, and by the definition
+abbrev Holds : List Call → List Layer → Type 0
+Holds calls results = (held start calls ≡ q ∷ r ∷ results) × (run start (stepsOf calls) ≡ q ∷ r ∷ results)
+
+-- the calls keep the contract of `combine`
+abbrev Made : Type 0
+Made = Contracts start one × Contracts start two
+
+chains : Made × Holds one (q-r ∷ []) × Holds two (q∩r ∷ q-r ∷ []) × Holds both (q-r ∷ q∩r ∷ q-r ∷ []) × (told start (stepsOf both) ≡ tells)
+unfolding _⊕_ _⊖_ _⊗_ ⊝_ orderOf before sized recordAt recordsFrom wordsOf insert levels
+    onGrid dx dy offset det numer crosses root meet heights rightOf below trapezoidOf trapezoidWords
+    lineOnGrid isLine belowBetween shapeVerdict verdict firstRefusal keep spans columns sweep
+    commonLeft commonRight crossesInCommon overlapRight overlapFrom overlaps sides crossings events fills tagAbove stack parts subdivision overlay tagged
+    less lessAll difference common intersection lessMarks lessAllMarks differenceMarks commonMarks intersectionMarks space
+    combineChecked combined outcomeOf called run held Contracts told
+chains = (((λ t. refl, (λ t. refl, (λ t. refl, (λ t. absurd t, tt)))), (λ t. refl, (λ t. refl, tt))), (refl, refl), (refl, refl), (refl, refl), refl)
+
+-- the first step alone: no success, and no layer more
+refused : (told start (no-code .step ∷ []) ≡ tell 5 0 1 false ∷ []) × (length (run start (no-code .step ∷ [])) ≡ 2)
+unfolding sized wordsOf trapezoidWords combineChecked combined outcomeOf called run told
+refused = (refl, refl)
+
+-- the second layer number of each step of both
+numbered : map (λ (s : Step). s .second) (stepsOf both) ≡ 1 ∷ 1 ∷ 1 ∷ 3 ∷ 1 ∷ 3 ∷ []
+unfolding called held
+numbered = refl
+
+-- the evaluation for a point in Q and not in R
+evaluated : evaluate (true ∷ false ∷ []) tells ≡ true ∷ false ∷ true ∷ false ∷ true ∷ []
+unfolding evaluate
+evaluated = refl
