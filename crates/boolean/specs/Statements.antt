@@ -62,3 +62,14 @@ SamePoints A B = (P : Point) → IsPoint P → LiesInLayer P A ↔ LiesInLayer P
 -- both differences are empty exactly if the layers have the same points
 abbrev pub EqualityExact : Type 0
 EqualityExact = (L : ℕ) (A B : List Trapezoid) → All (FitFor L) A → All (FitFor L) B → ((difference A B ≡ []) × (difference B A ≡ [])) ↔ SamePoints A B
+
+-- some rational point lies in A and not in B
+pub record Beyond (A B : List Trapezoid) : Type 0 where
+  pub point : Point
+  pub real : IsPoint point
+  pub inside : LiesInLayer point A
+  pub outside : LiesInLayer point B → ⊥
+
+-- a difference is not empty exactly if some rational point lies in the first layer and not in the second
+abbrev pub DifferenceSome : Type 0
+DifferenceSome = (L : ℕ) (A B : List Trapezoid) → All (FitFor L) A → All (FitFor L) B → (difference A B ≡ [] → ⊥) ↔ Beyond A B

@@ -6,12 +6,14 @@ use lib.Dec.{T}
 use lib.ListN.{length, drop}
 use Rattle.loxurfa.specs.Answers.{Answer, combinedAnswer, isDone}
 use Rattle.loxurfa.specs.Outcomes.{Outcome, recordsOf}
-use Rattle.chains.specs.Chains.{Layer, outcomeOf, called, added, resultOf, stepped, run, Call, stepsOf, Kept, grown, held, results, Contracts}
+use Rattle.chains.specs.Chains.{Layer, outcomeOf, called, added, resultOf, stepped, run, Call, stepsOf, Kept, KeptIfCalled, grown, held, results, Contracts}
 use Rattle.chains.specs.Statements.{Defined}
+use Rattle.chains.proofs.Success.{kept-called}
 use Rattle.chains.proofs.Steps.{run-kept}
 
-grown-stepped : (layers : List Layer) (c : Call) → (T (called layers (c .step)) → Kept layers c) → grown layers c ≡ stepped layers (c .step)
-grown-stepped layers c = go (called layers (c .step))
+pub grown-stepped : (layers : List Layer) (c : Call) → KeptIfCalled layers c → grown layers c ≡ stepped layers (c .step)
+unfolding outcomeOf
+grown-stepped layers c h = go (called layers (c .step)) (kept-called layers c h)
   where
     go : (b : Bool) → (T b → Kept layers c)
         → added (b && isDone (combinedAnswer (c .answer))) layers (recordsOf (combinedAnswer (c .answer)) (c .out)) ≡ added (b && isDone (outcomeOf layers (c .step) .answer)) layers (resultOf layers (c .step))

@@ -6,8 +6,9 @@ use Prim.Native.Nat.{ℕ}
 use lib.Dec.{T}
 use lib.ListN.{length, drop}
 use Rattle.loxurfa.specs.Answers.{combinedAnswer, isDone}
-use Rattle.chains.specs.Chains.{Layer, Step, called, added, Call, stepsOf, Kept, grown, held, results, Contracts, renumberedStep, renumbered, merged}
+use Rattle.chains.specs.Chains.{Layer, Step, outcomeOf, called, added, Call, stepsOf, KeptIfCalled, grown, held, results, Contracts, renumberedStep, renumbered, merged}
 use Rattle.loxurfa.specs.Outcomes.{recordsOf}
+use Rattle.chains.proofs.Success.{called-exact, kept-called}
 use Rattle.chains.proofs.Calls.{held-runs, held-kept}
 use Rattle.chains.proofs.Raised.{added-append}
 use Rattle.chains.proofs.Merged.{joined, renamed, renamed-called, renamed-outcome, mergedSteps}
@@ -35,9 +36,11 @@ module _ (start other : List Layer) where
   grown-alone : (more : List Layer) (c : Call) → grown (start ++ more) c ≡ start ++ after more c
   grown-alone more c = added-append (called (start ++ more) (c .step) && isDone (combinedAnswer (c .answer))) start more (recordsOf (combinedAnswer (c .answer)) (c .out))
 
-  renamed-kept : (more : List Layer) (c : Call) → (T (called (start ++ more) (c .step)) → Kept (start ++ more) c) → T (called (joined start other more) (renamed start other (c .step)))
-      → Kept (joined start other more) (renamedCall c)
-  renamed-kept more c f t = f (subst T (renamed-called start other more (c .step)) t) ∙ sym (renamed-outcome start other more (c .step))
+  renamed-kept : (more : List Layer) (c : Call) → KeptIfCalled (start ++ more) c → KeptIfCalled (joined start other more) (renamedCall c)
+  unfolding outcomeOf
+  renamed-kept more c f first second =
+      let t = called-exact (joined start other more) (renamed start other (c .step)) .1 (first, second) in
+      kept-called (start ++ more) c f (subst T (renamed-called start other more (c .step)) t) ∙ sym (renamed-outcome start other more (c .step))
 
   renamed-contracts : (more : List Layer) (calls : List Call) → Contracts (start ++ more) calls → Contracts (joined start other more) (map renamedCall calls)
   unfolding Contracts

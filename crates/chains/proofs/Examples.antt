@@ -2,7 +2,8 @@
 use mathlib.Core.Path.{_≡_, refl}
 use mathlib.Core.Bool.{Bool, true, false}
 use mathlib.Core.List.{List, [], _∷_, map}
-use Prim.Native.Nat.{ℕ}
+use Prim.Native.Nat.{ℕ, _<_}
+use native.Mathlib.Omega.{arith}
 use lib.ListN.{length}
 use lib.IntN.{ℤ}
 use Rattle.integer.specs.Integer.{_⊕_, _⊖_, _⊗_, ⊝_}
@@ -60,6 +61,17 @@ no-code = call 5 0 1 2 (Refused 2 0) (lent 2) (lent 2)
 abbrev one : List Call
 one = no-code ∷ call 2 0 1 1 (Refused 12 0) (cleared 1) (cleared 1) ∷ call 2 0 1 2 (Done 2 1) q-r (cleared 2) ∷ call 0 0 3 2 (Done 2 1) q-r (lent 2) ∷ []
 
+-- two equal numbers, "which may be equal": Q less itself is called, and adds a layer of no trapezoids
+abbrev itself : Call
+itself = call 2 0 0 1 (Done 0 1) (cleared 1) (cleared 1)
+
+-- the first number is not in the list, and the second is not: neither is called, whatever stands here
+abbrev no-first : Call
+no-first = call 0 2 0 2 (Done 2 1) q-r (lent 2)
+
+abbrev no-second : Call
+no-second = call 0 0 2 2 (Done 2 1) q-r (lent 2)
+
 -- Q∩R is layer 2, and Q less layer 2 is layer 3
 abbrev two : List Call
 two = call 1 0 1 1 (Done 1 1) q∩r (cleared 1) ∷ call 2 0 2 2 (Done 2 1) q-r (cleared 2) ∷ []
@@ -82,6 +94,10 @@ Holds calls results = (held start calls ≡ q ∷ r ∷ results) × (run start (
 abbrev Made : Type 0
 Made = Contracts start one × Contracts start two
 
+-- a number that is the length of a list is not in it
+absent : (n : ℕ) → n < n → ⊥
+absent n h = omega arith
+
 chains : Made × Holds one (q-r ∷ []) × Holds two (q∩r ∷ q-r ∷ []) × Holds both (q-r ∷ q∩r ∷ q-r ∷ []) × (told start (stepsOf both) ≡ tells)
 unfolding _⊕_ _⊖_ _⊗_ ⊝_ orderOf before sized recordAt recordsFrom wordsOf insert levels
     onGrid dx dy offset det numer crosses root meet heights rightOf below trapezoidOf trapezoidWords
@@ -89,7 +105,35 @@ unfolding _⊕_ _⊖_ _⊗_ ⊝_ orderOf before sized recordAt recordsFrom words
     commonLeft commonRight crossesInCommon overlapRight overlapFrom overlaps sides crossings events fills tagAbove stack parts subdivision overlay tagged
     less lessAll difference common intersection lessMarks lessAllMarks differenceMarks commonMarks intersectionMarks space
     combineChecked combined outcomeOf called run held Contracts told
-chains = (((λ t. refl, (λ t. refl, (λ t. refl, (λ t. absurd t, tt)))), (λ t. refl, (λ t. refl, tt))), (refl, refl), (refl, refl), (refl, refl), refl)
+chains = (
+  ((λ f g. refl, (λ f g. refl, (λ f g. refl, (λ f g. absurd (absent 3 g), tt)))), (λ f g. refl, (λ f g. refl, tt))),
+  (refl, refl),
+  (refl, refl),
+  (refl, refl),
+  refl,
+)
+
+-- a step with two equal numbers, and steps with an absent number
+numbers : Contracts start (itself ∷ []) × Contracts start (no-first ∷ []) × Contracts start (no-second ∷ [])
+    × Holds (itself ∷ []) ([] ∷ []) × Holds (no-first ∷ []) [] × Holds (no-second ∷ []) []
+    × (told start (stepsOf (itself ∷ no-first ∷ [])) ≡ tell 2 0 0 true ∷ tell 0 2 0 true ∷ [])
+    × (told start (stepsOf (no-first ∷ no-second ∷ [])) ≡ tell 0 2 0 false ∷ tell 0 0 2 false ∷ [])
+unfolding _⊕_ _⊖_ _⊗_ ⊝_ orderOf before sized recordAt recordsFrom wordsOf insert levels
+    onGrid dx dy offset det numer crosses root meet heights rightOf below trapezoidOf trapezoidWords
+    lineOnGrid isLine belowBetween shapeVerdict verdict firstRefusal keep spans columns sweep
+    commonLeft commonRight crossesInCommon overlapRight overlapFrom overlaps sides crossings events fills tagAbove stack parts subdivision overlay tagged
+    less lessAll difference common intersection lessMarks lessAllMarks differenceMarks commonMarks intersectionMarks space
+    combineChecked combined outcomeOf called run held Contracts told
+numbers = (
+  (λ f g. refl, tt),
+  (λ f g. absurd (absent 2 f), tt),
+  (λ f g. absurd (absent 2 g), tt),
+  (refl, refl),
+  (refl, refl),
+  (refl, refl),
+  refl,
+  refl,
+)
 
 -- the first step alone: no success, and no layer more
 refused : (told start (no-code .step ∷ []) ≡ tell 5 0 1 false ∷ []) × (length (run start (no-code .step ∷ [])) ≡ 2)

@@ -2,6 +2,7 @@ pub mod Lists
 pub mod Success
 pub mod Steps
 pub mod Calls
+pub mod Possible
 pub mod Points
 pub mod Lines
 pub mod Raised

@@ -28,7 +28,7 @@ tells-fed : (P : Point) (layers : List Layer) → Tells P (fed P layers) layers
 tells-fed P [] = tt
 tells-fed P (A ∷ layers) = (lies-exact P (layerOf A), tells-fed P layers)
 
-no-words : layerOf [] ≡ []
+pub no-words : layerOf [] ≡ []
 unfolding recordsFrom
 no-words = refl
 

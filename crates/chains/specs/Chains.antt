@@ -1,9 +1,9 @@
 -- Chains: calls of the set operations and what they add to a list of layers, the evaluation of their set words (paper 01: tally), two chains as one, and
 -- the equality test (paper 01: sameness test). A layer is here the list of its words, of any number and content.
-use mathlib.Core.Path.{_≡_}
 use mathlib.Core.Bool.{Bool, true, false, _&&_, cond}
 use mathlib.Core.List.{List, [], _∷_, _++_, map}
-use Prim.Native.Nat.{ℕ, _+_}
+use mathlib.Core.Logic.{_↔_}
+use Prim.Native.Nat.{ℕ, _+_, _<_}
 use lib.Dec.{T, ltb}
 use lib.ListN.{length, getD, drop}
 use lib.IntN.{ℤ}
@@ -12,8 +12,9 @@ use Rattle.geometry.specs.Trapezoids.{layerOf}
 use Rattle.boolean.specs.Operations.{codeAt, says, liesInLayer}
 use Rattle.loxurfa.specs.declared.Combined.{Combined}
 use Rattle.loxurfa.specs.declared.Equality.{Equality}
-use Rattle.loxurfa.specs.Answers.{Answer, combinedAnswer, isDone, equalityAnswer}
-use Rattle.loxurfa.specs.Outcomes.{Outcome, observed, recordsOf, combined, equalOutcome}
+use Rattle.loxurfa.specs.Answers.{Answer, combinedAnswer, isDone}
+use Rattle.loxurfa.specs.Outcomes.{Outcome, recordsOf, combined}
+use Rattle.loxurfa.specs.Contracts.{CombineKept, EqualKept}
 
 abbrev pub Layer : Type 0
 Layer = List ℤ
@@ -39,6 +40,10 @@ outcomeOf layers s = combined (s .code) (layerAt layers (s .first)) (layerAt lay
 -- "A step naming a number not in the list isn't called and adds nothing."
 unfoldable pub called : List Layer → Step → Bool
 called layers s = ltb (s .first) (length layers) && ltb (s .second) (length layers)
+
+-- the test says yes exactly if both numbers are in the list (proofs/Success.antt: `called-exact`)
+abbrev pub CalledExact : Type 0
+CalledExact = (layers : List Layer) (s : Step) → T (called layers s) ↔ ((s .first < length layers) × (s .second < length layers))
 
 abbrev pub succeeds : List Layer → Step → Bool
 succeeds layers s = called layers s && isDone (outcomeOf layers s .answer)
@@ -74,7 +79,12 @@ stepsOf calls = map (λ (c : Call). c .step) calls
 
 -- the contract of `combine`, of a call on these layers
 abbrev pub Kept : List Layer → Call → Type 0
-Kept layers c = observed (combinedAnswer (c .answer)) (c .out) (c .scratch) ≡ outcomeOf layers (c .step)
+Kept layers c =
+    CombineKept (c .step .code) (layerAt layers (c .step .first)) (layerAt layers (c .step .second)) (c .step .out) (c .step .scratch) (c .answer) (c .out) (c .scratch)
+
+-- where both its numbers are in the list, so that the call was made
+abbrev pub KeptIfCalled : List Layer → Call → Type 0
+KeptIfCalled layers c = c .step .first < length layers → c .step .second < length layers → Kept layers c
 
 -- what a call adds, by what it answered and wrote
 abbrev pub grown : List Layer → Call → List Layer
@@ -92,7 +102,7 @@ results start calls = drop (length start) (held start calls)
 -- each call that was made kept the contract, on the layers held then
 unfoldable pub Contracts : List Layer → List Call → Type 0
 Contracts layers [] = Unit {0}
-Contracts layers (c ∷ calls) = (T (called layers (c .step)) → Kept layers c) × Contracts (grown layers c) calls
+Contracts layers (c ∷ calls) = KeptIfCalled layers c × Contracts (grown layers c) calls
 
 -- ---- the evaluation of the set words (paper 01: tally)
 -- "each step's code and two numbers, and whether this paper makes the call a success"
@@ -158,4 +168,4 @@ pub record Test : Type 0 where
 
 -- the contract of `equal`, of a test of two layers
 abbrev pub Tested : Layer → Layer → Test → Type 0
-Tested A B t = observed (equalityAnswer (t .answer)) (t .out-then) (t .scratch-then) ≡ equalOutcome A B (t .out) (t .scratch)
+Tested A B t = EqualKept A B (t .out) (t .scratch) (t .answer) (t .out-then) (t .scratch-then)

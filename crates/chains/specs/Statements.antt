@@ -9,10 +9,10 @@ use Rattle.records.specs.Lists.{All}
 use Rattle.geometry.specs.declared.Trapezoid.{Trapezoid}
 use Rattle.geometry.specs.Points.{Point, IsPoint}
 use Rattle.geometry.specs.Trapezoids.{layerOf, LiesInLayer, Disjoint}
-use Rattle.boolean.specs.Statements.{IsYes, LinesFrom, SamePoints}
+use Rattle.boolean.specs.Statements.{IsYes, LinesFrom}
 use Rattle.loxurfa.specs.Answers.{equalityAnswer, isRefused, isSame}
-use Rattle.loxurfa.specs.Statements.{FitLayer}
-use Rattle.chains.specs.Chains.{Layer, layerAt, called, stepped, run, Call, stepsOf, Kept, held, results, Contracts, entryAt, fed, evaluation, raised, merged, Test, Tested}
+use Rattle.loxurfa.specs.Statements.{FitLayer, Compares}
+use Rattle.chains.specs.Chains.{Layer, layerAt, Step, stepped, run, Call, stepsOf, KeptIfCalled, held, results, Contracts, entryAt, fed, evaluation, raised, merged, Test, Tested}
 
 -- of a layer's words: no rational point lies in two of its trapezoids
 abbrev pub DisjointLayer : Layer → Type 0
@@ -26,16 +26,17 @@ startingTrapezoids (A ∷ start) = layerOf A ++ startingTrapezoids start
 -- each call that was made answered and wrote what paper 01 defines, on the layers that paper 01 defines
 unfoldable pub Defined : List Layer → List Call → Type 0
 Defined layers [] = Unit {0}
-Defined layers (c ∷ calls) = (T (called layers (c .step)) → Kept layers c) × Defined (stepped layers (c .step)) calls
+Defined layers (c ∷ calls) = KeptIfCalled layers c × Defined (stepped layers (c .step)) calls
 
 -- "The set expressions of two layers agree if the tally ends with equal entries for them whatever yes or no each starting layer is given." Of a layer
 -- of one chain and a layer of another, each with its own evaluation
 abbrev pub Agree : List Layer → List Call → List Call → ℕ → ℕ → Type 0
 Agree start one two m n = (entries : List Bool) → length entries ≡ length start → entryAt (evaluation entries start one) m ≡ entryAt (evaluation entries start two) n
 
--- of any equality test of two layers: where it is not refused it says same exactly if no rational point lies in one and not in the other
+-- of any equality test of two layers: where it is not refused it says same exactly if no rational point lies in one and not in the other, and a side exactly as
+-- `Compares` has it
 abbrev pub SameExactly : Layer → Layer → Type 0
-SameExactly A B = (t : Test) → Tested A B t → T (not (isRefused (equalityAnswer (t .answer)))) → IsYes (isSame (equalityAnswer (t .answer))) (SamePoints (layerOf A) (layerOf B))
+SameExactly A B = (t : Test) → Tested A B t → T (not (isRefused (equalityAnswer (t .answer)))) → Compares (equalityAnswer (t .answer)) (layerOf A) (layerOf B)
 
 -- where it is not refused it says same
 abbrev pub NeverDiffers : Layer → Layer → Type 0
@@ -84,3 +85,14 @@ abbrev pub EveryChain : Type 0
 EveryChain =
     (start : List Layer) → All DisjointLayer start
     → ((calls : List Call) → Contracts start calls → Promised start calls) × ((one two : List Call) → Contracts start one → Contracts start two → Joined start one two)
+
+-- ---- and there are such calls: for every start and every list of steps, calls that keep the contracts, which end in the layers that paper 01 defines
+pub record Possible (start : List Layer) (steps : List Step) : Type 0 where
+  pub calls : List Call
+  pub made : stepsOf calls ≡ steps
+  pub contracts : Contracts start calls
+  pub ends : held start calls ≡ run start steps
+
+-- (proofs/Possible.antt: `chains-possible`)
+abbrev pub ChainsPossible : Type 0
+ChainsPossible = (start : List Layer) (steps : List Step) → Possible start steps

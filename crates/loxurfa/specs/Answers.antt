@@ -1,6 +1,7 @@
 -- What the calls answer, in the paper's numbers.
 use mathlib.Core.Bool.{Bool, true, false}
 use Prim.Native.Nat.{ℕ, _<_, _≤_}
+use lib.Dec.{eqb}
 use Rattle.records.specs.Limits.{maxRecords}
 use Rattle.loxurfa.specs.declared.Fractured.{Fractured}
 use Rattle.loxurfa.specs.declared.Fractured.the-variants as fractured
@@ -67,6 +68,12 @@ abbrev pub isSame : EqualityAnswer → Bool
 isSame (refused-equality number place) = false
 isSame (same overlays) = true
 isSame (differs side overlays) = false
+
+-- it differs on this side
+abbrev pub isSide : ℕ → EqualityAnswer → Bool
+isSide n (refused-equality number place) = false
+isSide n (same overlays) = false
+isSide n (differs side overlays) = eqb side n
 
 abbrev pub isAnswered : PointAnswer → Bool
 isAnswered (refused-point number place) = false

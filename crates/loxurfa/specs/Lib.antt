@@ -2,5 +2,6 @@
 pub mod Answers
 pub mod Rows
 pub mod Outcomes
+pub mod Contracts
 pub mod Statements
 pub mod Table

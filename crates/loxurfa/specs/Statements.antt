@@ -10,6 +10,7 @@ use lib.ListN.{length}
 use lib.IntN.{ℤ}
 use Rattle.records.specs.Limits.{sized}
 use Rattle.records.specs.Lists.{All, Any}
+use Rattle.geometry.specs.declared.Trapezoid.{Trapezoid}
 use Rattle.geometry.specs.declared.Checked.the-variants.{Passed}
 use Rattle.geometry.specs.Limit.{coordinateLimit}
 use Rattle.geometry.specs.Points.{Point, IsPoint}
@@ -19,8 +20,8 @@ use Rattle.files.specs.Formats.{fileWords}
 use Rattle.files.specs.Contents.{polygonsOf}
 use Rattle.fracture.specs.Statements.{Wound, SidesOfOne}
 use Rattle.boolean.specs.Operations.{codeAt, says}
-use Rattle.boolean.specs.Statements.{IsYes, SamePoints}
-use Rattle.loxurfa.specs.Answers.{isDone, isRefused, isSame, isAnswered, isYes}
+use Rattle.boolean.specs.Statements.{IsYes, SamePoints, Beyond}
+use Rattle.loxurfa.specs.Answers.{EqualityAnswer, isDone, isRefused, isSame, isSide, isAnswered, isYes}
 use Rattle.loxurfa.specs.Outcomes.{recordsOf, fractureOutcome, combined, deoverlapOutcome, equalOutcome, containsAnswer}
 
 -- "fit as input if row 1 accepts its length and rows 7 to 11 find nothing in its pieces"
@@ -63,11 +64,19 @@ DeoverlapExact =
     (a out scratch : List ℤ) → T (isDone (deoverlapOutcome a out scratch .answer))
     → FitLayer (deoverlappedLayer a out scratch) × Disjoint (layerOf (deoverlappedLayer a out scratch)) × SamePoints (layerOf (deoverlappedLayer a out scratch)) (layerOf a)
 
--- `equal`, where it is not refused, says same exactly if no rational point lies in one and not in the other
+-- what an answer of the equality test says of two layers
+pub record Compares (answer : EqualityAnswer) (A B : List Trapezoid) : Type 0 where
+  -- same exactly if no rational point lies in one and not in the other
+  pub same : IsYes (isSame answer) (SamePoints A B)
+  -- "differs with side 0 (A−B)" exactly if some rational point lies in A and not in B
+  pub side-0 : IsYes (isSide 0 answer) (Beyond A B)
+  -- "or 1" exactly if none does, and some lies in B and not in A
+  pub side-1 : IsYes (isSide 1 answer) ((Beyond A B → ⊥) × Beyond B A)
+
+-- `equal`, where it is not refused, says that of the layers that it is lent, in this order
 abbrev pub EqualExact : Type 0
 EqualExact =
-    (a b out scratch : List ℤ) → T (not (isRefused (equalOutcome a b out scratch .answer)))
-    → IsYes (isSame (equalOutcome a b out scratch .answer)) (SamePoints (layerOf a) (layerOf b))
+    (a b out scratch : List ℤ) → T (not (isRefused (equalOutcome a b out scratch .answer))) → Compares (equalOutcome a b out scratch .answer) (layerOf a) (layerOf b)
 
 -- `contains`, where it is not refused, says yes exactly if the set words say that the point lies in the result
 abbrev pub ContainsExact : Type 0

@@ -16,11 +16,12 @@ ghost use lib.ListN.{length};
 ghost use lib.Signed.{leZ};
 ghost use Rattle.records.specs.Limits.{sized};
 ghost use Rattle.geometry.specs.Code.{pointOf};
-ghost use Rattle.connectivity.specs.Outcome.{connectedAnswer, Small as SmallConnected, observed as observedNumbers, componentsOutcome};
-ghost use Rattle.files.specs.Outcomes.{readAnswer, writtenAnswer, Small as SmallFile, observed as observedFile, readLayers, writeLayers};
+ghost use Rattle.connectivity.specs.Outcome.{connectedAnswer, Small as SmallConnected};
+ghost use Rattle.files.specs.Outcomes.{readAnswer, writtenAnswer, Small as SmallFile};
 ghost use Rattle.loxurfa.specs.Answers.{fracturedAnswer, combinedAnswer, deoverlappedAnswer, equalityAnswer, pointAnswer, Small, SmallEquality, SmallPoint};
-ghost use Rattle.loxurfa.specs.Outcomes.{zeros, observed, fractureOutcome, combined, deoverlapOutcome, equalOutcome, containsAnswer};
-ghost use Rattle.loxurfa.specs.Rows.{buffersSized, withinTimes, pointAt, pointPasses, layersChecked, fractureChecked, combineChecked, deoverlapChecked, equalChecked, containsChecked};
+ghost use Rattle.loxurfa.specs.Outcomes.{zeros, containsAnswer};
+ghost use Rattle.loxurfa.specs.Contracts.{FractureKept, CombineKept, DeoverlapKept, EqualKept, ContainsKept, ReadKept, WriteKept, ComponentsKept};
+ghost use Rattle.loxurfa.specs.Rows.{buffersSized, withinTimes, pointPasses, layersChecked, fractureChecked, combineChecked, deoverlapChecked, equalChecked, containsChecked};
 
 // What `fracture` answers: the refusal's number and place, or the trapezoids written and the overlays made, which are none.
 pub enum Fractured {
@@ -268,7 +269,7 @@ fn contains_at(x: Int, y: Int, d: Int, a: &[i32], b: &[i32], code: u32) -> Conta
 
 // Whether the point (x/d, y/d) lies in the result of the set operation with this code on a and b.
 pub fn contains(x: i32, y: i32, d: i32, a: &[i32], b: &[i32], code: u32) -> Containment
-    ensures { λ r. ⌜ pointAnswer r ≡ containsAnswer (pointAt x y d) (now (a .entry)) (now (b .entry)) code ⌝ }
+    ensures { λ r. ⌜ ContainsKept x y d (now (a .entry)) (now (b .entry)) code r ⌝ }
     ensures small { λ r. ⌜ SmallPoint (pointAnswer r) ⌝ }
 {
     let p = integer::widen(x);
@@ -279,7 +280,7 @@ pub fn contains(x: i32, y: i32, d: i32, a: &[i32], b: &[i32], code: u32) -> Cont
 
 // The set operation with this code on a and b, written to `out`. `scratch` is as long as `out`.
 pub fn combine(code: u32, a: &[i32], b: &[i32], out: &mut [i32], scratch: &mut [i32]) -> Combined
-    ensures { λ r. ⌜ observed (combinedAnswer r) (now (out .exit)) (now (scratch .exit)) ≡ combined code (now (a .entry)) (now (b .entry)) (now (out .entry)) (now (scratch .entry)) ⌝ }
+    ensures { λ r. ⌜ CombineKept code (now (a .entry)) (now (b .entry)) (now (out .entry)) (now (scratch .entry)) r (now (out .exit)) (now (scratch .exit)) ⌝ }
     ensures small { λ r. ⌜ Small (combinedAnswer r) ⌝ }
 {
     let checked = combine_checked(code, a, b, out.len(), scratch.len());
@@ -313,7 +314,7 @@ pub fn combine(code: u32, a: &[i32], b: &[i32], out: &mut [i32], scratch: &mut [
 
 // The trapezoids of the polygons of a polygon file, written to `out`. `scratch` is as long as `out`.
 pub fn fracture(file: &[u8], out: &mut [i32], scratch: &mut [i32]) -> Fractured
-    ensures { λ r. ⌜ observed (fracturedAnswer r) (now (out .exit)) (now (scratch .exit)) ≡ fractureOutcome (now (file .entry)) (now (out .entry)) (now (scratch .entry)) ⌝ }
+    ensures { λ r. ⌜ FractureKept (now (file .entry)) (now (out .entry)) (now (scratch .entry)) r (now (out .exit)) (now (scratch .exit)) ⌝ }
     ensures small { λ r. ⌜ Small (fracturedAnswer r) ⌝ }
 {
     let checked = fracture_checked(file, out.len(), scratch.len());
@@ -344,7 +345,7 @@ pub fn fracture(file: &[u8], out: &mut [i32], scratch: &mut [i32]) -> Fractured
 
 // The trapezoids of a without overlaps, written to `out`. `scratch` is as long as `out`.
 pub fn deoverlap(a: &[i32], out: &mut [i32], scratch: &mut [i32]) -> Deoverlapped
-    ensures { λ r. ⌜ observed (deoverlappedAnswer r) (now (out .exit)) (now (scratch .exit)) ≡ deoverlapOutcome (now (a .entry)) (now (out .entry)) (now (scratch .entry)) ⌝ }
+    ensures { λ r. ⌜ DeoverlapKept (now (a .entry)) (now (out .entry)) (now (scratch .entry)) r (now (out .exit)) (now (scratch .exit)) ⌝ }
     ensures small { λ r. ⌜ Small (deoverlappedAnswer r) ⌝ }
 {
     let checked = deoverlap_checked(a, out.len(), scratch.len());
@@ -378,7 +379,7 @@ pub fn deoverlap(a: &[i32], out: &mut [i32], scratch: &mut [i32]) -> Deoverlappe
 
 // Whether the same points lie in a and b. `out` and `scratch`, which is as long, are left blank.
 pub fn equal(a: &[i32], b: &[i32], out: &mut [i32], scratch: &mut [i32]) -> Equality
-    ensures { λ r. ⌜ observed (equalityAnswer r) (now (out .exit)) (now (scratch .exit)) ≡ equalOutcome (now (a .entry)) (now (b .entry)) (now (out .entry)) (now (scratch .entry)) ⌝ }
+    ensures { λ r. ⌜ EqualKept (now (a .entry)) (now (b .entry)) (now (out .entry)) (now (scratch .entry)) r (now (out .exit)) (now (scratch .exit)) ⌝ }
     ensures small { λ r. ⌜ SmallEquality (equalityAnswer r) ⌝ }
 {
     let checked = equal_checked(a, b, out.len(), scratch.len());
@@ -409,7 +410,7 @@ pub fn equal(a: &[i32], b: &[i32], out: &mut [i32], scratch: &mut [i32]) -> Equa
 
 // The words of a layer file, written to `out`, which has any length.
 pub fn read_layers(file: &[u8], out: &mut [i32]) -> LayersRead
-    ensures { λ r. ⌜ observedFile (readAnswer r) (now (out .exit)) ≡ readLayers (now (file .entry)) (now (out .entry)) ⌝ }
+    ensures { λ r. ⌜ ReadKept (now (file .entry)) (now (out .entry)) r (now (out .exit)) ⌝ }
     ensures small { λ r. ⌜ SmallFile (readAnswer r) ⌝ }
 {
     files::read_layers(file, out)
@@ -417,7 +418,7 @@ pub fn read_layers(file: &[u8], out: &mut [i32]) -> LayersRead
 
 // The layer file with these words, written to `out`, which has any length.
 pub fn write_layers(words: &[i32], out: &mut [u8]) -> LayersWritten
-    ensures { λ r. ⌜ observedFile (writtenAnswer r) (now (out .exit)) ≡ writeLayers (now (words .entry)) (now (out .entry)) ⌝ }
+    ensures { λ r. ⌜ WriteKept (now (words .entry)) (now (out .entry)) r (now (out .exit)) ⌝ }
     ensures small { λ r. ⌜ SmallFile (writtenAnswer r) ⌝ }
 {
     files::write_layers(words, out)
@@ -425,7 +426,7 @@ pub fn write_layers(words: &[i32], out: &mut [u8]) -> LayersWritten
 
 // Each trapezoid's component number, the lowest of its component, written to `numbers`, which has an entry for each trapezoid.
 pub fn components(a: &[i32], numbers: &mut [u32]) -> Connected
-    ensures { λ r. ⌜ observedNumbers (connectedAnswer r) (now (numbers .exit)) ≡ componentsOutcome (now (a .entry)) (now (numbers .entry)) ⌝ }
+    ensures { λ r. ⌜ ComponentsKept (now (a .entry)) (now (numbers .entry)) r (now (numbers .exit)) ⌝ }
     ensures small { λ r. ⌜ SmallConnected (connectedAnswer r) ⌝ }
 {
     connectivity::components(a, numbers)
