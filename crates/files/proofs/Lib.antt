@@ -9,3 +9,4 @@ pub mod Answering
 pub mod Calls
 pub mod RoundTrip
 pub mod Pairs
+pub mod Words

@@ -43,13 +43,13 @@ module _ (bs : List ℕ) (out : List ℤ) (e : layerFileChecked bs ≡ Passed) (
   unfolding readLayers
   read-is = done-is (pos 0) (length (unitsOf fileCodec (fileWords bs))) (fileWords bs) out e h
 
-  read-words : wordsRead bs out ≡ fileWords bs
+  pub read-words : wordsRead bs out ≡ fileWords bs
   read-words =
       ap (λ (o : Outcome ℤ). take (length bs / 4) (o .out)) (sym read-is)
       ∙ take-at (fileWords bs) (replicate (length out - length (fileWords bs)) (pos 0)) (length bs / 4) (length-file bs)
 
 module _ (ws : List ℤ) (out : List ℕ) (e : layerWordsChecked ws ≡ Passed) (h : length (wordsOf wordCodec ws) ≤ length out) where
-  write-is : observed (done (length (unitsOf trapezoidCodec ws))) (wordsOf wordCodec ws ++ replicate (length out - length (wordsOf wordCodec ws)) 0) ≡ writeLayers ws out
+  pub write-is : observed (done (length (unitsOf trapezoidCodec ws))) (wordsOf wordCodec ws ++ replicate (length out - length (wordsOf wordCodec ws)) 0) ≡ writeLayers ws out
   unfolding writeLayers
   write-is = done-is 0 (length (unitsOf trapezoidCodec ws)) (wordsOf wordCodec ws) out e h
 
@@ -58,11 +58,11 @@ module _ (ws : List ℤ) (out : List ℕ) (e : layerWordsChecked ws ≡ Passed) 
       ap (λ (o : Outcome ℕ). take (4 * length ws) (o .out)) (sym write-is)
       ∙ take-at (wordsOf wordCodec ws) (replicate (length out - length (wordsOf wordCodec ws)) 0) (4 * length ws) (length-bytes ws)
 
-read-passed : (bs : List ℕ) (out : List ℤ) → T (isDone (readLayers bs out .answer)) → (layerFileChecked bs ≡ Passed) × (length (fileWords bs) ≤ length out)
+pub read-passed : (bs : List ℕ) (out : List ℤ) → T (isDone (readLayers bs out .answer)) → (layerFileChecked bs ≡ Passed) × (length (fileWords bs) ≤ length out)
 unfolding readLayers
 read-passed bs out h = outcome-done (layerFileChecked bs) (pos 0) (length (unitsOf fileCodec (fileWords bs))) (fileWords bs) out h
 
-write-passed : (ws : List ℤ) (out : List ℕ) → T (isDone (writeLayers ws out .answer)) → (layerWordsChecked ws ≡ Passed) × (length (wordsOf wordCodec ws) ≤ length out)
+pub write-passed : (ws : List ℤ) (out : List ℕ) → T (isDone (writeLayers ws out .answer)) → (layerWordsChecked ws ≡ Passed) × (length (wordsOf wordCodec ws) ≤ length out)
 unfolding writeLayers
 write-passed ws out h = outcome-done (layerWordsChecked ws) 0 (length (unitsOf trapezoidCodec ws)) (wordsOf wordCodec ws) out h
 

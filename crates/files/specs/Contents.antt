@@ -1,10 +1,10 @@
 -- What the words of a file hold: lists of units, one list for each pair.
-use mathlib.Core.List.{List, [], _∷_, _++_}
+use mathlib.Core.List.{List, [], _∷_, _++_, map}
 use Prim.Native.Nat.{ℕ, zero, suc, _+_, _*_, _≤_}
 use lib.IntN.{ℤ, pos}
 use lib.ListN.{length, take, drop, getD}
-use Rattle.records.specs.Limits.{fileWidth}
-use Rattle.records.specs.Records.{Codec, recordsFrom, records}
+use Rattle.records.specs.Limits.{memoryWidth, fileWidth}
+use Rattle.records.specs.Records.{Codec, recordsFrom, records, wordsOf}
 use Rattle.geometry.specs.declared.Trapezoid.{Trapezoid}
 use Rattle.geometry.specs.Trapezoids.{trapezoidWords, trapezoidOf, trapezoidCodec}
 use Rattle.files.specs.declared.Format.{Format}
@@ -95,3 +95,17 @@ fileLayersOf ws = listsOf fileCodec ws
 
 abbrev pub layersOf : List ℤ → List (List Trapezoid)
 layersOf ws = listsOf trapezoidCodec ws
+
+-- ---- the words of a list of layers
+-- the pairs of lists of these lengths, with so many units before them: "each next offset is the previous offset plus length"
+unfoldable pub pairsOf : ℕ → List ℕ → List ℤ
+pairsOf before [] = []
+pairsOf before (n ∷ ns) = pos before ∷ pos n ∷ pairsOf (before + n) ns
+
+-- "the book's words (count, pairs, pieces)"
+unfoldable pub layerFileWords : List (List Trapezoid) → List ℤ
+layerFileWords layers = pos (length layers) ∷ (pairsOf 0 (map length layers) ++ wordsOf trapezoidCodec (joined layers))
+
+-- the words of layer number i of a layer file's words, as a caller passes them on
+unfoldable pub layerWordsAt : List ℤ → ℕ → List ℤ
+layerWordsAt ws i = take (memoryWidth * lengthAt ws i) (drop (memoryWidth * offsetAt ws i) (bodyOf ws))

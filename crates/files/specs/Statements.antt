@@ -1,19 +1,26 @@
 -- Demand 2 of files: what the pairs stand for, and a layer file written and read back, and read and written back, for words and bytes of any
--- number and content. Each statement is proved under its name in lower case, in proofs/Pairs.antt and proofs/RoundTrip.antt.
+-- number and content; the words of layers, and when a writer takes them. Each statement is proved under its name in lower case, in proofs/Pairs.antt,
+-- proofs/RoundTrip.antt and proofs/Words.antt.
 use mathlib.Core.Path.{_≡_}
-use mathlib.Core.List.{List}
-use Prim.Native.Nat.{ℕ, _*_, _/_, _<_, _≤_}
+use mathlib.Core.List.{List, []}
+use mathlib.Core.Logic.{_↔_}
+use Prim.Native.Nat.{ℕ, _+_, _*_, _/_, _<_, _≤_}
 use lib.Dec.{T}
 use lib.IntN.{ℤ}
-use lib.ListN.{length, take}
+use lib.ListN.{length, take, getD}
+use Rattle.records.specs.Limits.{memoryWidth}
 use Rattle.records.specs.Lists.{All}
 use Rattle.records.specs.Records.{Codec}
 use Rattle.records.specs.Words.{Byte, Word}
+use Rattle.geometry.specs.declared.Trapezoid.{Trapezoid}
 use Rattle.geometry.specs.declared.Checked.the-variants.{Passed}
+use Rattle.geometry.specs.Limit.{coordinateLimit}
+use Rattle.geometry.specs.Trapezoids.{layerOf}
+use Rattle.geometry.specs.Fitness.{FitFor}
 use Rattle.files.specs.declared.Format.{Format}
-use Rattle.files.specs.Formats.{fileWords, polygonFile}
+use Rattle.files.specs.Formats.{fileWords, polygonFile, layerWords}
 use Rattle.files.specs.Directory.{HasPairs}
-use Rattle.files.specs.Contents.{countIn, unitsOf, listsOf, joined, listsFrom, PairAt, layersOf, fileLayersOf}
+use Rattle.files.specs.Contents.{countIn, unitsOf, listsOf, joined, listsFrom, PairAt, layersOf, fileLayersOf, layerFileWords, layerWordsAt}
 use Rattle.files.specs.Rows.{polygonFileChecked}
 use Rattle.files.specs.Outcomes.{isDone, readLayers, writeLayers}
 
@@ -57,3 +64,31 @@ ReadWrites =
     → (writeLayers (wordsRead bytes out) into .answer ≡ readLayers bytes out .answer)
     × (bytesWritten (wordsRead bytes out) into ≡ bytes)
     × (layersOf (wordsRead bytes out) ≡ fileLayersOf (fileWords bytes))
+
+-- ---- the words of layers
+-- they hold these layers
+abbrev pub LayersBack : Type 0
+LayersBack = (layers : List (List Trapezoid)) → layersOf (layerFileWords layers) ≡ layers
+
+-- layers that a writer takes, with an output of so many bytes
+pub record Writable (layers : List (List Trapezoid)) (out : List ℕ) : Type 0 where
+  -- "0 to 16 layers"
+  pub few : length layers ≤ layerWords .count
+  -- "at most 512 in all"
+  pub small : length (joined layers) ≤ layerWords .total
+  -- rows 7 to 11 find nothing
+  pub fit : All (FitFor coordinateLimit) (joined layers)
+  -- the output is not "shorter than the book": four bytes for each word of the count, the pairs and the trapezoids
+  pub room : 4 * (1 + 2 * length layers + memoryWidth * length (joined layers)) ≤ length out
+
+-- a writer takes the words of exactly these
+abbrev pub WriterAccepts : Type 0
+WriterAccepts = (layers : List (List Trapezoid)) (out : List ℕ) → T (isDone (writeLayers (layerFileWords layers) out .answer)) ↔ Writable layers out
+
+-- where rows 5 and 6 let n pairs pass, the words of layer number i, passed on as a layer, are that layer of the file
+abbrev pub LayerAt : Type 0
+LayerAt = (ws : List ℤ) (n i : ℕ) → HasPairs layerWords ws n → i < n → layerOf (layerWordsAt ws i) ≡ getD (layersOf ws) i []
+
+-- as in the words that a success of the reader wrote
+abbrev pub ReadPairs : Type 0
+ReadPairs = (bytes : List ℕ) (out : List ℤ) → T (isDone (readLayers bytes out .answer)) → HasPairs layerWords (wordsRead bytes out) (countIn (wordsRead bytes out))
