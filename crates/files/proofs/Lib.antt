@@ -7,6 +7,7 @@ pub mod Polygons
 pub mod Bounds
 pub mod Answering
 pub mod Calls
+pub mod WordSizes
 pub mod RoundTrip
 pub mod Pairs
 pub mod Words

@@ -9,9 +9,8 @@ use lib.ListN.{length, take, replicate}
 use lib.Seq.{take-at}
 use lib.IntN.{ℤ, pos}
 use borrow.Author.Tests.{leb-true, eqb-true, le-leb, eq-eqb}
-use Rattle.records.specs.Lists.{All}
 use Rattle.records.specs.Records.{wordsOf}
-use Rattle.records.specs.Words.{Word, wordCodec}
+use Rattle.records.specs.Words.{wordCodec}
 use Rattle.records.proofs.Records.{records-words, words-records}
 use Rattle.records.proofs.Words.{words-faithful}
 use Rattle.geometry.specs.declared.Checked.{Checked}
@@ -27,6 +26,7 @@ use Rattle.files.proofs.Right.{right}
 use Rattle.files.proofs.Bounds.{passes}
 use Rattle.files.proofs.Answering.{done-is}
 use Rattle.files.proofs.Calls.{file-passes, length-bytes}
+use Rattle.files.proofs.WordSizes.{words-passed}
 
 -- ---- a success
 outcome-done : {W : Type 0} (c : Checked) (z : W) (pieces : ℕ) (content out : List W) → T (isDone (outcome c z pieces content out .answer)) → (c ≡ Passed) × (length content ≤ length out)
@@ -78,20 +78,20 @@ size-fits ws e =
       le-leb (length (wordsOf wordCodec ws)) 65532 (omega (arith, b, r .end, r .most, r .units)),
     )
 
-module _ (ws : List ℤ) (g : All Word ws) where
+module _ (ws : List ℤ) (e : layerWordsChecked ws ≡ Passed) where
   back : fileWords (wordsOf wordCodec ws) ≡ ws
-  back = records-words wordCodec words-faithful ws g
+  back = records-words wordCodec words-faithful ws (words-passed ws e)
 
-  written-passes : layerWordsChecked ws ≡ Passed → layerFileChecked (wordsOf wordCodec ws) ≡ Passed
+  written-passes : layerFileChecked (wordsOf wordCodec ws) ≡ Passed
   unfolding layerFileChecked
-  written-passes e = rw (size-fits ws e, back) e
+  written-passes = rw (size-fits ws e, back) e
 
 pub written-reads : WrittenReads
-written-reads ws out into g d l =
+written-reads ws out into d l =
     let p = write-passed ws out d in
     let b = write-bytes ws out (p .0) (p .1) in
-    let w = back ws g in
-    let c = written-passes ws g (p .0) in
+    let w = back ws (p .0) in
+    let c = written-passes ws (p .0) in
     let h : length (fileWords (wordsOf wordCodec ws)) ≤ length into = omega (arith, ap length w) in
     let answers : readLayers (wordsOf wordCodec ws) into .answer ≡ writeLayers ws out .answer
     = ap (λ (o : Outcome ℤ). o .answer) (sym (read-is (wordsOf wordCodec ws) into c h))

@@ -11,7 +11,7 @@ use lib.ListN.{length, take, getD}
 use Rattle.records.specs.Limits.{memoryWidth}
 use Rattle.records.specs.Lists.{All}
 use Rattle.records.specs.Records.{Codec}
-use Rattle.records.specs.Words.{Byte, Word}
+use Rattle.records.specs.Words.{Byte}
 use Rattle.geometry.specs.declared.Trapezoid.{Trapezoid}
 use Rattle.geometry.specs.declared.Checked.the-variants.{Passed}
 use Rattle.geometry.specs.Limit.{coordinateLimit}
@@ -52,7 +52,7 @@ wordsRead bytes out = take (length bytes / 4) (readLayers bytes out .out)
 -- what was written reads back as the same words, and so as the same layers
 abbrev pub WrittenReads : Type 0
 WrittenReads =
-    (ws : List ℤ) (out : List ℕ) (into : List ℤ) → All Word ws → T (isDone (writeLayers ws out .answer)) → length ws ≤ length into
+    (ws : List ℤ) (out : List ℕ) (into : List ℤ) → T (isDone (writeLayers ws out .answer)) → length ws ≤ length into
     → (readLayers (bytesWritten ws out) into .answer ≡ writeLayers ws out .answer)
     × (wordsRead (bytesWritten ws out) into ≡ ws)
     × (fileLayersOf (fileWords (bytesWritten ws out)) ≡ layersOf ws)
