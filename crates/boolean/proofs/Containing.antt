@@ -1,8 +1,7 @@
 -- Whether a point lies in a layer, as the loop over its trapezoids finds out; and in a result, by the set words.
 use mathlib.Core.Path.{_≡_, refl, sym, _∙_, ap}
 use mathlib.Core.Bool.{Bool, true, false, _||_}
-use mathlib.Core.List.{List, [], _∷_}
-use mathlib.Core.Logic.{_⊎_, inl, inr, _↔_}
+use mathlib.Core.List.{List}
 use Prim.Native.Nat.{ℕ, _+_, _<_, _≤_}
 use native.Mathlib.Omega.{arith}
 use lib.Dec.{T}
@@ -13,8 +12,9 @@ use Rattle.records.proofs.Records.{from-start, from-step, from-none}
 use Rattle.geometry.specs.declared.Trapezoid.{Trapezoid}
 use Rattle.geometry.specs.Points.{Point, IsPoint}
 use Rattle.geometry.specs.Fitness.{FitFor}
-use Rattle.geometry.specs.Trapezoids.{liesIn, LiesInLayer, trapezoidCodec, layerOf}
-use Rattle.boolean.specs.Operations.{Code, result, says, liesInLayer}
+use Rattle.geometry.specs.Trapezoids.{liesIn, liesInLayer, trapezoidCodec, layerOf}
+use Rattle.geometry.proofs.Layers.{lies-in-layer-exact}
+use Rattle.boolean.specs.Operations.{Code, result, says}
 use Rattle.boolean.specs.Code.{from}
 use Rattle.boolean.proofs.Results.{result-exact}
 
@@ -40,15 +40,6 @@ module _ {P : Point} {layer : List ℤ} {i : ℕ} (h : Containing P layer i) whe
   pub contain-stop : count trapezoidCodec layer ≤ i → false ≡ liesInLayer P (layerOf layer)
   contain-stop l = sym (h .same ∙ ap (liesInLayer P) (from-none trapezoidCodec (count trapezoidCodec layer) layer i l))
 
--- ---- the test says what it means
-either-exact : (b c : Bool) (X : Type 0) → T c ↔ X → T (b || c) ↔ (T b ⊎ X)
-either-exact true c X e = ((λ h. inl tt), (λ h. tt))
-either-exact false c X e = ((λ h. inr (e .0 h)), (λ h. elim h [ inl k ↦ absurd k | inr k ↦ e .1 k ]))
-
-pub lies-exact : (P : Point) (ts : List Trapezoid) → T (liesInLayer P ts) ↔ LiesInLayer P ts
-lies-exact P [] = ((λ h. h), (λ h. h))
-lies-exact P (t ∷ ts) = either-exact (liesIn P t) (liesInLayer P ts) (LiesInLayer P ts) (lies-exact P ts)
-
 -- ---- a point lies in the result exactly if the set words say so
 same-test : (a b : Bool) → (T a → T b) → (T b → T a) → a ≡ b
 same-test true true h k = refl
@@ -58,6 +49,6 @@ same-test false false h k = refl
 
 pub result-says : (L : ℕ) (A B : List Trapezoid) → All (FitFor L) A → All (FitFor L) B → (P : Point) → IsPoint P → (c : Code) → says c (liesInLayer P A) (liesInLayer P B) ≡ liesInLayer P (result c A B)
 result-says L A B hA hB P hP c =
-    let e = result-exact L A B hA hB P hP c (liesInLayer P A) (liesInLayer P B) (lies-exact P A) (lies-exact P B) in
-    let f = lies-exact P (result c A B) in
+    let e = result-exact L A B hA hB P hP c (liesInLayer P A) (liesInLayer P B) (lies-in-layer-exact P A) (lies-in-layer-exact P B) in
+    let f = lies-in-layer-exact P (result c A B) in
     same-test (says c (liesInLayer P A) (liesInLayer P B)) (liesInLayer P (result c A B)) (λ h. f .1 (e .0 h)) (λ h. e .1 (f .0 h))

@@ -14,10 +14,10 @@ ghost use Rattle.records.specs.Records.{recordAt, count, Blank};
 ghost use Rattle.geometry.specs.Limit.{coordinateLimit};
 ghost use Rattle.geometry.specs.Fitness.{FitFor};
 ghost use Rattle.geometry.specs.Code.{pointOf, SmallPoint};
-ghost use Rattle.geometry.specs.Trapezoids.{trapezoidCodec, layerOf};
+ghost use Rattle.geometry.specs.Trapezoids.{trapezoidCodec, layerOf, liesInLayer};
 ghost use Rattle.overlay.specs.Overlay.{overlay as overlayOf, tagged};
 ghost use Rattle.overlay.specs.Code.{PlacedAs, Pair, Borrowed, FilledAs};
-ghost use Rattle.boolean.specs.Operations.{union, either-not-both, codeAt, result, less, lessAll, difference, deoverlapped, common, intersection, says as saysOf, liesInLayer};
+ghost use Rattle.boolean.specs.Operations.{union, either-not-both, codeAt, result, less, lessAll, difference, deoverlapped, common, intersection, says as saysOf};
 ghost use Rattle.boolean.specs.Space.{addition, enough, space, marks, lessMarks, lessAllMarks, oneMarks, differenceMarks, deoverlappedMarks, commonMarks, intersectionMarks};
 ghost use Rattle.boolean.specs.Code.{front, rest, from, Layer, overlaysOfOne, overlaysOfLayer, maxOverlays, withOverlays, OverlaysWithin, held, Remaining, Holding, FoldedAs, overlapsAny, apartBefore, ComparedAs, ComparedWithin};
 

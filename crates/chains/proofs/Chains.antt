@@ -7,8 +7,7 @@ use lib.Dec.{T}
 use lib.ListN.{length, drop, length-map}
 use Rattle.records.specs.Lists.{All}
 use Rattle.geometry.specs.Points.{Point, IsPoint}
-use Rattle.geometry.specs.Trapezoids.{layerOf, LiesInLayer}
-use Rattle.boolean.specs.Operations.{liesInLayer}
+use Rattle.geometry.specs.Trapezoids.{layerOf, LiesInLayer, liesInLayer}
 use Rattle.boolean.specs.Statements.{IsYes, SamePoints}
 use Rattle.chains.specs.Chains.{Layer, layerAt, run, Step, told, evaluate, Call, stepsOf, held, Contracts, entryAt, fed, evaluation, merged}
 use Rattle.chains.specs.Statements.{DisjointLayer, startingTrapezoids, Agree, NeverDiffers, Promised, Joined, EveryChain}

@@ -10,10 +10,10 @@ use Rattle.geometry.specs.Limit.{coordinateLimit}
 use Rattle.geometry.specs.Points.{Point, IsPoint}
 use Rattle.geometry.specs.declared.Trapezoid.{Trapezoid}
 use Rattle.geometry.specs.Trapezoids.{layerOf, LiesInLayer}
+use Rattle.geometry.proofs.Layers.{lies-in-layer-exact}
 use Rattle.boolean.specs.Operations.{codeAt}
 use Rattle.boolean.specs.Statements.{IsYes}
 use Rattle.boolean.proofs.Results.{result-exact}
-use Rattle.boolean.proofs.Containing.{lies-exact}
 use Rattle.chains.specs.Chains.{Layer, layerAt, Step, succeeds, added, resultOf, stepped, run, toldOf, told, entryAt, said, evaluate, fed}
 use Rattle.chains.proofs.Success.{success-gives}
 
@@ -26,7 +26,7 @@ Tells P (y ∷ ys) (A ∷ layers) = IsYes y (LiesInLayer P (layerOf A)) × Tells
 
 tells-fed : (P : Point) (layers : List Layer) → Tells P (fed P layers) layers
 tells-fed P [] = tt
-tells-fed P (A ∷ layers) = (lies-exact P (layerOf A), tells-fed P layers)
+tells-fed P (A ∷ layers) = (lies-in-layer-exact P (layerOf A), tells-fed P layers)
 
 pub no-words : layerOf [] ≡ []
 unfolding recordsFrom

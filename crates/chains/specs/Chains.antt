@@ -8,8 +8,8 @@ use lib.Dec.{T, ltb}
 use lib.ListN.{length, getD, drop}
 use lib.IntN.{ℤ}
 use Rattle.geometry.specs.Points.{Point}
-use Rattle.geometry.specs.Trapezoids.{layerOf}
-use Rattle.boolean.specs.Operations.{codeAt, says, liesInLayer}
+use Rattle.geometry.specs.Trapezoids.{layerOf, liesInLayer}
+use Rattle.boolean.specs.Operations.{codeAt, says}
 use Rattle.loxurfa.specs.declared.Combined.{Combined}
 use Rattle.loxurfa.specs.declared.Equality.{Equality}
 use Rattle.loxurfa.specs.Answers.{Answer, combinedAnswer, isDone}

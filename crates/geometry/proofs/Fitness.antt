@@ -1,13 +1,14 @@
 -- The tests of rows 7 to 11 say what the rows mean, and what fitness gives.
-use mathlib.Core.Path.{_≡_, refl, sym, _∙_, ap}
+use mathlib.Core.Path.{_≡_, refl, sym, _∙_, ap, subst}
 use mathlib.Core.Bool.{Bool, true, false, not, _&&_}
-use mathlib.Core.List.{List, [], _∷_}
+use mathlib.Core.List.{List, [], _∷_, _++_}
 use mathlib.Core.Logic.{_↔_}
-use Prim.Native.Nat.{ℕ, _+_, _≤_}
-use native.Mathlib.Nat.{le-trans}
+use Prim.Native.Nat.{ℕ, _+_, _<_, _≤_}
+use native.Mathlib.Nat.{le-trans, add-zero}
 use native.Mathlib.Omega.{arith}
 use lib.Dec.{T}
 use lib.IntN.{ℤ, pos, negsuc, natAbs}
+use lib.ListN.{length}
 use lib.Signed.{leZ, _≤ℤ_, leZ-yes, ltZ-yes, clashℤ}
 use mir.Facts.{and-yes, yes-and}
 use Rattle.integer.specs.Integer.{_⊕_, _⊖_, _⊗_, ⊝_}
@@ -22,13 +23,13 @@ use Rattle.geometry.specs.declared.Line.{Line}
 use Rattle.geometry.specs.declared.Trapezoid.{Trapezoid}
 use Rattle.geometry.specs.declared.Verdict.{Verdict}
 use Rattle.geometry.specs.declared.Verdict.the-variants.{Fit, Row}
-use Rattle.geometry.specs.declared.Checked.the-variants.{Passed}
+use Rattle.geometry.specs.declared.Checked.the-variants.{Passed, Refused}
 use Rattle.geometry.specs.Limit.{onGrid, OnGrid}
 use Rattle.geometry.specs.Lines.{dx, dy, offset, IsLine, det}
 use Rattle.geometry.specs.Positions.{gap, crosses, meet, position}
 use Rattle.geometry.specs.Points.{Point, at, side, On, under, SamePoint}
 use Rattle.geometry.specs.Trapezoids.{linesOf, based, liesIn}
-use Rattle.geometry.specs.Fitness.{CrossInOnePoint, FitFor, all, lineOnGrid, isLine, baseCrosses, leftOf, belowBetween, pass, shapeVerdict, verdict, refuse, firstRefusal, GridExact, BaseExact, BasesExact, SidesExact, FitExact, LayerExact, FitMore, FitHoldsPoint}
+use Rattle.geometry.specs.Fitness.{CrossInOnePoint, GridRow, LineRow, BaseRow, BasesRow, SidesRow, FitFor, all, lineOnGrid, isLine, baseCrosses, leftOf, belowBetween, pass, shapeVerdict, verdict, refuse, firstRefusal, GridExact, BaseExact, BasesExact, SidesExact, FitExact, LayerExact, RowExact, RefusedAt, PlaceExact, FitMore, FitHoldsPoint}
 use Rattle.geometry.proofs.Identities.{dx-positive, side-gap}
 use Rattle.geometry.proofs.Heights.{coincide-everywhere}
 use Rattle.geometry.proofs.Meet.{det→crosses, meet-proper, meet-gap, meet-only}
@@ -150,56 +151,142 @@ bases-exact b c hb hc = (
 pub sides-exact : SidesExact
 sides-exact p q l m hp hq h = Sides.sides-exact p q l m hp hq h
 
+-- ---- each row's test is what it asks, of a trapezoid that has what the rows before ask
+module _ (L : ℕ) (t : Trapezoid) where
+  grid-row : T (all (lineOnGrid L) (linesOf t)) ↔ GridRow L t
+  grid-row = all-exact (lineOnGrid L) (OnGrid L) (grid-exact L) (linesOf t)
+
+module _ (t : Trapezoid) where
+  line-row : T (all isLine (linesOf t)) ↔ LineRow t
+  line-row = all-exact isLine IsLine line-exact (linesOf t)
+
+  module _ (lines : LineRow t) where
+    left-row : T (baseCrosses (t .left)) ↔ CrossInOnePoint (t .left .first) (t .left .second)
+    left-row = base-exact (t .left .first) (t .left .second) (lines .0) (lines .1 .0)
+
+    right-row : T (baseCrosses (t .right)) ↔ CrossInOnePoint (t .right .first) (t .right .second)
+    right-row = base-exact (t .right .first) (t .right .second) (lines .1 .1 .0) (lines .1 .1 .1 .0)
+
+    base-row : T (baseCrosses (t .left) && baseCrosses (t .right)) ↔ BaseRow t
+    base-row = (
+      (λ h. let k = and-yes (baseCrosses (t .left)) (baseCrosses (t .right)) h in (left-row .0 (k .0), right-row .0 (k .1))),
+      (λ h. yes-and (baseCrosses (t .left)) (baseCrosses (t .right)) (left-row .1 (h .0)) (right-row .1 (h .1))),
+    )
+
+    module _ (crossed : BaseRow t) where
+      bases-row : T (leftOf (t .left) (t .right)) ↔ BasesRow t
+      bases-row = bases-exact (t .left) (t .right) (left-row .1 (crossed .0)) (right-row .1 (crossed .1))
+
+      sides-row : BasesRow t → T (belowBetween (position (t .left)) (position (t .right)) (t .bottom) (t .top)) ↔ SidesRow t
+      sides-row h =
+          sides-exact (position (t .left)) (position (t .right)) (t .bottom) (t .top)
+          (meet-proper (t .left .first) (t .left .second) (left-row .1 (crossed .0)))
+          (meet-proper (t .right .first) (t .right .second) (right-row .1 (crossed .1)))
+          (bases-row .1 h)
+
 -- ---- the verdict
-pass-fit : (b : Bool) (n : ℕ) (v : Verdict) → (pass b n v ≡ Fit) ↔ (T b × (v ≡ Fit))
-pass-fit true n v = ((λ e. (tt, e)), (λ h. h .1))
-pass-fit false n v = ((λ e. let z : _≡_ {A = ℕ} 0 1 = cc in absurd (omega arith)), (λ h. absurd (h .0)))
+-- fit, or a number past k and up to 11
+abbrev Past : ℕ → Verdict → Type 0
+Past k Fit = Unit {0}
+Past k (Row n) = (k < n) × (n ≤ 11)
+
+past-less : (k m : ℕ) (w : Verdict) → k ≤ m → Past m w → Past k w
+past-less k m Fit h p = tt
+past-less k m (Row n) h p = (omega (arith, p .0), p .1)
+
+pass-past : (b : Bool) (n k : ℕ) (v : Verdict) → k < n → n ≤ 11 → Past n v → Past k (pass b n v)
+pass-past true n k v h m p = past-less k n v (omega arith) p
+pass-past false n k v h m p = (h, m)
+
+not-past : (n : ℕ) (w : Verdict) → Row n ≡ w → Past n w → ⊥
+not-past n w e p = let q = subst (Past n) (sym e) p in omega (arith, q .0)
+
+-- of a row's test b, which says whether X, and the verdict v of the rows below: a later answer comes exactly if X, and they give it
+passes : {X W : Type 0} (b : Bool) (n : ℕ) (v w : Verdict) → Past n w → T b ↔ X → (X → (v ≡ w) ↔ W) → (pass b n v ≡ w) ↔ (X × W)
+passes true n v w later exact below = ((λ e. let x = exact .0 tt in (x, below x .0 e)), (λ h. below (h .0) .1 (h .1)))
+passes false n v w later exact below = ((λ e. absurd (not-past n w e later)), (λ h. absurd (exact .1 (h .0))))
+
+-- and this row's answer exactly if X fails
+stops : {X : Type 0} (b : Bool) (n : ℕ) (v : Verdict) → Past n v → T b ↔ X → (pass b n v ≡ Row n) ↔ (X → ⊥)
+stops true n v later exact = ((λ e. absurd (not-past n v (sym e) later)), (λ h. absurd (h (exact .0 tt))))
+stops false n v later exact = ((λ e x. exact .1 x), (λ h. refl))
+
+module _ (t : Trapezoid) where
+  abbrev sidesTest : Bool
+  sidesTest = belowBetween (position (t .left)) (position (t .right)) (t .bottom) (t .top)
+
+  abbrev basesTest : Bool
+  basesTest = leftOf (t .left) (t .right)
+
+  abbrev baseTest : Bool
+  baseTest = baseCrosses (t .left) && baseCrosses (t .right)
+
+  -- the verdict of the rows from n on
+  abbrev from11 : Verdict
+  from11 = pass sidesTest 11 Fit
+
+  abbrev from10 : Verdict
+  from10 = pass basesTest 10 from11
+
+  abbrev from9 : Verdict
+  from9 = pass baseTest 9 from10
+
+  abbrev from8 : Verdict
+  from8 = pass (all isLine (linesOf t)) 8 from9
+
+  past11 : Past 10 from11
+  past11 = pass-past sidesTest 11 10 Fit (omega arith) (omega arith) tt
+
+  past10 : Past 9 from10
+  past10 = pass-past basesTest 10 9 from11 (omega arith) (omega arith) past11
+
+  past9 : Past 8 from9
+  past9 = pass-past baseTest 9 8 from10 (omega arith) (omega arith) past10
+
+  past8 : Past 7 from8
+  past8 = pass-past (all isLine (linesOf t)) 8 7 from9 (omega arith) (omega arith) past9
+
+module _ (L : ℕ) (t : Trapezoid) where
+  past7 : Past 6 (verdict L t)
+  unfolding verdict shapeVerdict
+  past7 = pass-past (all (lineOnGrid L) (linesOf t)) 7 6 (from8 t) (omega arith) (omega arith) (past8 t)
+
+  -- an answer of the rows past n
+  after7 : {W : Type 0} (w : Verdict) → Past 7 w → (GridRow L t → (from8 t ≡ w) ↔ W) → (verdict L t ≡ w) ↔ (GridRow L t × W)
+  unfolding verdict shapeVerdict
+  after7 w p = passes (all (lineOnGrid L) (linesOf t)) 7 (from8 t) w p (grid-row L t)
+
+  after8 : {W : Type 0} (w : Verdict) → Past 8 w → (LineRow t → (from9 t ≡ w) ↔ W) → (verdict L t ≡ w) ↔ (GridRow L t × (LineRow t × W))
+  after8 w p below = after7 w (past-less 7 8 w (omega arith) p) (λ g. passes (all isLine (linesOf t)) 8 (from9 t) w p (line-row t) below)
+
+  after9 : {W : Type 0} (w : Verdict) → Past 9 w → (LineRow t → BaseRow t → (from10 t ≡ w) ↔ W) → (verdict L t ≡ w) ↔ (GridRow L t × (LineRow t × (BaseRow t × W)))
+  after9 w p below = after8 w (past-less 8 9 w (omega arith) p) (λ l. passes (baseTest t) 9 (from10 t) w p (base-row t l) (below l))
+
+  after10 : {W : Type 0} (w : Verdict) → Past 10 w → (LineRow t → BaseRow t → BasesRow t → (from11 t ≡ w) ↔ W) → (verdict L t ≡ w) ↔ (GridRow L t × (LineRow t × (BaseRow t × (BasesRow t × W))))
+  after10 w p below = after9 w (past-less 9 10 w (omega arith) p) (λ l b. passes (basesTest t) 10 (from11 t) w p (bases-row t l b) (below l b))
+
+  fit-rows : (verdict L t ≡ Fit) ↔ (GridRow L t × (LineRow t × (BaseRow t × (BasesRow t × (SidesRow t × Unit {0})))))
+  fit-rows = after10 Fit tt (λ l b o. passes (sidesTest t) 11 Fit Fit tt (sides-row t l b o) (λ s. ((λ e. tt), (λ u. refl))))
 
 pub fit-exact : FitExact
-unfolding verdict shapeVerdict
-fit-exact L t = (there, back)
-  where
-    there : verdict L t ≡ Fit → FitFor L t
-    there e =
-        let a = pass-fit (all (lineOnGrid L) (linesOf t)) 7 _ .0 e in
-        let b = pass-fit (all isLine (linesOf t)) 8 _ .0 (a .1) in
-        let c = pass-fit (baseCrosses (t .left) && baseCrosses (t .right)) 9 _ .0 (b .1) in
-        let d = pass-fit (leftOf (t .left) (t .right)) 10 _ .0 (c .1) in
-        let f = pass-fit (belowBetween (position (t .left)) (position (t .right)) (t .bottom) (t .top)) 11 Fit .0 (d .1) in
-        let lines = all-exact isLine IsLine line-exact (linesOf t) .0 (b .0) in
-        let bases = and-yes (baseCrosses (t .left)) (baseCrosses (t .right)) (c .0) in
-        let hp = meet-proper (t .left .first) (t .left .second) (bases .0) in
-        let hq = meet-proper (t .right .first) (t .right .second) (bases .1) in
-        record {
-          grid = all-exact (lineOnGrid L) (OnGrid L) (grid-exact L) (linesOf t) .0 (a .0);
-          lines = lines;
-          left = base-exact (t .left .first) (t .left .second) (lines .0) (lines .1 .0) .0 (bases .0);
-          right = base-exact (t .right .first) (t .right .second) (lines .1 .1 .0) (lines .1 .1 .1 .0) .0 (bases .1);
-          bases = bases-exact (t .left) (t .right) (bases .0) (bases .1) .0 (d .0);
-          sides = sides-exact (position (t .left)) (position (t .right)) (t .bottom) (t .top) hp hq (d .0) .0 (f .0);
-        }
+fit-exact L t = (
+  (λ e.
+      let h = fit-rows L t .0 e in
+      record { grid = h .0; lines = h .1 .0; left = h .1 .1 .0 .0; right = h .1 .1 .0 .1; bases = h .1 .1 .1 .0; sides = h .1 .1 .1 .1 .0 }),
+  (λ h. fit-rows L t .1 (h .grid, (h .lines, ((h .left, h .right), (h .bases, (h .sides, tt)))))),
+)
 
-    back : FitFor L t → verdict L t ≡ Fit
-    back h =
-        let cl = base-exact (t .left .first) (t .left .second) (h .lines .0) (h .lines .1 .0) .1 (h .left) in
-        let cr = base-exact (t .right .first) (t .right .second) (h .lines .1 .1 .0) (h .lines .1 .1 .1 .0) .1 (h .right) in
-        let hp = meet-proper (t .left .first) (t .left .second) cl in
-        let hq = meet-proper (t .right .first) (t .right .second) cr in
-        let lr = bases-exact (t .left) (t .right) cl cr .1 (h .bases) in
-        pass-fit (all (lineOnGrid L) (linesOf t)) 7 _ .1 (
-          all-exact (lineOnGrid L) (OnGrid L) (grid-exact L) (linesOf t) .1 (h .grid),
-          pass-fit (all isLine (linesOf t)) 8 _ .1 (
-            all-exact isLine IsLine line-exact (linesOf t) .1 (h .lines),
-            pass-fit (baseCrosses (t .left) && baseCrosses (t .right)) 9 _ .1 (
-              yes-and (baseCrosses (t .left)) (baseCrosses (t .right)) cl cr,
-              pass-fit (leftOf (t .left) (t .right)) 10 _ .1 (
-                lr,
-                pass-fit (belowBetween (position (t .left)) (position (t .right)) (t .bottom) (t .top)) 11 Fit .1
-                    (sides-exact (position (t .left)) (position (t .right)) (t .bottom) (t .top) hp hq lr .1 (h .sides), refl),
-              ),
-            ),
-          ),
-        )
+pub row-exact : RowExact
+unfolding verdict shapeVerdict
+row-exact L t =
+    record {
+      grid = stops (all (lineOnGrid L) (linesOf t)) 7 (from8 t) (past8 t) (grid-row L t);
+      line = after7 L t (Row 8) (omega arith, omega arith) (λ g. stops (all isLine (linesOf t)) 8 (from9 t) (past9 t) (line-row t));
+      base = after8 L t (Row 9) (omega arith, omega arith) (λ l. stops (baseTest t) 9 (from10 t) (past10 t) (base-row t l));
+      bases = after9 L t (Row 10) (omega arith, omega arith) (λ l b. stops (basesTest t) 10 (from11 t) (past11 t) (bases-row t l b));
+      sides = after10 L t (Row 11) (omega arith, omega arith) (λ l b o. stops (sidesTest t) 11 Fit tt (sides-row t l b o));
+      numbers = λ n e. let p = subst (Past 6) e (past7 L t) in (omega (arith, p .0), p .1);
+    }
 
 pub layer-exact : LayerExact
 unfolding firstRefusal
@@ -212,6 +299,42 @@ layer-exact L i (t ∷ ts) = (
     there : (v : Verdict) → refuse v i (firstRefusal L (i + 1) ts) ≡ Passed → (v ≡ Fit) × (firstRefusal L (i + 1) ts ≡ Passed)
     there Fit e = (refl, e)
     there (Row n) e = let z : _≡_ {A = ℕ} 0 1 = cc in absurd (omega arith)
+
+-- a refusal: after fit ones, the first that gets a row
+refused-after : (L i : ℕ) (first : List Trapezoid) (one : Trapezoid) (rest : List Trapezoid) (n : ℕ) → All (FitFor L) first → verdict L one ≡ Row n → firstRefusal L i (first ++ (one ∷ rest)) ≡ Refused n (i + length first)
+unfolding firstRefusal
+refused-after L i [] one rest n h e = rw (e, add-zero i)
+refused-after L i (t ∷ first) one rest n h e =
+    let k : i + 1 + length first ≡ i + length (t ∷ first) = omega arith in
+    rw (fit-exact L t .1 (h .0)) (refused-after L (i + 1) first one rest n (h .1) e ∙ ap (Refused n) k)
+
+refused-there : (L i : ℕ) (ts : List Trapezoid) (n k : ℕ) → firstRefusal L i ts ≡ Refused n k → RefusedAt L i ts n k
+unfolding firstRefusal
+refused-there L i [] n k e = let z : _≡_ {A = ℕ} 0 1 = cc in absurd (omega arith)
+refused-there L i (t ∷ ts) n k e = go (verdict L t) refl (refused-there L (i + 1) ts n k) e
+  where
+    go : (v : Verdict) → verdict L t ≡ v → (firstRefusal L (i + 1) ts ≡ Refused n k → RefusedAt L (i + 1) ts n k) → refuse v i (firstRefusal L (i + 1) ts) ≡ Refused n k → RefusedAt L i (t ∷ ts) n k
+    go (Row m) f later e =
+        let same : m ≡ n = cc in
+        let here : i ≡ k = cc in
+        record { first = []; one = t; rest = ts; split = refl; place = omega arith; fit = tt; row = f ∙ ap Row same }
+    go Fit f later e =
+        let r = later e in
+        record {
+          first = t ∷ r .first;
+          one = r .one;
+          rest = r .rest;
+          split = ap (λ (us : List Trapezoid). t ∷ us) (r .split);
+          place = omega (arith, r .place);
+          fit = (fit-exact L t .0 f, r .fit);
+          row = r .row;
+        }
+
+pub place-exact : PlaceExact
+place-exact L i ts n k = (
+  refused-there L i ts n k,
+  (λ r. ap (firstRefusal L i) (r .split) ∙ refused-after L i (r .first) (r .one) (r .rest) n (r .fit) (r .row) ∙ ap (Refused n) (sym (r .place))),
+)
 
 -- ---- what fitness gives
 pub grid-more : (L M : ℕ) → L ≤ M → (l : Line) → OnGrid L l → OnGrid M l
@@ -231,10 +354,10 @@ fit-more L M t h k =
 -- the tests' facts of a fit trapezoid, as later proofs use them
 module _ {L : ℕ} {t : Trapezoid} (h : FitFor L t) where
   pub left-crosses : T (crosses (t .left .first) (t .left .second))
-  left-crosses = base-exact (t .left .first) (t .left .second) (h .lines .0) (h .lines .1 .0) .1 (h .left)
+  left-crosses = left-row t (h .lines) .1 (h .left)
 
   pub right-crosses : T (crosses (t .right .first) (t .right .second))
-  right-crosses = base-exact (t .right .first) (t .right .second) (h .lines .1 .1 .0) (h .lines .1 .1 .1 .0) .1 (h .right)
+  right-crosses = right-row t (h .lines) .1 (h .right)
 
   pub left-proper : Proper (position (t .left))
   left-proper = meet-proper (t .left .first) (t .left .second) left-crosses
@@ -243,7 +366,7 @@ module _ {L : ℕ} {t : Trapezoid} (h : FitFor L t) where
   right-proper = meet-proper (t .right .first) (t .right .second) right-crosses
 
   pub left-before-right : T (before (position (t .left)) (position (t .right)))
-  left-before-right = bases-exact (t .left) (t .right) left-crosses right-crosses .1 (h .bases)
+  left-before-right = bases-row t (h .lines) (h .left, h .right) .1 (h .bases)
 
   pub bottom-line : IsLine (t .bottom)
   bottom-line = h .lines .1 .1 .1 .1 .0

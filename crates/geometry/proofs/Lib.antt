@@ -8,6 +8,7 @@ pub mod Fitness
 pub mod Orders
 pub mod Magnitudes
 pub mod Trapezoids
+pub mod Layers
 pub mod Conjunction
 pub mod Branches
 pub mod Checking

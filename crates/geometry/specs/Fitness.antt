@@ -1,11 +1,12 @@
 -- Fitness of a trapezoid under a coordinate limit L: what rows 7 to 11 mean, and the tests that compute it.
 use mathlib.Core.Path.{_≡_}
 use mathlib.Core.Bool.{Bool, true, false, _&&_}
-use mathlib.Core.List.{List, [], _∷_}
+use mathlib.Core.List.{List, [], _∷_, _++_}
 use mathlib.Core.Logic.{_↔_}
 use Prim.Native.Nat.{ℕ, _+_, _≤_}
 use lib.Dec.{T}
 use lib.IntN.{pos}
+use lib.ListN.{length}
 use lib.Signed.{ltZ, _<ℤ_}
 use Rattle.integer.specs.declared.Ordering.{Ordering}
 use Rattle.integer.specs.declared.Ordering.the-variants.{Less, Equal, Greater}
@@ -41,13 +42,29 @@ LeftOf b c = (x y : Fraction) → Proper x → Proper y → gap (b .first) (b .s
 abbrev pub BelowBetween : Fraction → Fraction → Line → Line → Type 0
 BelowBetween p q l m = (x : Fraction) → Proper x → T (before p x) → T (before x q) → gap l m x <ℤ pos 0
 
+-- what each row asks of a trapezoid: row 7, grid point; 8, line; 9, base; 10, bases; 11, sides
+abbrev pub GridRow : ℕ → Trapezoid → Type 0
+GridRow L t = All (OnGrid L) (linesOf t)
+
+abbrev pub LineRow : Trapezoid → Type 0
+LineRow t = All IsLine (linesOf t)
+
+abbrev pub BaseRow : Trapezoid → Type 0
+BaseRow t = CrossInOnePoint (t .left .first) (t .left .second) × CrossInOnePoint (t .right .first) (t .right .second)
+
+abbrev pub BasesRow : Trapezoid → Type 0
+BasesRow t = LeftOf (t .left) (t .right)
+
+abbrev pub SidesRow : Trapezoid → Type 0
+SidesRow t = BelowBetween (position (t .left)) (position (t .right)) (t .bottom) (t .top)
+
 pub record FitFor (L : ℕ) (t : Trapezoid) : Type 0 where
-  pub grid : All (OnGrid L) (linesOf t)
-  pub lines : All IsLine (linesOf t)
+  pub grid : GridRow L t
+  pub lines : LineRow t
   pub left : CrossInOnePoint (t .left .first) (t .left .second)
   pub right : CrossInOnePoint (t .right .first) (t .right .second)
-  pub bases : LeftOf (t .left) (t .right)
-  pub sides : BelowBetween (position (t .left)) (position (t .right)) (t .bottom) (t .top)
+  pub bases : BasesRow t
+  pub sides : SidesRow t
 
 -- ---- the tests, row by row
 abbrev pub all : {A : Type 0} → (A → Bool) → List A → Bool
@@ -127,6 +144,33 @@ FitExact = (L : ℕ) (t : Trapezoid) → (verdict L t ≡ Fit) ↔ FitFor L t
 
 abbrev pub LayerExact : Type 0
 LayerExact = (L i : ℕ) (ts : List Trapezoid) → (firstRefusal L i ts ≡ Passed) ↔ All (FitFor L) ts
+
+-- "Rows are checked downward": a trapezoid gets the number of a row exactly if it has what the rows before ask and not what this one asks;
+-- and it gets no other number
+pub record RowsOf (L : ℕ) (t : Trapezoid) : Type 0 where
+  pub grid : (verdict L t ≡ Row 7) ↔ (GridRow L t → ⊥)
+  pub line : (verdict L t ≡ Row 8) ↔ (GridRow L t × (LineRow t → ⊥))
+  pub base : (verdict L t ≡ Row 9) ↔ (GridRow L t × (LineRow t × (BaseRow t → ⊥)))
+  pub bases : (verdict L t ≡ Row 10) ↔ (GridRow L t × (LineRow t × (BaseRow t × (BasesRow t → ⊥))))
+  pub sides : (verdict L t ≡ Row 11) ↔ (GridRow L t × (LineRow t × (BaseRow t × (BasesRow t × (SidesRow t → ⊥)))))
+  pub numbers : (n : ℕ) → verdict L t ≡ Row n → (7 ≤ n) × (n ≤ 11)
+
+abbrev pub RowExact : Type 0
+RowExact = (L : ℕ) (t : Trapezoid) → RowsOf L t
+
+-- the trapezoid at place k, counted from i on, gets row n, and each before it is fit
+pub record RefusedAt (L i : ℕ) (ts : List Trapezoid) (n k : ℕ) : Type 0 where
+  pub first : List Trapezoid
+  pub one : Trapezoid
+  pub rest : List Trapezoid
+  pub split : ts ≡ first ++ (one ∷ rest)
+  pub place : k ≡ i + length first
+  pub fit : All (FitFor L) first
+  pub row : verdict L one ≡ Row n
+
+-- a list is refused with a number and place exactly if its trapezoid there is
+abbrev pub PlaceExact : Type 0
+PlaceExact = (L i : ℕ) (ts : List Trapezoid) (n k : ℕ) → (firstRefusal L i ts ≡ Refused n k) ↔ RefusedAt L i ts n k
 
 -- what is fit for a limit is fit for every larger one
 abbrev pub FitMore : Type 0

@@ -1,6 +1,7 @@
 -- Trapezoids (paper 01: pieces), the points that lie in them, and layers.
-use mathlib.Core.Bool.{Bool, not, _&&_}
+use mathlib.Core.Bool.{Bool, false, not, _&&_, _||_}
 use mathlib.Core.List.{List, [], _∷_, _++_}
+use mathlib.Core.Logic.{_↔_}
 use Prim.Native.Nat.{ℕ, _+_}
 use lib.Dec.{T}
 use lib.IntN.{ℤ, pos}
@@ -64,9 +65,19 @@ liesInClosed P t =
     based t
     && (not (before (at P) (position (t .left))) && (not (before (position (t .right)) (at P)) && (under P (t .bottom) && leZ (side (t .top) P) (pos 0))))
 
+-- ---- layers
 -- "A point lies in a layer if it lies in one of its pieces."
 abbrev pub LiesInLayer : Point → List Trapezoid → Type 0
 LiesInLayer P ts = Any (λ (t : Trapezoid). T (liesIn P t)) ts
+
+-- the same as a yes or no
+abbrev pub liesInLayer : Point → List Trapezoid → Bool
+liesInLayer P [] = false
+liesInLayer P (t ∷ ts) = liesIn P t || liesInLayer P ts
+
+-- it is yes exactly if the point lies in the layer (proofs/Layers.antt: `lies-in-layer-exact`)
+abbrev pub LiesInLayerExact : Type 0
+LiesInLayerExact = (P : Point) (ts : List Trapezoid) → T (liesInLayer P ts) ↔ LiesInLayer P ts
 
 -- no rational point lies in both
 abbrev pub Apart : Trapezoid → Trapezoid → Type 0

@@ -9,8 +9,9 @@ use Rattle.geometry.specs.declared.Trapezoid.{Trapezoid}
 use Rattle.geometry.specs.declared.Checked.{Checked}
 use Rattle.geometry.specs.declared.Checked.the-variants.{Passed, Refused}
 use Rattle.geometry.specs.Limit.{coordinateLimit}
-use Rattle.geometry.specs.Trapezoids.{layerOf, LiesInLayer, Disjoint}
-use Rattle.boolean.specs.Operations.{codeAt, result, says, liesInLayer}
+use Rattle.geometry.specs.Trapezoids.{layerOf, LiesInLayer, liesInLayer, Disjoint}
+use Rattle.geometry.proofs.Layers.{lies-in-layer-exact}
+use Rattle.boolean.specs.Operations.{codeAt, result, says}
 use Rattle.boolean.specs.Statements.{IsYes, SamePoints}
 use Rattle.files.specs.Formats.{fileWords}
 use Rattle.files.specs.Contents.{polygonsOf}
@@ -19,7 +20,6 @@ use Rattle.fracture.proofs.Points.{fracture-exact}
 use Rattle.fracture.proofs.Fitness.{fracture-all-sides}
 use Rattle.boolean.proofs.Results.{result-exact}
 use Rattle.boolean.proofs.Deoverlapping.{deoverlapped-exact, deoverlapped-disjoint}
-use Rattle.boolean.proofs.Containing.{lies-exact}
 use Rattle.loxurfa.specs.Answers.{isAnswered, isYes}
 use Rattle.loxurfa.specs.Rows.{containsChecked}
 use Rattle.loxurfa.specs.Outcomes.{asked, containsAnswer}
@@ -76,5 +76,5 @@ contains-exact P a b code h x y hx hy =
     let k = asked-is (containsChecked P a b code) (liesInLayer P ts) h in
     let r = contains-ready P a b code (k .passed) in
     let e = result-exact coordinateLimit (layerOf a) (layerOf b) (r .first .fit) (r .second .fit) P (point-real P (r .point)) (codeAt code) x y hx hy in
-    let f = lies-exact P ts in
+    let f = lies-in-layer-exact P ts in
     ((λ z. e .1 (f .0 (subst T (k .answers) z))), (λ z. subst T (sym (k .answers)) (f .1 (e .0 z))))

@@ -13,11 +13,11 @@ use Rattle.geometry.specs.declared.Trapezoid.{Trapezoid}
 use Rattle.geometry.specs.declared.Checked.{Checked}
 use Rattle.geometry.specs.declared.Checked.the-variants.{Passed, Refused}
 use Rattle.geometry.specs.Points.{Point}
-use Rattle.geometry.specs.Trapezoids.{layerOf}
+use Rattle.geometry.specs.Trapezoids.{layerOf, liesInLayer}
 use Rattle.overlay.specs.Code.{Borrowed}
 use Rattle.boolean.specs.declared.Folded.{Folded}
 use Rattle.boolean.specs.declared.Folded.the-variants.{Short, Done}
-use Rattle.boolean.specs.Operations.{codeAt, result, difference, deoverlapped, liesInLayer}
+use Rattle.boolean.specs.Operations.{codeAt, result, difference, deoverlapped}
 use Rattle.boolean.specs.Space.{Mark, space, marks, deoverlappedMarks, equalityMarks}
 use Rattle.boolean.specs.Code.{maxOverlays, OverlaysWithin, FoldedAs, Side, ComparedAs, ComparedWithin}
 use Rattle.boolean.specs.declared.Compared.{Compared}

@@ -11,8 +11,8 @@ use Rattle.geometry.specs.declared.Checked.{Checked}
 use Rattle.geometry.specs.declared.Checked.the-variants.{Passed, Refused}
 use Rattle.geometry.specs.Limit.{coordinateLimit}
 use Rattle.geometry.specs.Points.{Point}
-use Rattle.geometry.specs.Trapezoids.{trapezoidCodec, layerOf}
-use Rattle.boolean.specs.Operations.{codeAt, result, difference, deoverlapped, liesInLayer}
+use Rattle.geometry.specs.Trapezoids.{trapezoidCodec, layerOf, liesInLayer}
+use Rattle.boolean.specs.Operations.{codeAt, result, difference, deoverlapped}
 use Rattle.files.specs.Formats.{fileWords}
 use Rattle.files.specs.Contents.{polygonsOf}
 use Rattle.fracture.specs.Fracture.{fractureAll}

@@ -1,15 +1,17 @@
 -- Whether a rational point lies in both of two trapezoids A and B: the meaning, and the test that computes it.
-use mathlib.Core.Bool.{Bool, cond, _&&_, _||_}
+use mathlib.Core.Bool.{Bool, not, cond, _&&_, _||_}
+use mathlib.Core.List.{List}
 use mathlib.Core.Logic.{_↔_}
 use Prim.Native.Nat.{ℕ}
 use lib.Dec.{T}
 use Rattle.integer.specs.Fraction.{Fraction, before}
+use Rattle.records.specs.Lists.{All, Pairs}
 use Rattle.geometry.specs.declared.Line.{Line}
 use Rattle.geometry.specs.declared.Base.{Base}
 use Rattle.geometry.specs.declared.Trapezoid.{Trapezoid}
 use Rattle.geometry.specs.Positions.{crosses, position, below}
 use Rattle.geometry.specs.Points.{Point, IsPoint}
-use Rattle.geometry.specs.Trapezoids.{liesIn}
+use Rattle.geometry.specs.Trapezoids.{liesIn, Disjoint}
 use Rattle.geometry.specs.Fitness.{FitFor}
 
 -- the meaning: "no rational point in both" denies it
@@ -57,3 +59,7 @@ overlaps A B =
 -- the test says yes exactly if some rational point lies in both (proofs/Overlaps.antt: `overlaps-exact`)
 abbrev pub OverlapsExact : Type 0
 OverlapsExact = (L : ℕ) (A B : Trapezoid) → FitFor L A → FitFor L B → T (overlaps A B) ↔ Common A B
+
+-- a list of fit trapezoids is disjoint exactly if the test says no of each pair (`disjoint-exact`, there)
+abbrev pub DisjointExact : Type 0
+DisjointExact = (L : ℕ) (ts : List Trapezoid) → All (FitFor L) ts → Disjoint ts ↔ Pairs (λ (t u : Trapezoid). T (not (overlaps t u))) ts

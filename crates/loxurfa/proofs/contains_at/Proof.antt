@@ -2,9 +2,9 @@ use mathlib.Core.Path.{_≡_, sym, _∙_, ap}
 use mathlib.Core.Bool.{Bool}
 use Rattle.geometry.specs.declared.Checked.the-variants.{Passed}
 use Rattle.geometry.specs.Limit.{coordinateLimit}
-use Rattle.geometry.specs.Trapezoids.{layerOf}
+use Rattle.geometry.specs.Trapezoids.{layerOf, liesInLayer}
 use Rattle.geometry.specs.Code.{pointOf}
-use Rattle.boolean.specs.Operations.{codeAt, result, says, liesInLayer}
+use Rattle.boolean.specs.Operations.{codeAt, result, says}
 use Rattle.boolean.proofs.Containing.{result-says}
 use Rattle.loxurfa.specs.Rows.{containsChecked}
 use Rattle.loxurfa.proofs.Bounds.{point-small, point-real}
