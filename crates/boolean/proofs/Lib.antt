@@ -24,3 +24,4 @@ pub mod Front
 pub mod Past
 pub mod DeoverlapLoop
 pub mod Containing
+pub mod Examples
