@@ -6,6 +6,8 @@ pub mod Results
 pub mod Deoverlapping
 pub mod Equality
 pub mod Space
+pub mod Marks
+pub mod Counts
 pub mod Lessening
 pub mod Apart
 pub mod Moving
@@ -22,3 +24,4 @@ pub mod Front
 pub mod Past
 pub mod DeoverlapLoop
 pub mod Containing
+pub mod Examples

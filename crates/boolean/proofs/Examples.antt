@@ -1,0 +1,170 @@
+-- The definitions compute: overlays counted, space met on the way, and results word for word.
+use mathlib.Core.Path.{_≡_, refl}
+use mathlib.Core.List.{List, [], _∷_}
+use Prim.Native.Nat.{ℕ, suc}
+use lib.Dec.{lit<}
+use lib.IntN.{pos}
+use Rattle.integer.specs.Integer.{_⊕_, _⊖_, _⊗_, ⊝_}
+use Rattle.integer.specs.Compare.{orderOf}
+use Rattle.integer.specs.Fraction.{before}
+use Rattle.levels.specs.Levels.{insert, levels}
+use Rattle.geometry.specs.declared.Line.{Line}
+use Rattle.geometry.specs.declared.Base.{Base}
+use Rattle.geometry.specs.declared.Trapezoid.{Trapezoid}
+use Rattle.geometry.specs.Lines.{dx, dy, offset, det, numer}
+use Rattle.geometry.specs.Positions.{crosses, root, meet, heights, rightOf, below}
+use Rattle.sweep.specs.Lists.{keep}
+use Rattle.sweep.specs.Segments.{spans}
+use Rattle.sweep.specs.Sweep.{columns, sweep}
+use Rattle.overlay.specs.Overlaps.{crossing, commonLeft, commonRight, crossesInCommon, overlapRight, overlapFrom, overlaps}
+use Rattle.overlay.specs.Overlay.{sides, crossings, events, fills, tagAbove, stack, parts, subdivision, overlay, tagged}
+use Rattle.boolean.specs.Operations.{union, intersect, first-less-second, either-not-both, less, lessAll, difference, common, intersection, result, deoverlappedFrom, deoverlapped}
+use Rattle.boolean.specs.Space.{overlaid, addition, enough, short, space, marks, lessMarks, lessAllMarks, differenceMarks, commonMarks, intersectionMarks, equalityMarks}
+use Rattle.boolean.specs.Code.{Side}
+
+abbrev line : ℕ → ℕ → ℕ → ℕ → Line
+line a b c d = record { x1 = pos a; y1 = pos b; x2 = pos c; y2 = pos d }
+
+-- the base at k
+abbrev baseAt : ℕ → Base
+baseAt k = record { first = line 0 0 1 0; second = line k 0 (suc k) 1 }
+
+abbrev trapezoid : Base → Base → Line → Line → Trapezoid
+trapezoid p q l m = record { left = p; right = q; bottom = l; top = m }
+
+-- [a, c) × [b, d)
+abbrev box : ℕ → ℕ → ℕ → ℕ → Trapezoid
+box a b c d = trapezoid (baseAt a) (baseAt c) (line a b c b) (line a d c d)
+
+-- [a, c) with the sides of a wider box
+abbrev cell : ℕ → ℕ → Line → Line → Trapezoid
+cell a c l m = trapezoid (baseAt a) (baseAt c) l m
+
+abbrev one : Trapezoid → List Trapezoid
+one t = t ∷ []
+
+-- ---- overlays
+-- two squares that do not overlap: one overlay in the intersection, with nothing in the result, and one in the difference, which leaves the first
+abbrev Apart : Type 0
+Apart =
+    (marks intersect (one (box 0 0 1 1)) (one (box 2 0 3 1)) ≡ overlaid 0 ∷ [])
+    × (marks first-less-second (one (box 0 0 1 1)) (one (box 2 0 3 1)) ≡ overlaid 1 ∷ addition 1 ∷ [])
+
+-- ---- space
+-- a square that stays, and a box of three squares; less the box's middle square, and then its right one
+abbrev stays-and-wide : List Trapezoid
+stays-and-wide = box 0 0 1 1 ∷ box 2 0 5 1 ∷ []
+
+abbrev middle-and-right : List Trapezoid
+middle-and-right = box 3 0 4 1 ∷ box 4 0 5 1 ∷ []
+
+-- at the fourth mark the result so far has 1 trapezoid and the remainder 2, the squares left and right of the middle: each alone has room for 2
+-- enough, as the result at the end has, but the sum has not; the overlays up to there are 3
+abbrev Sum : Type 0
+Sum =
+    (marks first-less-second stays-and-wide middle-and-right ≡ overlaid 1 ∷ overlaid 1 ∷ addition 1 ∷ overlaid 3 ∷ overlaid 3 ∷ overlaid 2 ∷ addition 2 ∷ [])
+    × (space 2 (marks first-less-second stays-and-wide middle-and-right) ≡ short 3)
+    × (space 3 (marks first-less-second stays-and-wide middle-and-right) ≡ enough 5)
+    × (difference stays-and-wide middle-and-right ≡ box 0 0 1 1 ∷ cell 2 3 (line 2 0 5 0) (line 2 1 5 1) ∷ [])
+
+-- two squares with themselves: the second is still whole after the overlay with the first, beside the two of the result
+abbrev two : List Trapezoid
+two = box 0 0 1 1 ∷ box 2 0 3 1 ∷ []
+
+abbrev Itself : Type 0
+Itself = (space 2 (marks union two two) ≡ short 2) × (space 3 (marks union two two) ≡ enough 3) × (result union two two ≡ two)
+
+-- ---- equality
+-- [0, 1) × [0, 1) and [0, 2) × [0, 1): nothing is left of the first, [1, 2) × [0, 1) of the second; one overlay for each difference
+abbrev Differ : Type 0
+Differ =
+    (difference (one (box 0 0 1 1)) (one (box 0 0 2 1)) ≡ [])
+    × (difference (one (box 0 0 2 1)) (one (box 0 0 1 1)) ≡ cell 1 2 (line 0 0 2 0) (line 0 1 2 1) ∷ [])
+    × (equalityMarks (one (box 0 0 1 1)) (one (box 0 0 2 1)) ≡ overlaid 0 ∷ addition 0 ∷ overlaid 1 ∷ addition 1 ∷ [])
+    × Side (difference (one (box 0 0 1 1)) (one (box 0 0 2 1))) (difference (one (box 0 0 2 1)) (one (box 0 0 1 1))) 1
+    × (equalityMarks (one (box 0 0 2 1)) (one (box 0 0 1 1)) ≡ overlaid 1 ∷ addition 1 ∷ [])
+
+-- ---- the order of the results
+-- A = [0, 2) × [0, 1) and B = [1, 3) × [0, 1)
+abbrev A : Trapezoid
+A = box 0 0 2 1
+
+abbrev B : Trapezoid
+B = box 1 0 3 1
+
+-- what is left of A, and of B
+abbrev A-less-B : Trapezoid
+A-less-B = cell 0 1 (line 0 0 2 0) (line 0 1 2 1)
+
+abbrev B-less-A : Trapezoid
+B-less-A = cell 2 3 (line 1 0 3 0) (line 1 1 3 1)
+
+-- A whole, then B−A; not A−B, then B whole
+abbrev Union : Type 0
+Union = result union (one A) (one B) ≡ A ∷ B-less-A ∷ []
+
+-- A−B, then B−A
+abbrev Either : Type 0
+Either = result either-not-both (one A) (one B) ≡ A-less-B ∷ B-less-A ∷ []
+
+-- two upright strips with two level ones: the first upright one with both, then the second with both; each upright one's line where sides coincide
+abbrev Ordered : Type 0
+Ordered =
+    result intersect (box 0 0 1 2 ∷ box 1 0 2 2 ∷ []) (box 0 0 2 1 ∷ box 0 1 2 2 ∷ [])
+    ≡ cell 0 1 (line 0 0 1 0) (line 0 1 2 1)
+    ∷ cell 0 1 (line 0 1 2 1) (line 0 2 1 2)
+    ∷ cell 1 2 (line 1 0 2 0) (line 0 1 2 1)
+    ∷ cell 1 2 (line 0 1 2 1) (line 1 2 2 2)
+    ∷ []
+
+-- ---- the remainder is A in the overlay
+-- [0, 2) × [0, 2), and two over the same range: the top of the one rises and that of the other falls across the square's top, at 1. The first has
+-- a left base of another name, and the second a right base.
+abbrev square : Trapezoid
+square = box 0 0 2 2
+
+abbrev rising : Trapezoid
+rising = trapezoid (crossing (line 0 0 1 1) (line 0 0 1 2)) (baseAt 2) (line 0 0 2 0) (line 0 1 2 3)
+
+abbrev falling : Trapezoid
+falling = trapezoid (baseAt 0) (crossing (line 0 0 1 0) (line 1 1 2 0)) (line 0 0 2 0) (line 0 3 2 1)
+
+-- the corners of the square above them: the base has the square's name, and the crossing names the square's top first
+abbrev left-corner : Trapezoid
+left-corner = trapezoid (baseAt 0) (crossing (line 0 2 2 2) (line 0 1 2 3)) (line 0 1 2 3) (line 0 2 2 2)
+
+abbrev right-corner : Trapezoid
+right-corner = trapezoid (crossing (line 0 2 2 2) (line 0 3 2 1)) (baseAt 2) (line 0 3 2 1) (line 0 2 2 2)
+
+-- what stands on the square, along a shorter line: the square stays, with its own line
+abbrev upon : Trapezoid
+upon = box 0 2 1 3
+
+abbrev InDifference : Type 0
+InDifference =
+    (difference (one square) (one rising) ≡ left-corner ∷ [])
+    × (difference (one square) (one falling) ≡ right-corner ∷ [])
+    × (difference (one square) (one upon) ≡ square ∷ [])
+
+-- the later trapezoid is the remainder, and the result's is B in the overlay
+abbrev InDeoverlapping : Type 0
+InDeoverlapping =
+    (deoverlapped (rising ∷ square ∷ []) ≡ rising ∷ left-corner ∷ [])
+    × (deoverlapped (falling ∷ square ∷ []) ≡ falling ∷ right-corner ∷ [])
+    × (deoverlapped (upon ∷ square ∷ []) ≡ upon ∷ square ∷ [])
+
+examples : Apart × Sum × Itself × Differ × Union × Either × Ordered × InDifference × InDeoverlapping
+unfolding _⊕_ _⊖_ _⊗_ ⊝_ orderOf before insert levels dx dy offset det numer crosses root meet heights rightOf below keep spans columns sweep
+    commonLeft commonRight crossesInCommon overlapRight overlapFrom overlaps sides crossings events fills tagAbove stack parts subdivision overlay tagged
+    less lessAll difference common intersection deoverlappedFrom space lessMarks lessAllMarks differenceMarks commonMarks intersectionMarks
+examples = (
+  (refl, refl),
+  (refl, refl, refl, refl),
+  (refl, refl, refl),
+  (refl, refl, refl, (lit< tt, refl), refl),
+  refl,
+  refl,
+  refl,
+  (refl, refl, refl),
+  (refl, refl, refl),
+)
