@@ -1,4 +1,4 @@
--- The definitions compute: the paper's cases (a) and (e), sides that coincide, a tip on a side, and 15 parts.
+-- The definitions compute: the paper's cases (a) and (e), ties of events and of sides in both orders of A and B, a tip on a side, and 15 parts.
 use mathlib.Core.Path.{_≡_, refl}
 use mathlib.Core.List.{List, [], _∷_}
 use Prim.Native.Nat.{ℕ, suc}
@@ -21,9 +21,12 @@ use Rattle.overlay.specs.Overlay.{Part, sides, crossings, events, fills,
 abbrev line : ℕ → ℕ → ℕ → ℕ → Line
 line a b c d = record { x1 = pos a; y1 = pos b; x2 = pos c; y2 = pos d }
 
--- the base at k
+-- the base at k, and the same in other words
 abbrev upright : ℕ → Base
 upright k = record { first = line 0 0 1 0; second = line k 0 (suc k) 1 }
+
+abbrev renamed : ℕ → Base
+renamed k = record { first = line k 0 (suc k) 1; second = line k 0 (suc k) 2 }
 
 -- [a, c) × [b, d)
 abbrev box : ℕ → ℕ → ℕ → ℕ → Trapezoid
@@ -44,11 +47,65 @@ CaseA = tags (overlay (box 0 0 4 4) (box 2 2 6 6)) ≡ 1 ∷ 1 ∷ 3 ∷ 2 ∷ 2
 abbrev CaseE : Type 0
 CaseE = overlay (box 0 0 4 4) (box 4 0 8 4) ≡ record { tag = 1; trapezoid = box 0 0 4 4 } ∷ record { tag = 2; trapezoid = box 4 0 8 4 } ∷ []
 
--- coinciding sides take A's line, and equal events A's base
+-- "Equal stops take the first name of: A left, A right, B left, B right, .."; "Coinciding sides take A's line": a square and the same in
+-- other words leave A's words, in either order
+abbrev square : Trapezoid
+square = box 0 0 4 4
+
+abbrev restated : Trapezoid
+restated = record { left = renamed 0; right = renamed 4; bottom = line 0 0 8 0; top = line 0 4 8 4 }
+
 abbrev Equal : Type 0
-Equal =
-    overlay (box 0 0 4 4) (record { left = crossing (line 0 0 1 1) (line 0 0 1 2); right = upright 4; bottom = line 0 0 8 0; top = line 0 4 8 4 })
-    ≡ record { tag = 3; trapezoid = box 0 0 4 4 } ∷ []
+Equal = overlay square restated ≡ record { tag = 3; trapezoid = square } ∷ []
+
+abbrev EqualTurned : Type 0
+EqualTurned = overlay restated square ≡ record { tag = 3; trapezoid = restated } ∷ []
+
+-- "In every difference, and in disjointing, the piece in hand is A in the pair cut": what is left of A (tag 1) has A's name where its base is
+-- level with B's, and "a crossing names A's side first". Where the bottoms coincide A's line is taken; it bounds parts of both (tag 3) only.
+abbrev sloped : Trapezoid
+sloped = record { left = renamed 0; right = renamed 4; bottom = line 0 0 8 0; top = line 0 2 4 6 }
+
+abbrev tops : Base
+tops = crossing (line 0 4 4 4) (line 0 2 4 6)
+
+abbrev Remainder : Type 0
+Remainder =
+    overlay square sloped
+    ≡ partOf 3 (upright 0) tops (line 0 0 4 0) (line 0 2 4 6)
+    ∷ partOf 1 (upright 0) tops (line 0 2 4 6) (line 0 4 4 4)
+    ∷ partOf 3 tops (upright 4) (line 0 0 4 0) (line 0 4 4 4)
+    ∷ partOf 2 tops (upright 4) (line 0 4 4 4) (line 0 2 4 6)
+    ∷ []
+
+-- the same operands in the other order
+abbrev topsTurned : Base
+topsTurned = crossing (line 0 2 4 6) (line 0 4 4 4)
+
+abbrev RemainderTurned : Type 0
+RemainderTurned =
+    overlay sloped square
+    ≡ partOf 3 (renamed 0) topsTurned (line 0 0 8 0) (line 0 2 4 6)
+    ∷ partOf 2 (renamed 0) topsTurned (line 0 2 4 6) (line 0 4 4 4)
+    ∷ partOf 3 topsTurned (renamed 4) (line 0 0 8 0) (line 0 4 4 4)
+    ∷ partOf 1 topsTurned (renamed 4) (line 0 4 4 4) (line 0 2 4 6)
+    ∷ []
+
+-- ".., bottom-bottom, A bottom with B top, A top with B bottom, top-top": the bottoms cross at the position where the tops do, and the event
+-- has the name of the bottoms
+abbrev bottoms : Base
+bottoms = crossing (line 0 2 4 2) (line 0 0 4 4)
+
+abbrev Level : Type 0
+Level =
+    overlay (box 0 2 4 6) (record { left = upright 0; right = upright 4; bottom = line 0 0 4 4; top = line 0 4 4 8 })
+    ≡ partOf 2 (upright 0) bottoms (line 0 0 4 4) (line 0 2 4 2)
+    ∷ partOf 3 (upright 0) bottoms (line 0 2 4 2) (line 0 4 4 8)
+    ∷ partOf 1 (upright 0) bottoms (line 0 4 4 8) (line 0 6 4 6)
+    ∷ partOf 1 bottoms (upright 4) (line 0 2 4 2) (line 0 0 4 4)
+    ∷ partOf 3 bottoms (upright 4) (line 0 0 4 4) (line 0 6 4 6)
+    ∷ partOf 2 bottoms (upright 4) (line 0 6 4 6) (line 0 4 4 8)
+    ∷ []
 
 -- the tip of B lies on the top of A: three sides meet at one event
 abbrev tip : Base
@@ -76,7 +133,7 @@ Fifteen =
     tags (overlay falling rising)
     ≡ 1 ∷ 2 ∷ 1 ∷ 2 ∷ 3 ∷ 1 ∷ 2 ∷ 3 ∷ 2 ∷ 1 ∷ 3 ∷ 2 ∷ 1 ∷ 2 ∷ 2 ∷ []
 
-examples : CaseA × CaseE × Equal × Tip × Fifteen
+examples : CaseA × CaseE × Equal × EqualTurned × Remainder × RemainderTurned × Level × Tip × Fifteen
 unfolding _⊕_ _⊖_ _⊗_ ⊝_ orderOf before insert levels dx dy offset det numer crosses root meet heights rightOf below keep spans columns sweep
     commonLeft commonRight crossesInCommon overlapRight overlapFrom overlaps sides crossings events fills tagAbove stack parts subdivision overlay
-examples = (refl, refl, refl, refl, refl)
+examples = (refl, refl, refl, refl, refl, refl, refl, refl, refl)
