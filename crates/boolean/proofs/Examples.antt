@@ -45,8 +45,8 @@ one t = t ∷ []
 
 -- ---- overlays
 -- two squares that do not overlap: one overlay in the intersection, with nothing in the result, and one in the difference, which leaves the first
-abbrev Apart : Type 0
-Apart =
+abbrev NoOverlap : Type 0
+NoOverlap =
     (marks intersect (one (box 0 0 1 1)) (one (box 2 0 3 1)) ≡ overlaid 0 ∷ [])
     × (marks first-less-second (one (box 0 0 1 1)) (one (box 2 0 3 1)) ≡ overlaid 1 ∷ addition 1 ∷ [])
 
@@ -58,8 +58,8 @@ stays-and-wide = box 0 0 1 1 ∷ box 2 0 5 1 ∷ []
 abbrev middle-and-right : List Trapezoid
 middle-and-right = box 3 0 4 1 ∷ box 4 0 5 1 ∷ []
 
--- at the fourth mark the result so far has 1 trapezoid and the remainder 2, the squares left and right of the middle: each alone has room for 2
--- enough, as the result at the end has, but the sum has not; the overlays up to there are 3
+-- at the fourth mark the result so far has 1 trapezoid and the remainder 2, the squares left and right of the middle. Each fits in a room of 2, and
+-- so does the result at the end, but the two together do not: short, after 3 overlays
 abbrev Sum : Type 0
 Sum =
     (marks first-less-second stays-and-wide middle-and-right ≡ overlaid 1 ∷ overlaid 1 ∷ addition 1 ∷ overlaid 3 ∷ overlaid 3 ∷ overlaid 2 ∷ addition 2 ∷ [])
@@ -75,7 +75,8 @@ abbrev Itself : Type 0
 Itself = (space 2 (marks union two two) ≡ short 2) × (space 3 (marks union two two) ≡ enough 3) × (result union two two ≡ two)
 
 -- ---- equality
--- [0, 1) × [0, 1) and [0, 2) × [0, 1): nothing is left of the first, [1, 2) × [0, 1) of the second; one overlay for each difference
+-- [0, 1) × [0, 1) and [0, 2) × [0, 1): nothing is left of the first, [1, 2) × [0, 1) of the second; one overlay for each difference.
+-- The other way round the first difference is not empty, and the second is not made.
 abbrev Differ : Type 0
 Differ =
     (difference (one (box 0 0 1 1)) (one (box 0 0 2 1)) ≡ [])
@@ -108,8 +109,8 @@ abbrev Either : Type 0
 Either = result either-not-both (one A) (one B) ≡ A-less-B ∷ B-less-A ∷ []
 
 -- two upright strips with two level ones: the first upright one with both, then the second with both; each upright one's line where sides coincide
-abbrev Ordered : Type 0
-Ordered =
+abbrev Order : Type 0
+Order =
     result intersect (box 0 0 1 2 ∷ box 1 0 2 2 ∷ []) (box 0 0 2 1 ∷ box 0 1 2 2 ∷ [])
     ≡ cell 0 1 (line 0 0 1 0) (line 0 1 2 1)
     ∷ cell 0 1 (line 0 1 2 1) (line 0 2 1 2)
@@ -153,7 +154,7 @@ InDeoverlapping =
     × (deoverlapped (falling ∷ square ∷ []) ≡ falling ∷ right-corner ∷ [])
     × (deoverlapped (upon ∷ square ∷ []) ≡ upon ∷ square ∷ [])
 
-examples : Apart × Sum × Itself × Differ × Union × Either × Ordered × InDifference × InDeoverlapping
+examples : NoOverlap × Sum × Itself × Differ × Union × Either × Order × InDifference × InDeoverlapping
 unfolding _⊕_ _⊖_ _⊗_ ⊝_ orderOf before insert levels dx dy offset det numer crosses root meet heights rightOf below keep spans columns sweep
     commonLeft commonRight crossesInCommon overlapRight overlapFrom overlaps sides crossings events fills tagAbove stack parts subdivision overlay tagged
     less lessAll difference common intersection deoverlappedFrom space lessMarks lessAllMarks differenceMarks commonMarks intersectionMarks
