@@ -11,3 +11,4 @@ pub mod WordSizes
 pub mod RoundTrip
 pub mod Pairs
 pub mod Words
+pub mod Form

@@ -74,7 +74,7 @@ directoryBy f ws Outside = Wrong 5 0
 unfoldable pub directoryOf : Format → List ℤ → Directory
 directoryOf f ws = directoryBy f ws (countOf f ws)
 
--- rows 5 and 6 let n pairs pass
+-- rows 5 and 6 let n pairs pass: exactly if the directory has the paper's form (Form.antt)
 pub record HasPairs (f : Format) (ws : List ℤ) (n : ℕ) : Type 0 where
   pub total : ℕ
   pub is : directoryOf f ws ≡ Right n total

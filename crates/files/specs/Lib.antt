@@ -2,6 +2,7 @@
 pub mod Formats
 pub mod Directory
 pub mod Contents
+pub mod Form
 pub mod Rows
 pub mod Outcomes
 pub mod Statements
