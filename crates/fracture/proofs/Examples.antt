@@ -24,7 +24,7 @@ use Rattle.sweep.specs.Sweep.{columns, sweep}
 use Rattle.files.specs.declared.Vertex.{Vertex}
 use Rattle.files.specs.Rows.{vertexOnGrid}
 use Rattle.fracture.specs.Polygons.{Polygon, polygonOnGrid, edge, edgesFrom, edges, windingNumber}
-use Rattle.fracture.specs.Fracture.{lineBy, mark, marks, crossingsWith, crossings, events, trapezoids, fracture}
+use Rattle.fracture.specs.Fracture.{lineBy, mark, marks, crossingsWith, crossings, events, trapezoids, fracture, fractureAll}
 
 abbrev vertex : ℕ → ℕ → Vertex
 vertex a b = record { x = pos a; y = pos b }
@@ -122,11 +122,19 @@ Group =
     ∷ between (at 2) (at 4) (line 0 0 4 0) (line 0 2 4 2)
     ∷ []
 
+-- "Polygons are cut in order, lists joined": the right one of two squares is the first here
+abbrev InOrder : Type 0
+InOrder =
+    fractureAll 2048 ((vertex 4 0 ∷ vertex 6 0 ∷ vertex 6 2 ∷ vertex 4 2 ∷ []) ∷ square ∷ [])
+    ≡ between (at 4) (at 6) (line 4 0 6 0) (line 4 2 6 2)
+    ∷ between (at 0) (at 2) (line 0 0 2 0) (line 0 2 2 2)
+    ∷ []
+
 -- a spike run forth and back holds nothing
 abbrev Spike : Type 0
 Spike = fracture 2048 (vertex 0 0 ∷ vertex 6 2 ∷ vertex 0 0 ∷ vertex 3 9 ∷ []) ≡ []
 
-examples : CaseG × CaseH × Twice × RightEnd × Top × CaseI × CaseI′ × Listed × Outside × Three × Marked × Group × Spike
+examples : CaseG × CaseH × Twice × RightEnd × Top × CaseI × CaseI′ × Listed × Outside × Three × Marked × Group × InOrder × Spike
 unfolding _⊕_ _⊖_ _⊗_ ⊝_ orderOf before insert levels onGrid dx dy offset det numer crosses root meet heights rightOf below side under trapezoidWords keep sum spans inside
-    crossInside slabs upTo column columns sweep vertexOnGrid polygonOnGrid edge edgesFrom edges windingNumber mark marks crossingsWith crossings events trapezoids fracture
-examples = (refl, refl, refl, refl, refl, refl, refl, refl, refl, refl, refl, refl, refl)
+    crossInside slabs upTo column columns sweep vertexOnGrid polygonOnGrid edge edgesFrom edges windingNumber mark marks crossingsWith crossings events trapezoids fracture fractureAll
+examples = (refl, refl, refl, refl, refl, refl, refl, refl, refl, refl, refl, refl, refl, refl)

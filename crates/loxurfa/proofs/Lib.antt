@@ -9,3 +9,4 @@ pub mod Same
 pub mod Fracturing
 pub mod Exact
 pub mod Table
+mod Examples

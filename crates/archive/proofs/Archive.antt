@@ -1,0 +1,82 @@
+-- From what was sent to what is on file.
+use mathlib.Core.Path.{_≡_, refl, sym, _∙_, ap, subst}
+use mathlib.Core.Bool.{Bool}
+use mathlib.Core.List.{List, [], _∷_, map}
+use Prim.Native.Nat.{ℕ, zero, suc, _*_, _/_, _<_, _≤_}
+use native.Mathlib.Omega.{arith}
+use lib.Dec.{T}
+use lib.IntN.{ℤ}
+use lib.ListN.{length, take, getD}
+use Rattle.records.specs.Lists.{All}
+use Rattle.geometry.specs.declared.Trapezoid.{Trapezoid}
+use Rattle.geometry.specs.Points.{Point, IsPoint}
+use Rattle.geometry.specs.Trapezoids.{layerOf, LiesInLayer, Disjoint}
+use Rattle.files.specs.Contents.{layersOf}
+use Rattle.files.specs.Outcomes as files
+use Rattle.files.specs.Statements.{bytesWritten, wordsRead}
+use Rattle.files.proofs.RoundTrip.{written-reads}
+use Rattle.files.proofs.Words.{layers-back}
+use Rattle.boolean.specs.Statements.{IsYes}
+use Rattle.chains.specs.Chains.{Layer, layerAt, Call, held, Contracts, entryAt, evaluation}
+use Rattle.chains.specs.Statements.{DisjointLayer, Promised}
+use Rattle.chains.proofs.Points.{no-words}
+use Rattle.chains.proofs.Chains.{every-chain}
+use Rattle.archive.specs.Calls.{WriteCall, WriteAccepted, bytesBy, ReadCall, ReadRight, ReadAccepted, wordsBy}
+use Rattle.archive.specs.Archive.{Source, layerFrom, Accepted, sent, chosen, archiveWords}
+use Rattle.archive.specs.Statements.{OnFile, ArchiveExact}
+use Rattle.archive.proofs.Sources.{sources-disjoint, sources-fed}
+
+-- ---- written and read back
+module _ (w : WriteCall) (written : WriteAccepted w) (r : ReadCall) (file : r .file ≡ bytesBy w) (kept : ReadRight r) (room : length (w .words) ≤ length (r .out)) where
+  file-is : r .file ≡ bytesWritten (w .words) (w .out)
+  file-is = file ∙ ap (λ (o : files.Outcome ℕ). take (4 * length (w .words)) (o .out)) (written .kept)
+
+  write-done : T (files.isDone (files.writeLayers (w .words) (w .out) .answer))
+  write-done = subst (λ (o : files.Outcome ℕ). T (files.isDone (o .answer))) (written .kept) (written .accepted)
+
+  read-is : files.observed (files.readAnswer (r .answer)) (r .out-then) ≡ files.readLayers (bytesWritten (w .words) (w .out)) (r .out)
+  read-is = kept ∙ ap (λ (bytes : List ℕ). files.readLayers bytes (r .out)) file-is
+
+  back-accepted : ReadAccepted r
+  back-accepted =
+      let e = ap (λ (o : files.Outcome ℤ). o .answer) read-is ∙ written-reads (w .words) (w .out) (r .out) write-done room .0 in
+      record { kept = kept; accepted = subst (λ (a : files.Answer). T (files.isDone a)) (sym e) write-done }
+
+  back-words : wordsBy r ≡ w .words
+  back-words =
+      ap (λ (o : files.Outcome ℤ). take (length (r .file) / 4) (o .out)) read-is
+      ∙ ap (λ (bytes : List ℕ). take (length bytes / 4) (files.readLayers (bytesWritten (w .words) (w .out)) (r .out) .out)) file-is
+      ∙ written-reads (w .words) (w .out) (r .out) write-done room .1
+
+-- ---- the layers chosen
+chosen-at : (layers : List Layer) (numbers : List ℕ) (i : ℕ) → i < length numbers → getD (chosen layers numbers) i [] ≡ layerOf (layerAt layers (getD numbers i 0))
+chosen-at layers [] i h = absurd (omega arith)
+chosen-at layers (n ∷ numbers) zero h = refl
+chosen-at layers (n ∷ numbers) (suc i) h = chosen-at layers numbers i (omega arith)
+
+chosen-all : (R : List Trapezoid → Type 0) (layers : List Layer) → ((n : ℕ) → R (layerOf (layerAt layers n))) → (numbers : List ℕ) → All R (chosen layers numbers)
+chosen-all R layers f [] = tt
+chosen-all R layers f (n ∷ numbers) = (f n, chosen-all R layers f numbers)
+
+pub archive-exact : ArchiveExact
+archive-exact sources accepted calls contracts numbers w words written r file kept room =
+    let start = map layerFrom sources in
+    let p = every-chain start (sources-disjoint sources accepted) .0 calls contracts in
+    let layers : layersOf (wordsBy r) ≡ chosen (held start calls) numbers
+    = ap layersOf (back-words w written r file kept room ∙ words) ∙ layers-back (chosen (held start calls) numbers) in
+    record {
+      read = back-accepted w written r file kept room;
+      layers = layers;
+      points = λ P hP i h.
+          subst (λ (ts : List Trapezoid). IsYes (entryAt (evaluation (map (sent P) sources) start calls) (getD numbers i 0)) (LiesInLayer P ts))
+          (sym (ap (λ (tss : List (List Trapezoid)). getD tss i []) layers ∙ chosen-at (held start calls) numbers i h))
+          (subst (λ (ys : List Bool). IsYes (entryAt (evaluation ys start calls) (getD numbers i 0)) (LiesInLayer P (layerOf (layerAt (held start calls) (getD numbers i 0)))))
+          (sources-fed P hP sources accepted)
+          (p .points P hP (getD numbers i 0)));
+      disjoint = subst (All Disjoint) (sym layers) (chosen-all Disjoint (held start calls) (λ n. layer-disjoint (held start calls) (p .disjoint) n) numbers);
+    }
+  where
+    layer-disjoint : (layers : List Layer) → All DisjointLayer layers → (n : ℕ) → Disjoint (layerOf (layerAt layers n))
+    layer-disjoint [] h n = subst Disjoint (sym no-words) tt
+    layer-disjoint (A ∷ layers) h zero = h .0
+    layer-disjoint (A ∷ layers) h (suc n) = layer-disjoint layers (h .1) n

@@ -1,0 +1,123 @@
+-- The starting layers: they are disjoint, and a point lies in one exactly if it was sent.
+use mathlib.Core.Path.{_≡_, refl, sym, _∙_, ap, subst}
+use mathlib.Core.Bool.{Bool, true, false}
+use mathlib.Core.List.{List, [], _∷_, map}
+use mathlib.Core.Logic.{_↔_}
+use Prim.Native.Nat.{ℕ, zero, suc, _+_, _/_, _<_}
+use native.Mathlib.Omega.{arith}
+use lib.Dec.{T}
+use lib.IntN.{ℤ}
+use lib.ListN.{length, take, drop, getD}
+use Rattle.records.specs.Lists.{All, Any}
+use Rattle.records.specs.Records.{Codec}
+use Rattle.geometry.specs.declared.Trapezoid.{Trapezoid}
+use Rattle.geometry.specs.Points.{Point, IsPoint}
+use Rattle.geometry.specs.Trapezoids.{trapezoidCodec, layerOf, LiesInLayer, liesInLayer}
+use Rattle.geometry.proofs.Layers.{lies-in-layer-exact}
+use Rattle.files.specs.Formats.{fileWords}
+use Rattle.files.specs.Contents.{countIn, lengthsFrom, lengthsOf, unitsOf, cut, listsOf, polygonsOf, layersOf, fileLayersOf, layerWordsAt}
+use Rattle.files.specs.Outcomes as files
+use Rattle.files.specs.Statements.{wordsRead}
+use Rattle.files.proofs.RoundTrip.{read-passed, read-words}
+use Rattle.files.proofs.Words.{layer-at, read-pairs}
+use Rattle.fracture.specs.Statements.{Wound}
+use Rattle.boolean.specs.Statements.{SamePoints}
+use Rattle.loxurfa.specs.Answers.{Answer, isDone}
+use Rattle.loxurfa.specs.Outcomes.{Outcome, recordsOf}
+use Rattle.loxurfa.proofs.Exact.{fracture-file-exact, deoverlap-exact}
+use Rattle.chains.specs.Chains.{Layer, fed}
+use Rattle.chains.specs.Statements.{DisjointLayer}
+use Rattle.archive.specs.Calls.{FractureCall, FractureAccepted, fracturedBy, DeoverlapCall, DeoverlapAccepted, deoverlappedBy, ReadCall, ReadAccepted, wordsBy}
+use Rattle.archive.specs.Archive.{Source, polygons, archived, layerFrom, fileLayerAt, BothAccepted, LayerAccepted, Accepted, Sent, sent}
+use Rattle.archive.proofs.Points.{sent-exact}
+
+-- ---- a polygon file, fractured and deoverlapped
+-- what holds of the layer that the definition gives, where it gives one, holds of the layer that an accepted call wrote
+by-definition : (R : Layer → Type 0) (seen defined : Outcome Answer) → seen ≡ defined → T (isDone (seen .answer))
+    → (T (isDone (defined .answer)) → R (recordsOf (defined .answer) (defined .out))) → R (recordsOf (seen .answer) (seen .out))
+by-definition R seen defined e t f =
+    subst (λ (o : Outcome Answer). T (isDone (o .answer)) → R (recordsOf (o .answer) (o .out))) (sym e) f t
+
+module _ (f : FractureCall) (d : DeoverlapCall) (h : BothAccepted f d) where
+  fractured-points : (P : Point) → IsPoint P → LiesInLayer P (layerOf (fracturedBy f)) ↔ Any (Wound P) (polygonsOf (fileWords (f .file)))
+  fractured-points P hP =
+      by-definition (λ (A : Layer). LiesInLayer P (layerOf A) ↔ Any (Wound P) (polygonsOf (fileWords (f .file)))) _ _ (h .fractured .kept) (h .fractured .accepted)
+      (λ t. fracture-file-exact (f .file) (f .out) (f .scratch) t .1 P hP)
+
+  deoverlapped-right : DisjointLayer (deoverlappedBy d) × SamePoints (layerOf (deoverlappedBy d)) (layerOf (d .layer))
+  deoverlapped-right =
+      by-definition (λ (A : Layer). DisjointLayer A × SamePoints (layerOf A) (layerOf (d .layer))) _ _ (h .deoverlapped .kept) (h .deoverlapped .accepted)
+      (λ t. let k = deoverlap-exact (d .layer) (d .out) (d .scratch) t in (k .1, k .2))
+
+  polygons-points : (P : Point) → IsPoint P → LiesInLayer P (layerOf (deoverlappedBy d)) ↔ Any (Wound P) (polygonsOf (fileWords (f .file)))
+  polygons-points P hP =
+      let k = deoverlapped-right .1 P hP in
+      let g = fractured-points P hP in (
+        (λ x. g .0 (subst (λ (A : Layer). LiesInLayer P (layerOf A)) (h .lent) (k .0 x))),
+        (λ y. k .1 (subst (λ (A : Layer). LiesInLayer P (layerOf A)) (sym (h .lent)) (g .1 y))),
+      )
+
+-- ---- a layer of a layer file
+-- there are as many lists as word 0 counts
+cut-length : {A : Type 0} (ns : List ℕ) (xs : List A) → length (cut ns xs) ≡ length ns
+unfolding cut
+cut-length [] xs = refl
+cut-length (n ∷ ns) xs = ap suc (cut-length ns (drop n xs))
+
+lengths-length : (ws : List ℤ) (n i : ℕ) → length (lengthsFrom ws n i) ≡ n
+unfolding lengthsFrom
+lengths-length ws zero i = refl
+lengths-length ws (suc n) i = ap suc (lengths-length ws n (i + 1))
+
+lists-length : {A : Type 0} (C : Codec ℤ A) (ws : List ℤ) → length (listsOf C ws) ≡ countIn ws
+lists-length C ws = cut-length (lengthsOf ws) (unitsOf C ws) ∙ lengths-length ws (countIn ws) 0
+
+module _ (r : ReadCall) (n : ℕ) (h : LayerAccepted r n) where
+  read-done : T (files.isDone (files.readLayers (r .file) (r .out) .answer))
+  read-done = subst (λ (o : files.Outcome ℤ). T (files.isDone (o .answer))) (h .read .kept) (h .read .accepted)
+
+  words-are : wordsBy r ≡ wordsRead (r .file) (r .out)
+  words-are = ap (λ (o : files.Outcome ℤ). take (length (r .file) / 4) (o .out)) (h .read .kept)
+
+  layers-are : layersOf (wordsRead (r .file) (r .out)) ≡ fileLayersOf (fileWords (r .file))
+  layers-are = let p = read-passed (r .file) (r .out) read-done in ap layersOf (read-words (r .file) (r .out) (p .0) (p .1))
+
+  counted : n < countIn (wordsRead (r .file) (r .out))
+  counted = omega (arith, h .within, ap length layers-are, lists-length trapezoidCodec (wordsRead (r .file) (r .out)))
+
+  layer-is : layerOf (layerWordsAt (wordsBy r) n) ≡ fileLayerAt (r .file) n
+  layer-is =
+      ap (λ (ws : List ℤ). layerOf (layerWordsAt ws n)) words-are
+      ∙ layer-at (wordsRead (r .file) (r .out)) (countIn (wordsRead (r .file) (r .out))) n (read-pairs (r .file) (r .out) read-done) counted
+      ∙ ap (λ (tss : List (List Trapezoid)). getD tss n []) layers-are
+
+-- ---- any source
+source-disjoint : (s : Source) → Accepted s → DisjointLayer (layerFrom s)
+source-disjoint (polygons f d) h = deoverlapped-right f d h .0
+source-disjoint (archived r n) h = h .disjoint
+
+source-points : (P : Point) → IsPoint P → (s : Source) → Accepted s → LiesInLayer P (layerOf (layerFrom s)) ↔ Sent P s
+source-points P hP (polygons f d) h = polygons-points f d h P hP
+source-points P hP (archived r n) h =
+    let e = layer-is r n h in ((λ x. subst (LiesInLayer P) e x), (λ y. subst (LiesInLayer P) (sym e) y))
+
+pub sources-disjoint : (sources : List Source) → All Accepted sources → All DisjointLayer (map layerFrom sources)
+sources-disjoint [] h = tt
+sources-disjoint (s ∷ sources) h = (source-disjoint s (h .0), sources-disjoint sources (h .1))
+
+-- ---- what the evaluation is fed
+same-answer : (a b : Bool) {X : Type 0} → T a ↔ X → T b ↔ X → a ≡ b
+same-answer true true h k = refl
+same-answer true false h k = absurd (k .1 (h .0 tt))
+same-answer false true h k = absurd (h .1 (k .0 tt))
+same-answer false false h k = refl
+
+source-fed : (P : Point) → IsPoint P → (s : Source) → Accepted s → liesInLayer P (layerOf (layerFrom s)) ≡ sent P s
+source-fed P hP s h =
+    let k = source-points P hP s h in
+    let l = lies-in-layer-exact P (layerOf (layerFrom s)) in
+    same-answer (liesInLayer P (layerOf (layerFrom s))) (sent P s) ((λ x. k .0 (l .0 x)), (λ y. l .1 (k .1 y))) (sent-exact P s)
+
+pub sources-fed : (P : Point) → IsPoint P → (sources : List Source) → All Accepted sources → fed P (map layerFrom sources) ≡ map (sent P) sources
+sources-fed P hP [] h = refl
+sources-fed P hP (s ∷ sources) h = rw (source-fed P hP s (h .0), sources-fed P hP sources (h .1)) refl

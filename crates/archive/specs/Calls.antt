@@ -1,0 +1,82 @@
+-- Calls that were made: what each was lent, what it answered, and what it left in the words that it was lent. A call is right if it kept the function's
+-- contract, and accepted if its answer is no refusal.
+use Prim.Native.Nat.{ℕ, _*_, _/_}
+use mathlib.Core.List.{List}
+use lib.Dec.{T}
+use lib.IntN.{ℤ}
+use lib.ListN.{length, take}
+use Rattle.files.specs.declared.LayersRead.{LayersRead}
+use Rattle.files.specs.declared.LayersWritten.{LayersWritten}
+use Rattle.files.specs.Outcomes as files
+use Rattle.loxurfa.specs.declared.Fractured.{Fractured}
+use Rattle.loxurfa.specs.declared.Deoverlapped.{Deoverlapped}
+use Rattle.loxurfa.specs.Answers.{fracturedAnswer, deoverlappedAnswer, isDone}
+use Rattle.loxurfa.specs.Outcomes.{recordsOf}
+use Rattle.loxurfa.specs.Contracts.{FractureKept, DeoverlapKept, ReadKept, WriteKept}
+use Rattle.chains.specs.Chains.{Layer}
+
+-- ---- `fracture` of a polygon file's bytes
+pub record FractureCall : Type 0 where
+  pub file : List ℕ
+  pub out : List ℤ
+  pub scratch : List ℤ
+  pub answer : Fractured
+  pub out-then : List ℤ
+  pub scratch-then : List ℤ
+
+pub record FractureAccepted (c : FractureCall) : Type 0 where
+  pub kept : FractureKept (c .file) (c .out) (c .scratch) (c .answer) (c .out-then) (c .scratch-then)
+  pub accepted : T (isDone (fracturedAnswer (c .answer)))
+
+-- what it wrote
+abbrev pub fracturedBy : FractureCall → Layer
+fracturedBy c = recordsOf (fracturedAnswer (c .answer)) (c .out-then)
+
+-- ---- `deoverlap` of a layer
+pub record DeoverlapCall : Type 0 where
+  pub layer : Layer
+  pub out : List ℤ
+  pub scratch : List ℤ
+  pub answer : Deoverlapped
+  pub out-then : List ℤ
+  pub scratch-then : List ℤ
+
+pub record DeoverlapAccepted (c : DeoverlapCall) : Type 0 where
+  pub kept : DeoverlapKept (c .layer) (c .out) (c .scratch) (c .answer) (c .out-then) (c .scratch-then)
+  pub accepted : T (isDone (deoverlappedAnswer (c .answer)))
+
+abbrev pub deoverlappedBy : DeoverlapCall → Layer
+deoverlappedBy c = recordsOf (deoverlappedAnswer (c .answer)) (c .out-then)
+
+-- ---- `write_layers` of a layer file's words
+pub record WriteCall : Type 0 where
+  pub words : List ℤ
+  pub out : List ℕ
+  pub answer : LayersWritten
+  pub out-then : List ℕ
+
+pub record WriteAccepted (c : WriteCall) : Type 0 where
+  pub kept : WriteKept (c .words) (c .out) (c .answer) (c .out-then)
+  pub accepted : T (files.isDone (files.writtenAnswer (c .answer)))
+
+-- the bytes that it wrote, four for each word
+abbrev pub bytesBy : WriteCall → List ℕ
+bytesBy c = take (4 * length (c .words)) (c .out-then)
+
+-- ---- `read_layers` of a layer file's bytes
+pub record ReadCall : Type 0 where
+  pub file : List ℕ
+  pub out : List ℤ
+  pub answer : LayersRead
+  pub out-then : List ℤ
+
+abbrev pub ReadRight : ReadCall → Type 0
+ReadRight c = ReadKept (c .file) (c .out) (c .answer) (c .out-then)
+
+pub record ReadAccepted (c : ReadCall) : Type 0 where
+  pub kept : ReadRight c
+  pub accepted : T (files.isDone (files.readAnswer (c .answer)))
+
+-- the words that it wrote, one for four bytes
+abbrev pub wordsBy : ReadCall → List ℤ
+wordsBy c = take (length (c .file) / 4) (c .out-then)

@@ -1,0 +1,1 @@
+// From what was sent to what is on file: definitions and laws only.
