@@ -87,14 +87,14 @@ fn done_file(pieces: usize) {
 fn show_read(r: LayersRead) {
     match r {
         LayersRead::Refused { number, place } => refused(number, place),
-        LayersRead::Done { pieces } => done_file(pieces),
+        LayersRead::Done { pieces, overlays } => done_file(pieces),
     }
 }
 
 fn show_written(r: LayersWritten) {
     match r {
         LayersWritten::Refused { number, place } => refused(number, place),
-        LayersWritten::Done { pieces } => done_file(pieces),
+        LayersWritten::Done { pieces, overlays } => done_file(pieces),
     }
 }
 

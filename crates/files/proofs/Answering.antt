@@ -83,5 +83,5 @@ module _ {W : Type 0} (z : W) (pieces : ℕ) (content out : List W) {c : Checked
   pub short-is : c ≡ Passed → length out < length content → observed (refused 12 0) (replicate (length out) z) ≡ outcome c z pieces content out
   short-is e h = rw (e, lt-leb (length content) (length out) h)
 
-  pub done-is : c ≡ Passed → length content ≤ length out → observed (done pieces) (content ++ replicate (length out - length content) z) ≡ outcome c z pieces content out
+  pub done-is : c ≡ Passed → length content ≤ length out → observed (done pieces 0) (content ++ replicate (length out - length content) z) ≡ outcome c z pieces content out
   done-is e h = rw (e, le-leb (length content) (length out) h)

@@ -65,14 +65,14 @@ module _ (bs : List ℕ) (out : List ℤ) where
         (ap (observed (refused 12 0)) z ∙ short-is (pos 0) (length (unitsOf fileCodec (fileWords bs))) (fileWords bs) out e (omega (arith, h, long, length-file bs)), (omega arith, omega arith))
 
     pub read-done : length bs / 4 ≤ length blank → {d : List ℤ} → d ≡ fileWords bs ++ drop (length bs / 4) blank → {k : ℕ} → k ≡ length (unitsOf fileCodec (fileWords bs))
-        → (observed (done k) d ≡ readLayers bs out) × (k ≤ 512)
+        → (observed (done k 0) d ≡ readLayers bs out) × ((k ≤ 512) × (0 < 4294967296))
     unfolding readLayers
     read-done h {d} p {k} q =
         let l : length bs / 4 ≡ length (fileWords bs) = sym (length-file bs) in
         let r : d ≡ fileWords bs ++ replicate (length out - length (fileWords bs)) (pos 0)
         = p ∙ ap (λ (t : List ℤ). fileWords bs ++ t) (ap (drop (length bs / 4)) z ∙ drop-blank (pos 0) (length bs / 4) (length out) ∙ ap (λ (n : ℕ). replicate (length out - n) (pos 0)) l) in (
-          (λ j. observed (done (q j)) (r j)) ∙ done-is (pos 0) (length (unitsOf fileCodec (fileWords bs))) (fileWords bs) out e (omega (arith, h, long, l)),
-          omega (arith, q, units-bound layerFile fileCodec (fileWords bs) refl (omega arith) (file-passes bs e .1)),
+          (λ j. observed (done (q j) 0) (r j)) ∙ done-is (pos 0) (length (unitsOf fileCodec (fileWords bs))) (fileWords bs) out e (omega (arith, h, long, l)),
+          (omega (arith, q, units-bound layerFile fileCodec (fileWords bs) refl (omega arith) (file-passes bs e .1)), omega arith),
         )
 
 -- ---- the writer
@@ -102,12 +102,12 @@ module _ (ws : List ℤ) (out : List ℕ) where
         (ap (observed (refused 12 0)) z ∙ short-is 0 (length (unitsOf trapezoidCodec ws)) (wordsOf wordCodec ws) out e (omega (arith, h, blank-long, length-bytes ws)), (omega arith, omega arith))
 
     pub write-done : length ws ≤ length blank / 4 → {d : List ℕ} → d ≡ wordsOf wordCodec ws ++ drop (4 * length ws) blank → {k : ℕ} → k ≡ length (unitsOf trapezoidCodec ws)
-        → (observed (done k) d ≡ writeLayers ws out) × (k ≤ 512)
+        → (observed (done k 0) d ≡ writeLayers ws out) × ((k ≤ 512) × (0 < 4294967296))
     unfolding writeLayers
     write-done h {d} p {k} q =
         let l : 4 * length ws ≡ length (wordsOf wordCodec ws) = sym (length-bytes ws) in
         let r : d ≡ wordsOf wordCodec ws ++ replicate (length out - length (wordsOf wordCodec ws)) 0
         = p ∙ ap (λ (t : List ℕ). wordsOf wordCodec ws ++ t) (ap (drop (4 * length ws)) z ∙ drop-blank 0 (4 * length ws) (length out) ∙ ap (λ (n : ℕ). replicate (length out - n) 0) l) in (
-          (λ j. observed (done (q j)) (r j)) ∙ done-is 0 (length (unitsOf trapezoidCodec ws)) (wordsOf wordCodec ws) out e (omega (arith, h, blank-long, l)),
-          omega (arith, q, units-bound layerWords trapezoidCodec ws refl (omega arith) e),
+          (λ j. observed (done (q j) 0) (r j)) ∙ done-is 0 (length (unitsOf trapezoidCodec ws)) (wordsOf wordCodec ws) out e (omega (arith, h, blank-long, l)),
+          (omega (arith, q, units-bound layerWords trapezoidCodec ws refl (omega arith) e), omega arith),
         )

@@ -39,7 +39,7 @@ outcome-done Passed z pieces content out h = (refl, go (leb (length content) (le
 
 -- what a success of the reader and of the writer is
 module _ (bs : List ℕ) (out : List ℤ) (e : layerFileChecked bs ≡ Passed) (h : length (fileWords bs) ≤ length out) where
-  read-is : observed (done (length (unitsOf fileCodec (fileWords bs)))) (fileWords bs ++ replicate (length out - length (fileWords bs)) (pos 0)) ≡ readLayers bs out
+  read-is : observed (done (length (unitsOf fileCodec (fileWords bs))) 0) (fileWords bs ++ replicate (length out - length (fileWords bs)) (pos 0)) ≡ readLayers bs out
   unfolding readLayers
   read-is = done-is (pos 0) (length (unitsOf fileCodec (fileWords bs))) (fileWords bs) out e h
 
@@ -49,7 +49,7 @@ module _ (bs : List ℕ) (out : List ℤ) (e : layerFileChecked bs ≡ Passed) (
       ∙ take-at (fileWords bs) (replicate (length out - length (fileWords bs)) (pos 0)) (length bs / 4) (length-file bs)
 
 module _ (ws : List ℤ) (out : List ℕ) (e : layerWordsChecked ws ≡ Passed) (h : length (wordsOf wordCodec ws) ≤ length out) where
-  pub write-is : observed (done (length (unitsOf trapezoidCodec ws))) (wordsOf wordCodec ws ++ replicate (length out - length (wordsOf wordCodec ws)) 0) ≡ writeLayers ws out
+  pub write-is : observed (done (length (unitsOf trapezoidCodec ws)) 0) (wordsOf wordCodec ws ++ replicate (length out - length (wordsOf wordCodec ws)) 0) ≡ writeLayers ws out
   unfolding writeLayers
   write-is = done-is 0 (length (unitsOf trapezoidCodec ws)) (wordsOf wordCodec ws) out e h
 
@@ -95,7 +95,7 @@ written-reads ws out into d l =
     let h : length (fileWords (wordsOf wordCodec ws)) ≤ length into = omega (arith, ap length w) in
     let answers : readLayers (wordsOf wordCodec ws) into .answer ≡ writeLayers ws out .answer
     = ap (λ (o : Outcome ℤ). o .answer) (sym (read-is (wordsOf wordCodec ws) into c h))
-    ∙ ap (λ (t : List ℤ). done (length (unitsOf fileCodec t))) w
+    ∙ ap (λ (t : List ℤ). done (length (unitsOf fileCodec t)) 0) w
     ∙ ap (λ (o : Outcome ℕ). o .answer) (write-is ws out (p .0) (p .1)) in (
       ap (λ (t : List ℕ). readLayers t into .answer) b ∙ answers,
       ap (λ (t : List ℕ). wordsRead t into) b ∙ read-words (wordsOf wordCodec ws) into c h ∙ w,

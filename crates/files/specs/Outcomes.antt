@@ -19,28 +19,28 @@ use Rattle.files.specs.Formats.{fileWords}
 use Rattle.files.specs.Contents.{unitsOf, fileCodec}
 use Rattle.files.specs.Rows.{layerFileChecked, layerWordsChecked}
 
--- "A refusal answers its number and place, a success its pieces"
+-- "A refusal answers its number and place, a success its pieces and cuts." Neither reading nor writing makes an overlay (paper 01: cut).
 pub data Answer : Type 0 where
   refused : (number place : ℕ) → Answer
-  done : (pieces : ℕ) → Answer
+  done : (pieces overlays : ℕ) → Answer
 
 abbrev pub isDone : Answer → Bool
 isDone (refused number place) = false
-isDone (done pieces) = true
+isDone (done pieces overlays) = true
 
 -- ---- each enum read as the paper's answer
 abbrev pub readAnswer : LayersRead → Answer
 readAnswer (read.Refused number place) = refused number place
-readAnswer (read.Done pieces) = done pieces
+readAnswer (read.Done pieces overlays) = done pieces overlays
 
 abbrev pub writtenAnswer : LayersWritten → Answer
 writtenAnswer (written.Refused number place) = refused number place
-writtenAnswer (written.Done pieces) = done pieces
+writtenAnswer (written.Done pieces overlays) = done pieces overlays
 
 -- the sizes of the numbers in an answer
 abbrev pub Small : Answer → Type 0
 Small (refused number place) = (number ≤ 12) × (place < 1024)
-Small (done pieces) = pieces ≤ maxRecords
+Small (done pieces overlays) = (pieces ≤ maxRecords) × (overlays < 4294967296)
 
 -- ---- an answer, and the output's words or bytes
 pub record Outcome (W : Type 0) : Type 0 where
@@ -53,7 +53,7 @@ observed answer out = record { answer = answer; out = out }
 
 -- "For a book reader or writer it means an output shorter than the book." Of an output of n: "zero past the book", and all zero where it is refused with 12
 abbrev pub placed : {W : Type 0} → Bool → W → ℕ → List W → ℕ → Outcome W
-placed true z pieces content n = record { answer = done pieces; out = content ++ replicate (n - length content) z }
+placed true z pieces content n = record { answer = done pieces 0; out = content ++ replicate (n - length content) z }
 placed false z pieces content n = record { answer = refused 12 0; out = replicate n z }
 
 -- "1 to 11 change nothing."

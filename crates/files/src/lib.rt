@@ -57,16 +57,16 @@ pub struct Extent {
     pub length: usize,
 }
 
-// What `read_layers` answers: the refusal's number and place, or the trapezoids read.
+// What `read_layers` answers: the refusal's number and place, or the trapezoids read and the overlays made, which are none.
 pub enum LayersRead {
     Refused { number: u32, place: usize },
-    Done { pieces: usize },
+    Done { pieces: usize, overlays: usize },
 }
 
 // The same of `write_layers`.
 pub enum LayersWritten {
     Refused { number: u32, place: usize },
-    Done { pieces: usize },
+    Done { pieces: usize, overlays: usize },
 }
 
 fn polygon_format() -> Format
@@ -587,7 +587,10 @@ pub fn read_layers(file: &[u8], out: &mut [i32]) -> LayersRead
     }
     decode(file, out);
     let pieces = file_trapezoids(file);
-    LayersRead::Done { pieces }
+    LayersRead::Done {
+        pieces,
+        overlays: 0,
+    }
 }
 
 // The bytes of a layer file with these words, to an output of any length.
@@ -611,5 +614,8 @@ pub fn write_layers(words: &[i32], out: &mut [u8]) -> LayersWritten
     }
     encode(words, out);
     let pieces = words_trapezoids(words);
-    LayersWritten::Done { pieces }
+    LayersWritten::Done {
+        pieces,
+        overlays: 0,
+    }
 }

@@ -393,14 +393,14 @@ fn byte(bytes: &[u8], i: usize) {
 fn show_read(r: LayersRead) {
     match r {
         LayersRead::Refused { number, place } => refused(number, place),
-        LayersRead::Done { pieces } => done(pieces),
+        LayersRead::Done { pieces, overlays } => done(pieces),
     }
 }
 
 fn show_written(r: LayersWritten) {
     match r {
         LayersWritten::Refused { number, place } => refused(number, place),
-        LayersWritten::Done { pieces } => done(pieces),
+        LayersWritten::Done { pieces, overlays } => done(pieces),
     }
 }
 
