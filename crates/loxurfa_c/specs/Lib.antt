@@ -1,2 +1,3 @@
 -- What the functions that C calls answer.
 pub mod Packed
+pub mod Statements
