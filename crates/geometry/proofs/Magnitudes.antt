@@ -7,15 +7,15 @@ use Rattle.geometry.specs.Limit.{OnGrid}
 use Rattle.geometry.specs.Lines.{dx, dy, offset, det, numer, MeetingWithin, ProductWithin}
 
 module _ (L : ℕ) (l : Line) (h : OnGrid L l) where
-  dx-within : dx l within (2 * L)
+  pub dx-within : dx l within (2 * L)
   unfolding dx
   dx-within = within-more (within-sub (record { size = h .x2 }) (record { size = h .x1 })) (omega arith)
 
-  dy-within : dy l within (2 * L)
+  pub dy-within : dy l within (2 * L)
   unfolding dy
   dy-within = within-more (within-sub (record { size = h .y2 }) (record { size = h .y1 })) (omega arith)
 
-  offset-within : offset l within (2 * (L * L))
+  pub offset-within : offset l within (2 * (L * L))
   unfolding offset
   offset-within = within-minor (record { size = h .y1 }) (record { size = h .x2 }) (record { size = h .y2 }) (record { size = h .x1 })
 

@@ -1,21 +1,26 @@
-use mathlib.Core.Path.{_∙_}
+use mathlib.Core.Path.{_≡_, _∙_}
 use Prim.Native.Nat.{_≤_}
 use native.Mathlib.Nat.{mul-le-mul}
 use native.Mathlib.Omega.{arith}
 use lib.IntN.{natAbs}
+use Rattle.integer.specs.Integer.{_⊖_, _⊗_}
+use Rattle.integer.proofs.Magnitude.{within-is}
 use Rattle.geometry.specs.declared.Line.{Line}
 use Rattle.geometry.specs.declared.Corners.{Corners}
+use Rattle.geometry.specs.declared.Coefficients.{Coefficients}
 use Rattle.geometry.specs.Limit.{coordinateLimit, OnGrid}
 use Rattle.geometry.specs.Lines.{dx, dy, offset}
-use Rattle.geometry.specs.Code.{CornersOf}
+use Rattle.geometry.specs.Code.{CornersOf, CoefficientsOf}
+use Rattle.geometry.proofs.Magnitudes.{dx-within, dy-within, offset-within}
 use Rattle.geometry.proofs.coefficients_of.Statement.{statement}
 use Rattle.geometry.proofs.coefficients_of.Tie as tie
 
+-- the corners' coordinates are within the limit
 record Near (k : Corners) : Type 0 where
-  x1 : natAbs (k .x1 .v) ≤ 2048
-  y1 : natAbs (k .y1 .v) ≤ 2048
-  x2 : natAbs (k .x2 .v) ≤ 2048
-  y2 : natAbs (k .y2 .v) ≤ 2048
+  x1 : natAbs (k .x1 .v) ≤ coordinateLimit
+  y1 : natAbs (k .y1 .v) ≤ coordinateLimit
+  x2 : natAbs (k .x2 .v) ≤ coordinateLimit
+  y2 : natAbs (k .y2 .v) ≤ coordinateLimit
 
 near : (l : Line) (k : Corners) → OnGrid coordinateLimit l → CornersOf l k → Near k
 near l k h e = record { x1 = rw (e .x1) (h .x1); y1 = rw (e .y1) (h .y1); x2 = rw (e .x2) (h .x2); y2 = rw (e .y2) (h .y2) }
@@ -42,21 +47,27 @@ sub-requires-3 c κs =
     let n = near _ _ (c .before .before .before .before .before .pre) (c .before .before .before .before .corners-of .ensures) in
     omega (arith, c .before .mul .ensures .1, c .mul2 .ensures .1, mul-le-mul (n .y1) (n .x2), mul-le-mul (n .y2) (n .x1))
 
-returns : tie.Need-returns
+-- the three numbers, with the magnitudes that they have under any limit
+coefficients : (l : Line) (k : Corners) (r : Coefficients) → OnGrid coordinateLimit l → CornersOf l k → r .dx .v ≡ k .x2 .v ⊖ k .x1 .v → r .dy .v ≡ k .y2 .v ⊖ k .y1 .v
+    → r .offset .v ≡ k .y1 .v ⊗ k .x2 .v ⊖ k .y2 .v ⊗ k .x1 .v → CoefficientsOf l r
 unfolding dx dy offset
-returns c =
-    let e = c .before .before .before .before .before .corners-of .ensures in
-    let n = near _ _ (c .before .before .before .before .before .before .pre) e in
-    let m = c .before .before .mul in
-    let m2 = c .before .mul2 in
+coefficients l k r h e across up along =
+    let d : r .dx .v ≡ dx l = across ∙ rw (e .x1, e .x2) in
+    let y : r .dy .v ≡ dy l = up ∙ rw (e .y1, e .y2) in
+    let o : r .offset .v ≡ offset l = along ∙ rw (e .x1, e .x2, e .y1, e .y2) in
     record {
-      dx = c .before .before .before .before .sub .ensures .0 ∙ rw (e .x1, e .x2);
-      dy = c .before .before .before .sub2 .ensures .0 ∙ rw (e .y1, e .y2);
-      offset = c .sub3 .ensures .0 ∙ rw (m .ensures .0, m2 .ensures .0, e .x1, e .x2, e .y1, e .y2);
-      dx-small = omega (arith, c .before .before .before .before .sub .ensures .1, n .x1, n .x2);
-      dy-small = omega (arith, c .before .before .before .sub2 .ensures .1, n .y1, n .y2);
-      offset-small = omega (arith, c .sub3 .ensures .1, m .ensures .1, m2 .ensures .1, mul-le-mul (n .y1) (n .x2), mul-le-mul (n .y2) (n .x1));
+      dx = d;
+      dy = y;
+      offset = o;
+      dx-small = within-is d (dx-within coordinateLimit l h) .size;
+      dy-small = within-is y (dy-within coordinateLimit l h) .size;
+      offset-small = within-is o (offset-within coordinateLimit l h) .size;
     }
+
+returns : tie.Need-returns
+returns c =
+    coefficients _ _ _ (c .before .before .before .before .before .before .pre) (c .before .before .before .before .before .corners-of .ensures) (c .before .before .before .before .sub .ensures .0) (c .before .before .before .sub2 .ensures .0)
+    (c .sub3 .ensures .0 ∙ rw (c .before .before .mul .ensures .0, c .before .mul2 .ensures .0))
 
 pub coefficients-of-spec : {M : Type 1} → statement M
 coefficients-of-spec = tie.close (tie.spec corners-of-requires sub-requires sub-requires-2 mul-requires mul-requires-2 sub-requires-3 returns)
