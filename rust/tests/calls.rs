@@ -14,15 +14,15 @@ use support::files::{file_bytes, file_words};
 use support::programs::{file, root, run};
 use support::{rectangle, Random};
 
-/// tests/c/calls.c, compiled so.
-fn compiled(compiler: &str, options: &[&str], name: &str) -> PathBuf {
+/// tests/c/calls.c, compiled so and linked with the functions in that file.
+fn compiled(compiler: &str, options: &[&str], functions: &str, name: &str) -> PathBuf {
     let program = Path::new(env!("CARGO_TARGET_TMPDIR")).join(name);
     let status = Command::new(compiler)
         .current_dir(root())
         .args(options)
         .args(["-Wall", "-Wextra", "-Wpedantic", "-Werror", "-pthread"])
         .args(["-Iinclude", "rust/tests/c/calls.c", "-x", "none"])
-        .args([env!("LOXURFA_ARCHIVE"), "-o"])
+        .args([functions, "-o"])
         .arg(&program)
         .status()
         .expect("a compiler");
@@ -158,18 +158,47 @@ fn random_words(words: usize) -> Vec<i32> {
 
 #[test]
 fn calls_from_c() {
-    let calls = calls(&mut Random(93), 300);
+    let calls = calls(&mut Random(93), 200);
     for (compiler, options, name) in [
         ("cc", &["-std=c99", "-O2"][..], "calls"),
-        ("cc", &["-std=c99", "-O0"], "calls-plain"),
         ("c++", &["-x", "c++"], "calls++"),
     ] {
-        let program = compiled(compiler, options, name);
+        let program = compiled(compiler, options, env!("LOXURFA_ARCHIVE"), name);
         let deepest = compare(&program, &calls);
         println!("{name}: {deepest} bytes of stack");
         assert!(deepest > 1000 && deepest < STACK_BYTES, "{deepest} bytes");
         fs::remove_file(program).expect("removed");
     }
+}
+
+/// A buffer without elements is NULL in calls.c, and an address by the time it gets to the archive.
+#[test]
+fn no_null() {
+    let functions = "rust/tests/c/addresses.c";
+    let program = compiled("cc", &["-std=c99"], functions, "addresses");
+    let random = &mut Random(95);
+    let mut calls: Vec<Call> = Vec::new();
+    for function in Function::ALL {
+        for _ in 0..20 {
+            let mut call = any_call(random, function);
+            calls.push(call.clone());
+            call.buffers
+                .iter_mut()
+                .for_each(|buffer| buffer.truncate(0));
+            calls.push(call);
+        }
+    }
+    let input: Vec<u8> = calls.iter().flat_map(written).collect();
+    let output = run::<&str>(&program, &[], &input, input.len());
+    let mut rest = &output.stdout[..];
+    for call in &calls {
+        let buffers: usize = call.buffers.iter().map(|b| elements(b).len()).sum();
+        let (outcome, later) = rest.split_at(8 + 4 * 6 + buffers);
+        assert_eq!(outcome[..8], 1u64.to_ne_bytes(), "{:?}", call.function);
+        rest = later;
+    }
+    assert!(rest.is_empty());
+    fs::remove_file(program).expect("removed");
 }
 
 /// The names of the functions that a text calls or declares.

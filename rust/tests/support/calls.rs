@@ -80,6 +80,14 @@ impl Buffer {
         }
     }
 
+    pub fn truncate(&mut self, len: usize) {
+        match self {
+            Buffer::Bytes(all) => all.truncate(len),
+            Buffer::Words(all) => all.truncate(len),
+            Buffer::Numbers(all) => all.truncate(len),
+        }
+    }
+
     pub fn len(&self) -> usize {
         match self {
             Buffer::Bytes(all) => all.len(),
