@@ -6,36 +6,46 @@
 
 #include "loxurfa.h"
 
-enum { WIDTH = 24, ROOM = 512 * WIDTH };
+enum { WIDTH = LOXURFA_TRAPEZOID_WORDS, ROOM = LOXURFA_MAX_TRAPEZOIDS * WIDTH };
 
-static uint8_t file[65536];
-static int32_t words[16384], out[ROOM], scratch[ROOM];
+/* a byte more than a file may have, so that a longer one is refused */
+static uint8_t file[LOXURFA_MAX_FILE_BYTES + 1];
+static int32_t words[LOXURFA_MAX_LAYER_FILE_WORDS], out[ROOM], scratch[ROOM];
 
 static int refused(uint64_t answer)
 {
-    if (answer >> 63 == 0)
+    if (!loxurfa_refused(answer))
         return 0;
-    printf("refused %u place %u\n", (unsigned)(answer >> 32 & 255), (unsigned)(answer & 0xffffffff));
+    printf("refused %u place %u\n", (unsigned)loxurfa_number(answer), (unsigned)loxurfa_place(answer));
     return 1;
 }
 
 int main(void)
 {
     size_t bytes = fread(file, 1, sizeof file, stdin);
-    if (refused(loxurfa_read_layers(file, bytes, words, 16384)))
+    if (ferror(stdin)) {
+        perror("standard input");
+        return 2;
+    }
+    if (refused(loxurfa_read_layers(file, bytes, words, LOXURFA_MAX_LAYER_FILE_WORDS)))
         return 1;
     if (words[0] != 2)
         return 2;
 
     /* the number of layers, offset and length of each, then the trapezoids */
     const int32_t *a = words + 5, *b = a + WIDTH * words[2];
-    uint64_t answer = loxurfa_combine(0, a, WIDTH * words[2], b, WIDTH * words[4], out, ROOM, scratch, ROOM);
+    size_t a_words = WIDTH * (size_t)words[2], b_words = WIDTH * (size_t)words[4];
+    uint64_t answer = loxurfa_combine(LOXURFA_UNION, a, a_words, b, b_words, out, ROOM, scratch, ROOM);
     if (refused(answer))
         return 1;
 
-    unsigned pieces = (unsigned)(answer >> 32);
+    unsigned pieces = loxurfa_value(answer);
     printf("pieces %u\n", pieces);
     for (unsigned i = 0; i < WIDTH * pieces; i++)
         printf("%d%c", (int)out[i], i % WIDTH == WIDTH - 1 ? '\n' : ' ');
+    if (fflush(stdout) != 0 || ferror(stdout)) {
+        perror("standard output");
+        return 2;
+    }
     return 0;
 }

@@ -1,18 +1,27 @@
-/* Layers of trapezoids: polygons fractured into them, set operations, deoverlapping, equality and the point question, exact
- * for every input.
+/* Polygons fractured into trapezoids; set operations, deoverlapping, equality, the point question and connected components of
+ * layers of trapezoids; layer files: exact for every input. docs/CALLS.md has the whole table of refusals, their order and
+ * places, and the rule of space.
  *
- * A layer is a pointer to signed 32-bit words and their number, 24 words to a trapezoid, at most 512 trapezoids: the two
- * lines of its left base, the two of its right base, its bottom and its top, each line as x1 y1 x2 y2 with x1 < x2 and
- * coordinates from -2048 to 2048.
+ * LAYERS. A layer is signed 32-bit words and their number: LOXURFA_TRAPEZOID_WORDS words to a trapezoid, at most
+ * LOXURFA_MAX_TRAPEZOIDS trapezoids. A trapezoid is the two lines of its left base, the two of its right base, its bottom and
+ * its top, each line as x1 y1 x2 y2 with x1 < x2 and coordinates from -LOXURFA_COORDINATE_LIMIT to LOXURFA_COORDINATE_LIMIT.
  *
- * `out` takes trapezoids in the same form; past them its words are set to 0. `scratch` has as many words as `out`, and all
- * of them are 0 in the end. What either held before does not matter. `out` and `scratch` overlap neither each other nor a
- * layer; two layers may be the same memory. A pointer is aligned to 4 bytes and not null, also where the length is 0.
+ * OUTPUTS. `out` takes trapezoids in the same form; past them its words are set to 0. `scratch` has as many words as `out`, and
+ * all of them are 0 in the end. What either held before does not matter.
  *
- * Each function answers one number:
- *   bit 63 set    refused: the refusal's number in bits 32 to 39, its place in bits 0 to 31. With the numbers 1 to 11 `out`
- *                 and `scratch` are as they were, with 12 (no space) both are 0.
- *   bit 63 clear  done: what the function says in bits 32 to 62, the number of overlays made in bits 0 to 31.
+ * MEMORY. What a call writes (`out`, `scratch`, `numbers`) overlaps nothing else that it is lent: no other output, no layer, not
+ * `file` and not `words`. Nothing checks that: reading a layer file in place, for one, destroys it and answers success. What is only
+ * read may be the same memory. Words are aligned to 4 bytes, bytes to none. A pointer may be NULL where its length is 0, and only
+ * there.
+ *
+ * CALLS AT ONCE. No call keeps anything, and none allocates: any number of threads may call, each with outputs of its own. A call
+ * takes no more than LOXURFA_STACK_BYTES of stack.
+ *
+ * ANSWERS. Each call answers one number, which the functions loxurfa_refused to loxurfa_overlays take apart:
+ *   bit 63 set    refused: the refusal's number in bits 32 to 39, its place in bits 0 to 31. With the numbers 1 to 11 nothing
+ *                 lent has changed, with 12 (no space) the outputs and `scratch` are all 0.
+ *   bit 63 clear  done: the call's value, as said at each, in bits 32 to 62, the number of overlays made in bits 0 to 31 (0 where
+ *                 nothing is said).
  */
 #ifndef LOXURFA_H
 #define LOXURFA_H
@@ -24,44 +33,158 @@
 extern "C" {
 #endif
 
-/* The trapezoids of the polygons of a polygon file, one polygon after the other: the points with a winding number other than 0.
- * The file has the number of polygons, offset and length of each in vertices, then x and y of each vertex, as signed 32-bit words,
- * low byte first; at most 64 polygons of 3 to 32 vertices, with coordinates from -2048 to 2048. Bits 32 to 62: the trapezoids
- * written. Bits 0 to 31: 0. */
+/* Limits. */
+#define LOXURFA_TRAPEZOID_WORDS 24     /* words of a trapezoid */
+#define LOXURFA_MAX_TRAPEZOIDS 512     /* in a layer, an output, or all layers of a file */
+#define LOXURFA_COORDINATE_LIMIT 2048  /* coordinates are from minus this to this */
+#define LOXURFA_MAX_DENOMINATOR 1024   /* of a point */
+#define LOXURFA_MAX_POLYGONS 64        /* in a polygon file */
+#define LOXURFA_MIN_VERTICES 3         /* of a polygon */
+#define LOXURFA_MAX_VERTICES 32
+#define LOXURFA_MAX_LAYERS 16          /* in a layer file */
+#define LOXURFA_MAX_FILE_BYTES 65532   /* more are refused unread */
+#define LOXURFA_MAX_LAYER_FILE_WORDS 12321 /* of a layer file that passes: 1 + 2 * 16 + 24 * 512 */
+#define LOXURFA_STACK_BYTES 16384      /* more than any call takes */
+
+/* Codes of set operations. */
+#define LOXURFA_UNION 0
+#define LOXURFA_INTERSECTION 1
+#define LOXURFA_A_MINUS_B 2
+#define LOXURFA_B_MINUS_A 3
+#define LOXURFA_SYMMETRIC_DIFFERENCE 4
+
+/* Numbers of refusals, by what is refused. */
+#define LOXURFA_REFUSED_LENGTH 1 /* the length of a layer, an output, `scratch` or `numbers` */
+#define LOXURFA_REFUSED_CODE 2
+#define LOXURFA_REFUSED_POINT 3
+#define LOXURFA_REFUSED_FILE 4   /* the number of a file's bytes */
+#define LOXURFA_REFUSED_COUNT 5  /* the number of polygons or layers */
+#define LOXURFA_REFUSED_PAIR 6   /* an offset or a length, or the file's end */
+#define LOXURFA_REFUSED_GRID 7   /* a coordinate */
+#define LOXURFA_REFUSED_LINE 8
+#define LOXURFA_REFUSED_BASE 9
+#define LOXURFA_REFUSED_BASES 10
+#define LOXURFA_REFUSED_SIDES 11
+#define LOXURFA_REFUSED_SPACE 12
+
+/* Values of loxurfa_equal. */
+#define LOXURFA_SAME 0
+#define LOXURFA_DIFFERS_IN_A 1 /* some points lie in a and not in b */
+#define LOXURFA_DIFFERS_IN_B 2 /* none do, but some lie in b and not in a */
+
+/* Whether an answer is a refusal; then its number and place, else the value and the overlays. */
+static inline int loxurfa_refused(uint64_t answer) { return (int)(answer >> 63); }
+static inline uint32_t loxurfa_number(uint64_t answer) { return (uint32_t)(answer >> 32 & 0xff); }
+static inline uint32_t loxurfa_place(uint64_t answer) { return (uint32_t)(answer & 0xffffffff); }
+static inline uint32_t loxurfa_value(uint64_t answer) { return (uint32_t)(answer >> 32 & 0x7fffffff); }
+static inline uint32_t loxurfa_overlays(uint64_t answer) { return (uint32_t)(answer & 0xffffffff); }
+
+/* The trapezoids of the polygons of a polygon file (docs/FORMATS.md), one polygon after the other: the points with a winding
+ * number other than 0. Value: the trapezoids written. */
 uint64_t loxurfa_fracture(const uint8_t *file, size_t file_bytes, int32_t *out, size_t out_words,
                           int32_t *scratch, size_t scratch_words);
 
-/* The set operation with this code on a and b: 0 union, 1 intersection, 2 a less b, 3 b less a, 4 either and not both.
- * Bits 32 to 62: the trapezoids written. */
+/* The set operation with this code on a and b. Value: the trapezoids written. Overlays: those made. */
 uint64_t loxurfa_combine(uint32_t code, const int32_t *a, size_t a_words, const int32_t *b, size_t b_words,
                          int32_t *out, size_t out_words, int32_t *scratch, size_t scratch_words);
 
-/* The trapezoids of a without overlaps. Bits 32 to 62: the trapezoids written. */
+/* The trapezoids of a without overlaps. Value: the trapezoids written. Overlays: those made. */
 uint64_t loxurfa_deoverlap(const int32_t *a, size_t a_words, int32_t *out, size_t out_words,
                            int32_t *scratch, size_t scratch_words);
 
-/* Whether the same points lie in a and b. Bits 32 to 62: 0 the same; 1 some points lie in a and not in b; 2 none do, but
- * some lie in b and not in a. `out` is 0 in the end. */
+/* Whether the same points lie in a and b. Value: LOXURFA_SAME or one of the two others. Overlays: those made. `out` is room to
+ * work in, and all 0 in the end. */
 uint64_t loxurfa_equal(const int32_t *a, size_t a_words, const int32_t *b, size_t b_words,
                        int32_t *out, size_t out_words, int32_t *scratch, size_t scratch_words);
 
-/* Whether the point (x/d, y/d) lies in the result of the set operation with this code on a and b; d is from 1 to 1024, x
- * and y from -2048 times d to 2048 times d. Bits 32 to 62: 1 yes, 0 no. Bits 0 to 31: 0. */
+/* Whether the point (x/d, y/d) lies in the result of the set operation with this code on a and b; d is from 1 to
+ * LOXURFA_MAX_DENOMINATOR, x and y from -LOXURFA_COORDINATE_LIMIT times d to LOXURFA_COORDINATE_LIMIT times d. Value: 1 yes, 0 no. */
 uint64_t loxurfa_contains(int32_t x, int32_t y, int32_t d, const int32_t *a, size_t a_words,
                           const int32_t *b, size_t b_words, uint32_t code);
 
-/* The connected components of a: two trapezoids are in one component if a chain of touching ones joins them, with their edges. `numbers`
- * has one entry for each trapezoid, and gets the lowest number of a trapezoid of its component, counted from 0. Bits 32 to 62: the
- * number of components. Bits 0 to 31: 0. */
+/* The connected components of a. Two trapezoids touch if their closed forms, edges and corners included, share a point; two are in
+ * one component if a chain of trapezoids leads from the one to the other in which each touches the next. `numbers` has one entry for
+ * each trapezoid, and gets the lowest number of a trapezoid of its component, counted from 0. Value: the number of components. */
 uint64_t loxurfa_components(const int32_t *a, size_t a_words, uint32_t *numbers, size_t numbers_count);
 
-/* The words of a layer file: the number of layers, offset and length of each in trapezoids, then the trapezoids. A file has the same
- * words, low byte first. `out` has any length; past the words it is set to 0. Bits 32 to 62: the trapezoids of all layers.
- * Bits 0 to 31: 0. 12 (no space): `out` is shorter, and all 0. */
+/* The words of a layer file (docs/FORMATS.md): the number of layers, offset and length of each in trapezoids, then the trapezoids.
+ * `out` has any length; past the words it is set to 0. Value: the trapezoids of all layers. */
 uint64_t loxurfa_read_layers(const uint8_t *file, size_t file_bytes, int32_t *out, size_t out_words);
 
-/* The file with these words, the same way. */
+/* The layer file with these words, low byte first. `out` has any length; past the file it is set to 0. Value: the same. */
 uint64_t loxurfa_write_layers(const int32_t *words, size_t words_count, uint8_t *out, size_t out_bytes);
+
+/* The archive's own functions take no NULL. Under the names above C calls the functions below, which put a real address in the
+ * place of a pointer with length 0. */
+static inline uint64_t loxurfa_call_fracture(const uint8_t *file, size_t file_bytes, int32_t *out, size_t out_words,
+                                             int32_t *scratch, size_t scratch_words)
+{
+    uint8_t byte = 0;
+    int32_t word = 0;
+    return loxurfa_fracture(file_bytes ? file : &byte, file_bytes, out_words ? out : &word, out_words,
+                            scratch_words ? scratch : &word, scratch_words);
+}
+
+static inline uint64_t loxurfa_call_combine(uint32_t code, const int32_t *a, size_t a_words, const int32_t *b, size_t b_words,
+                                            int32_t *out, size_t out_words, int32_t *scratch, size_t scratch_words)
+{
+    int32_t word = 0;
+    return loxurfa_combine(code, a_words ? a : &word, a_words, b_words ? b : &word, b_words,
+                           out_words ? out : &word, out_words, scratch_words ? scratch : &word, scratch_words);
+}
+
+static inline uint64_t loxurfa_call_deoverlap(const int32_t *a, size_t a_words, int32_t *out, size_t out_words,
+                                              int32_t *scratch, size_t scratch_words)
+{
+    int32_t word = 0;
+    return loxurfa_deoverlap(a_words ? a : &word, a_words, out_words ? out : &word, out_words,
+                             scratch_words ? scratch : &word, scratch_words);
+}
+
+static inline uint64_t loxurfa_call_equal(const int32_t *a, size_t a_words, const int32_t *b, size_t b_words,
+                                          int32_t *out, size_t out_words, int32_t *scratch, size_t scratch_words)
+{
+    int32_t word = 0;
+    return loxurfa_equal(a_words ? a : &word, a_words, b_words ? b : &word, b_words,
+                         out_words ? out : &word, out_words, scratch_words ? scratch : &word, scratch_words);
+}
+
+static inline uint64_t loxurfa_call_contains(int32_t x, int32_t y, int32_t d, const int32_t *a, size_t a_words,
+                                             const int32_t *b, size_t b_words, uint32_t code)
+{
+    int32_t word = 0;
+    return loxurfa_contains(x, y, d, a_words ? a : &word, a_words, b_words ? b : &word, b_words, code);
+}
+
+static inline uint64_t loxurfa_call_components(const int32_t *a, size_t a_words, uint32_t *numbers, size_t numbers_count)
+{
+    int32_t word = 0;
+    uint32_t number = 0;
+    return loxurfa_components(a_words ? a : &word, a_words, numbers_count ? numbers : &number, numbers_count);
+}
+
+static inline uint64_t loxurfa_call_read_layers(const uint8_t *file, size_t file_bytes, int32_t *out, size_t out_words)
+{
+    uint8_t byte = 0;
+    int32_t word = 0;
+    return loxurfa_read_layers(file_bytes ? file : &byte, file_bytes, out_words ? out : &word, out_words);
+}
+
+static inline uint64_t loxurfa_call_write_layers(const int32_t *words, size_t words_count, uint8_t *out, size_t out_bytes)
+{
+    int32_t word = 0;
+    uint8_t byte = 0;
+    return loxurfa_write_layers(words_count ? words : &word, words_count, out_bytes ? out : &byte, out_bytes);
+}
+
+#define loxurfa_fracture loxurfa_call_fracture
+#define loxurfa_combine loxurfa_call_combine
+#define loxurfa_deoverlap loxurfa_call_deoverlap
+#define loxurfa_equal loxurfa_call_equal
+#define loxurfa_contains loxurfa_call_contains
+#define loxurfa_components loxurfa_call_components
+#define loxurfa_read_layers loxurfa_call_read_layers
+#define loxurfa_write_layers loxurfa_call_write_layers
 
 #ifdef __cplusplus
 }

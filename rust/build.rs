@@ -1,4 +1,5 @@
-//! Links `libloxurfa_c.a` from LOXURFA_LIB_DIR, or from `../target/staticlib`.
+//! Links `libloxurfa_c.a` from LOXURFA_LIB_DIR, or from `../target/staticlib`, where `rt staticlib
+//! loxurfa_c` writes it. Tests have its path as LOXURFA_ARCHIVE.
 
 use std::env;
 use std::path::PathBuf;
@@ -16,9 +17,13 @@ fn main() {
     let archive = directory.join("libloxurfa_c.a");
     println!("cargo:rerun-if-changed={}", archive.display());
     if !archive.is_file() {
-        eprintln!("{} is missing; set LOXURFA_LIB_DIR", archive.display());
+        eprintln!(
+            "{} is missing: `rt staticlib loxurfa_c` at the repository's root makes it, LOXURFA_LIB_DIR names another folder",
+            archive.display()
+        );
         std::process::exit(1);
     }
+    println!("cargo:rustc-env=LOXURFA_ARCHIVE={}", archive.display());
     println!("cargo:rustc-link-search=native={}", directory.display());
     println!("cargo:rustc-link-lib=static=loxurfa_c");
 }

@@ -10,6 +10,7 @@
 use loxurfa::{combine_by_number, decode_layers, encode_layers};
 use loxurfa::{Refusal, MAX_TRAPEZOIDS, TRAPEZOID_WORDS};
 use std::ffi::{OsStr, OsString};
+use std::io::{self, Write};
 use std::process::ExitCode;
 use std::{env, fs};
 
@@ -62,18 +63,19 @@ fn run(arguments: &[OsString]) -> Result<String, Trouble> {
 
 fn main() -> ExitCode {
     let arguments: Vec<OsString> = env::args_os().skip(1).collect();
-    match run(&arguments) {
-        Ok(answer) => {
-            println!("{answer}");
-            ExitCode::SUCCESS
-        }
-        Err(Trouble::Refused(refusal)) => {
-            println!("{refusal}");
-            ExitCode::FAILURE
-        }
-        Err(Trouble::Other(text)) => {
-            eprintln!("{text}");
-            ExitCode::from(2)
-        }
+    let (text, status) = match run(&arguments) {
+        Ok(answer) => (answer, ExitCode::SUCCESS),
+        Err(Trouble::Refused(refusal)) => (refusal.to_string(), ExitCode::FAILURE),
+        Err(Trouble::Other(text)) => return failed(&text),
+    };
+    match writeln!(io::stdout(), "{text}") {
+        Ok(()) => status,
+        Err(error) => failed(&format!("standard output: {error}")),
     }
+}
+
+fn failed(text: &str) -> ExitCode {
+    // Nothing is left to do where standard error takes no line either.
+    let _ = writeln!(io::stderr(), "{text}");
+    ExitCode::from(2)
 }

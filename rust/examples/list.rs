@@ -4,7 +4,8 @@
 //!
 //! Fractures the polygons, deoverlaps what they give, each into 512 records, and prints `pieces` and
 //! their number, then a line of 24 words for each trapezoid; or one line, `refused` with the
-//! refusal's number, `place` with its place. Without a path it reads standard input.
+//! refusal's number, `place` with its place, and ends with 1. Any other trouble is told on standard
+//! error and ends with 2. Without a path it reads standard input.
 
 use loxurfa::{deoverlap, fracture, Refusal, MAX_TRAPEZOIDS, TRAPEZOID_WORDS};
 use std::io::{self, Read, Write};
@@ -43,25 +44,29 @@ fn input(path: Option<impl AsRef<std::path::Path>>) -> io::Result<Vec<u8>> {
     }
 }
 
-fn main() -> ExitCode {
+/// Prints the listing and gives the status.
+fn run() -> Result<ExitCode, String> {
     let mut arguments = env::args_os().skip(1);
     let path = arguments.next();
     if arguments.next().is_some() {
-        eprintln!("usage: list [FILE]");
-        return ExitCode::from(2);
+        return Err("usage: list [FILE]".to_string());
     }
-    let listed = input(path).and_then(|file| {
-        let text = match trapezoids(&file) {
-            Ok(words) => listing(&words),
-            Err(refusal) => format!("{refusal}\n"),
-        };
-        io::stdout().write_all(text.as_bytes())
-    });
-    match listed {
-        Ok(()) => ExitCode::SUCCESS,
-        Err(error) => {
-            eprintln!("list: {error}");
-            ExitCode::from(2)
-        }
-    }
+    let file = input(path).map_err(|error| format!("list: {error}"))?;
+    let (text, status) = match trapezoids(&file) {
+        Ok(words) => (listing(&words), ExitCode::SUCCESS),
+        Err(refusal) => (format!("{refusal}\n"), ExitCode::FAILURE),
+    };
+    let mut out = io::stdout();
+    out.write_all(text.as_bytes())
+        .and_then(|()| out.flush())
+        .map_err(|error| format!("list: standard output: {error}"))?;
+    Ok(status)
+}
+
+fn main() -> ExitCode {
+    run().unwrap_or_else(|text| {
+        // Nothing is left to do where standard error takes no line either.
+        let _ = writeln!(io::stderr(), "{text}");
+        ExitCode::from(2)
+    })
 }

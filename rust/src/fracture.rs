@@ -5,14 +5,14 @@ use crate::{done, raw, Done, Refusal};
 /// The most polygons in a polygon file.
 pub const MAX_POLYGONS: usize = 64;
 
-/// The most vertices in a polygon. The fewest are 3.
+/// The fewest vertices in a polygon.
+pub const MIN_VERTICES: usize = 3;
+
+/// The most vertices in a polygon.
 pub const MAX_VERTICES: usize = 32;
 
 /// Writes the trapezoids of the polygons of a polygon file into `out`, polygon by polygon. Those of
-/// one polygon are disjoint and hold the points whose winding number isn't 0. No overlays are made.
-///
-/// A polygon file is `i32` words, low byte first: the number of polygons, offset and length of each
-/// in vertices, then the vertices x y.
+/// one polygon are disjoint and hold the points whose winding number isn't 0.
 pub fn fracture(file: &[u8], out: &mut [i32], scratch: &mut [i32]) -> Result<Done, Refusal> {
     done(raw::fracture(file, out, scratch))
 }

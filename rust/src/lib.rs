@@ -3,9 +3,8 @@
 //! A layer is a slice of `i32` words, 24 for each trapezoid: left base (two lines), right base
 //! (two lines), bottom, top. A line is x1 y1 x2 y2 with x1 < x2, each from -2048 to 2048.
 //!
-//! An operation that writes trapezoids is lent an output and a scratch area of the same length. On
-//! success the result stands at the start of the output; the rest of it and the whole scratch area
-//! are zero. Refusals 1 to 11 change nothing. Refusal 12 leaves both zero.
+//! docs/CALLS.md of the repository says what each call takes, answers and writes, and has the table of
+//! refusals and the rule of space; docs/FORMATS.md has the files.
 
 #![deny(unsafe_op_in_unsafe_fn)]
 
@@ -19,14 +18,55 @@ mod files;
 mod fracture;
 
 pub use components::components;
-pub use files::{decode_layers, encode_layers, read_layers, write_layers, MAX_LAYERS};
-pub use fracture::{fracture, MAX_POLYGONS, MAX_VERTICES};
+pub use files::{decode_layers, encode_layers, read_layers, write_layers};
+pub use files::{MAX_LAYERS, MAX_LAYER_FILE_WORDS};
+pub use fracture::{fracture, MAX_POLYGONS, MAX_VERTICES, MIN_VERTICES};
 
 /// Words in one trapezoid.
 pub const TRAPEZOID_WORDS: usize = 24;
 
 /// The most trapezoids in one layer or output.
 pub const MAX_TRAPEZOIDS: usize = 512;
+
+/// Coordinates are from -COORDINATE_LIMIT to COORDINATE_LIMIT.
+pub const COORDINATE_LIMIT: i32 = 2048;
+
+/// The largest denominator of a point.
+pub const MAX_DENOMINATOR: i32 = 1024;
+
+/// The most bytes of a file.
+pub const MAX_FILE_BYTES: usize = 65_532;
+
+/// Bytes of stack, more than any call takes.
+pub const STACK_BYTES: usize = 16_384;
+
+/// The numbers of refusals, by what is refused.
+pub mod refused {
+    /// The length of a layer, an output, a scratch area or a list of numbers.
+    pub const LENGTH: u8 = 1;
+    /// The code.
+    pub const CODE: u8 = 2;
+    /// The point.
+    pub const POINT: u8 = 3;
+    /// The number of a file's bytes.
+    pub const FILE: u8 = 4;
+    /// The number of polygons or layers.
+    pub const COUNT: u8 = 5;
+    /// An offset or a length, or the file's end.
+    pub const PAIR: u8 = 6;
+    /// A coordinate.
+    pub const GRID: u8 = 7;
+    /// A line.
+    pub const LINE: u8 = 8;
+    /// A base.
+    pub const BASE: u8 = 9;
+    /// The order of the bases.
+    pub const BASES: u8 = 10;
+    /// Bottom and top.
+    pub const SIDES: u8 = 11;
+    /// No space.
+    pub const SPACE: u8 = 12;
+}
 
 /// Which set operation.
 #[derive(Clone, Copy, Debug, PartialEq, Eq)]
@@ -57,10 +97,9 @@ impl Code {
 /// Why a call was refused.
 #[derive(Clone, Copy, Debug, PartialEq, Eq)]
 pub struct Refusal {
-    /// The refusal's number, 1 to 12.
+    /// The refusal's number, one of [`refused`].
     pub number: u8,
-    /// The trapezoid it was met at (B's numbered on from A's, a file's through all its layers), the
-    /// polygon, the pair of offset and length (one past the last for the end of the file), or 0.
+    /// Where it was met: what is counted depends on number and call (docs/CALLS.md, "Refusals").
     pub place: u32,
 }
 
@@ -124,8 +163,7 @@ pub fn deoverlap(a: &[i32], out: &mut [i32], scratch: &mut [i32]) -> Result<Done
     done(raw::deoverlap(a, out, scratch))
 }
 
-/// Whether layers A and B hold the same points. `out` and `scratch` are room to work in; on success
-/// both are left zero.
+/// Whether layers A and B hold the same points. `out` and `scratch` are room to work in.
 pub fn equal(
     a: &[i32],
     b: &[i32],
@@ -177,10 +215,7 @@ fn done(answer: u64) -> Result<Done, Refusal> {
     Ok(Done { pieces, overlays })
 }
 
-/// The calls with their answers as the library gives them.
-///
-/// Bit 63 set: refused, the number in bits 32 to 39, the place in bits 0 to 31. Else the value in
-/// bits 32 to 62 and the overlays in bits 0 to 31.
+/// The calls with their answers as the library gives them (docs/CALLS.md, "Answers").
 pub mod raw {
     mod components;
     mod files;

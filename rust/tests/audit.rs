@@ -432,6 +432,8 @@ fn named_paths() {
     for name in [
         "README.md",
         "docs/AUDIT.md",
+        "docs/CALLS.md",
+        "docs/DECISIONS.md",
         "docs/FORMATS.md",
         "examples/README.md",
     ] {

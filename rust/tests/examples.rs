@@ -6,8 +6,8 @@ mod support;
 
 use reference::listing::{list, listing};
 use reference::{read_layer, WORDS};
-use std::fs;
-use std::path::PathBuf;
+use std::fs::{self, File, OpenOptions};
+use std::path::{Path, PathBuf};
 use std::process::Command;
 use std::sync::atomic::{AtomicUsize, Ordering};
 use support::files::{damage_bytes, damage_file, file_bytes, file_words};
@@ -15,7 +15,7 @@ use support::polygons::{any_polygons, polygon_words};
 use support::programs::{example, file, root, run, written};
 use support::{rectangle, Random};
 
-/// A polygon file listed by the example: by its path, and from standard input.
+/// A polygon file listed by the example: by its path, and from standard input. Refused, it ends with 1.
 fn listed(bytes: &[u8]) -> String {
     let path = temporary();
     fs::write(&path, bytes).expect("written");
@@ -24,8 +24,8 @@ fn listed(bytes: &[u8]) -> String {
     let by_input = run::<&str>(&example("list"), &[], bytes, 1 << 20);
     assert!(by_path.stderr.is_empty() && by_input.stderr.is_empty());
     let (text, status) = written(by_path);
-    assert_eq!(status, Some(0));
-    assert_eq!((text.clone(), Some(0)), written(by_input));
+    assert_eq!(status, Some(text.starts_with("refused ") as i32));
+    assert_eq!((text.clone(), status), written(by_input));
     text
 }
 
@@ -131,6 +131,54 @@ fn list_in_trouble() {
     for arguments in [vec!["one", "two"], vec!["no/such/file"]] {
         let output = run(&example("list"), &arguments, &[], 1);
         assert!(!output.stderr.is_empty());
+        assert_eq!(written(output), (String::new(), Some(2)));
+    }
+}
+
+/// Runs a program on examples/two.layers with standard output, and then standard error too, on a device that
+/// is always full: a line on standard error and status 2. Nothing where there is no such device.
+fn assert_full_device(program: &Path, arguments: &[&str]) {
+    let full = || OpenOptions::new().write(true).open("/dev/full").ok();
+    let input = || File::open(root().join("examples/two.layers")).expect("there");
+    let start = || {
+        let mut command = Command::new(program);
+        command.current_dir(root()).args(arguments).stdin(input());
+        command
+    };
+    let (Some(out), Some(also), Some(error)) = (full(), full(), full()) else {
+        return;
+    };
+    let output = start().stdout(out).output().expect("run");
+    let text = String::from_utf8(output.stderr).expect("text");
+    assert!(
+        text.contains("standard output") && text.lines().count() == 1,
+        "{text}"
+    );
+    assert_eq!(output.status.code(), Some(2));
+    let output = start().stdout(also).stderr(error).output().expect("run");
+    assert_eq!(output.status.code(), Some(2));
+}
+
+#[test]
+fn full_devices() {
+    assert_full_device(&example("list"), &["examples/plate.polygons"]);
+    // Refused: two.layers is no polygon file.
+    assert_full_device(&example("list"), &[]);
+    let out = temporary();
+    let path = out.to_str().expect("text");
+    let two = "examples/two.layers";
+    assert_full_device(&example("combine"), &[two, path, "0", "0", "1"]);
+    assert_full_device(&example("combine"), &[two, path, "5", "0", "1"]);
+    fs::remove_file(&out).expect("the file was written before its line");
+    // The file that is to be written, on a full device.
+    if Path::new("/dev/full").exists() {
+        let arguments = [two, "/dev/full", "0", "0", "1"];
+        let started = Command::new(example("combine"))
+            .current_dir(root())
+            .args(arguments)
+            .output();
+        let output = started.expect("run");
+        assert!(output.stderr.starts_with(b"/dev/full: "), "{output:?}");
         assert_eq!(written(output), (String::new(), Some(2)));
     }
 }
@@ -300,7 +348,7 @@ fn union_in_c() {
             "-Werror",
             "-Iinclude",
         ])
-        .args(["examples/union.c", "target/staticlib/libloxurfa_c.a", "-o"])
+        .args(["examples/union.c", env!("LOXURFA_ARCHIVE"), "-o"])
         .arg(&program)
         .status()
         .expect("a C compiler");
@@ -308,6 +356,7 @@ fn union_in_c() {
     let file = file("examples/two.layers");
     let run_on = |input: &[u8]| written(run::<&str>(&program, &[], input, 4096));
     assert_eq!(run_on(&file), (expected, Some(0)));
+    assert_full_device(&program, &[]);
     assert_eq!(
         run_on(&file[1..]),
         ("refused 4 place 0\n".to_string(), Some(1))

@@ -12,8 +12,13 @@ use reference::listing::list;
 use reference::LIMIT;
 use std::env;
 use std::fs::File;
-use std::path::PathBuf;
+use std::io::Write;
+use std::os::fd::OwnedFd;
+use std::os::unix::net::UnixStream;
+use std::path::{Path, PathBuf};
 use std::process::{Command, Output, Stdio};
+use std::thread;
+use std::time::Duration;
 use support::files::{damage_bytes, damage_file, file_bytes};
 use support::polygons::{any_polygons, polygon_file, polygon_words};
 use support::programs::{file, root, run};
@@ -85,6 +90,98 @@ fn known_files() {
         let text = std::str::from_utf8(text).expect("text");
         assert_printed(output.expect("run"), text, &[]);
     }
+}
+
+/// A file whose parts come one after the other, with a wait between them.
+#[test]
+fn in_parts() {
+    let plate = file("examples/plate.polygons");
+    let listing = file("examples/plate.listing");
+    for step in [1, 3, 100, 227] {
+        let (mut writer, reader) = UnixStream::pair().expect("a pair");
+        let output = thread::scope(|scope| {
+            let plate = &plate;
+            scope.spawn(move || {
+                for part in plate.chunks(step) {
+                    writer.write_all(part).expect("read");
+                    thread::sleep(Duration::from_micros(if step < 100 { 100 } else { 50_000 }));
+                }
+            });
+            run_on(Stdio::from(OwnedFd::from(reader)))
+        });
+        assert_eq!(output.stdout, listing);
+        assert!(output.stderr.is_empty(), "{output:?}");
+    }
+}
+
+fn run_on(input: Stdio) -> Output {
+    Command::new(lister()).stdin(input).output().expect("run")
+}
+
+/// Asserts that the program wrote this line on standard error and nothing else.
+fn assert_failed(output: Output, line: &str) {
+    assert!(output.stdout.is_empty(), "{output:?}");
+    assert_eq!(String::from_utf8_lossy(&output.stderr), format!("{line}\n"));
+    assert!(output.status.success(), "{output:?}");
+}
+
+/// Input that can't be read is not listed, be it from the start or after a part.
+#[test]
+fn read_errors() {
+    let directory = File::open(root()).expect("there");
+    assert_failed(run_on(directory.into()), "standard input: Is a directory");
+    let path =
+        Path::new(env!("CARGO_TARGET_TMPDIR")).join(format!("lister-{}", std::process::id()));
+    let no_reader = File::create(&path).expect("made");
+    assert_failed(
+        run_on(no_reader.into()),
+        "standard input: Bad file descriptor",
+    );
+    std::fs::remove_file(path).expect("removed");
+    let closed = Command::new("sh")
+        .args(["-c", "exec \"$0\" <&-"])
+        .arg(lister())
+        .output();
+    assert_failed(closed.expect("run"), "standard input: Bad file descriptor");
+
+    // The whole file is there, but not the end of it.
+    let plate = file("examples/plate.polygons");
+    for bytes in [0, 4, plate.len() / 2, plate.len()] {
+        let (mut writer, reader) = UnixStream::pair().expect("a pair");
+        writer.write_all(&plate[..bytes]).expect("taken");
+        reader.set_nonblocking(true).expect("set");
+        let output = run_on(Stdio::from(OwnedFd::from(reader)));
+        assert_failed(output, "standard input: Resource temporarily unavailable");
+        drop(writer);
+    }
+}
+
+/// A read that fails, and more bytes after it. When they come is a matter of time, so it is tried again
+/// where they came too early or too late.
+#[test]
+fn bytes_after_a_read_error() {
+    let plate = file("examples/plate.polygons");
+    let wait = Duration::from_millis(200);
+    for _ in 0..50 {
+        let (mut writer, reader) = UnixStream::pair().expect("a pair");
+        writer.write_all(&plate[..100]).expect("taken");
+        reader.set_read_timeout(Some(wait)).expect("set");
+        let output = thread::scope(|scope| {
+            let rest = &plate[100..];
+            scope.spawn(move || {
+                thread::sleep(wait * 3 / 2);
+                // Too late, nobody reads it.
+                let _ = writer.write_all(rest);
+                thread::sleep(wait);
+            });
+            run_on(Stdio::from(OwnedFd::from(reader)))
+        });
+        assert!(output.stdout.is_empty(), "{output:?}");
+        if output.stderr == b"standard input: not read to its end\n" {
+            return;
+        }
+    }
+    panic!("never in time");
 }
 
 /// Lengths about the longest file and its multiples, with a count of 0, with a fit file at the start,

@@ -1,4 +1,5 @@
 // Lists a polygon file: reads it on standard input, fractures it, deoverlaps the trapezoids, and prints them on standard output.
+use libc::STDERR_FILENO;
 use libc::STDIN_FILENO;
 use libc::STDOUT_FILENO;
 use loxurfa::Deoverlapped;
@@ -61,9 +62,30 @@ fn print_listing(file: &[u8]) {
     }
 }
 
-// More than 65,532 bytes are refused, and 65,536 are enough to know.
+// Whether the input ended where `read_full` stopped, which it does where a read fails too. One more read tells: at the end it answers 0. If
+// not, a line on standard error.
+fn has_ended() -> bool {
+    let mut more = [0u8; 1];
+    let got = libc::read(STDIN_FILENO, &mut more);
+    if got < 0 {
+        os::fail(b"standard input");
+        return false;
+    }
+    if got > 0 {
+        io::write_all(STDERR_FILENO, b"standard input: not read to its end\n");
+        return false;
+    }
+    true
+}
+
+// More than 65,532 bytes are refused, and 65,536 are enough to know. Input that could not be read to its end is not listed.
 fn main() {
     let mut file = io::large_buffer();
     let n = io::read_full(STDIN_FILENO, &mut file);
+    if n < 65536 {
+        if !has_ended() {
+            return;
+        }
+    }
     print_listing(&file[..n]);
 }

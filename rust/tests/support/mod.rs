@@ -2,6 +2,7 @@
 
 #![allow(dead_code)]
 
+pub mod calls;
 pub mod files;
 pub mod outcomes;
 pub mod polygons;

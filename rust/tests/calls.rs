@@ -1,0 +1,307 @@
+//! Makes every call from C and from C++, through include/loxurfa.h, and compares what came of it with
+//! the Rust crate; and the examples of docs/CALLS.md.
+
+mod reference;
+mod support;
+
+use loxurfa::{combine, deoverlap, equal, Code, Done, Equality, Refusal};
+use loxurfa::{raw, refused, MAX_LAYER_FILE_WORDS, STACK_BYTES, TRAPEZOID_WORDS};
+use std::fs;
+use std::path::{Path, PathBuf};
+use std::process::Command;
+use support::calls::{any_call, Buffer, Call, Function};
+use support::files::{file_bytes, file_words};
+use support::programs::{file, root, run};
+use support::{rectangle, Random};
+
+/// tests/c/calls.c, compiled so and linked with the functions in that file.
+fn compiled(compiler: &str, options: &[&str], functions: &str, name: &str) -> PathBuf {
+    let program = Path::new(env!("CARGO_TARGET_TMPDIR")).join(name);
+    let status = Command::new(compiler)
+        .current_dir(root())
+        .args(options)
+        .args(["-Wall", "-Wextra", "-Wpedantic", "-Werror", "-pthread"])
+        .args(["-Iinclude", "rust/tests/c/calls.c", "-x", "none"])
+        .args([functions, "-o"])
+        .arg(&program)
+        .status()
+        .expect("a compiler");
+    assert!(status.success(), "{compiler} {options:?}");
+    program
+}
+
+/// A call in the form that calls.c reads.
+fn written(call: &Call) -> Vec<u8> {
+    let mut bytes = (call.function as u32).to_ne_bytes().to_vec();
+    bytes.extend(call.code.to_ne_bytes());
+    bytes.extend(call.point.iter().flat_map(|word| word.to_ne_bytes()));
+    for i in 0..4 {
+        let (size, count): (u32, usize) = match call.buffers.get(i) {
+            Some(Buffer::Bytes(all)) => (1, all.len()),
+            Some(buffer) => (4, buffer.len()),
+            None => (4, 0),
+        };
+        bytes.extend(size.to_ne_bytes());
+        bytes.extend((count as u32).to_ne_bytes());
+        bytes.extend(call.buffers.get(i).map_or(vec![], elements));
+    }
+    bytes
+}
+
+fn elements(buffer: &Buffer) -> Vec<u8> {
+    match buffer {
+        Buffer::Bytes(all) => all.clone(),
+        Buffer::Words(all) => all.iter().flat_map(|word| word.to_ne_bytes()).collect(),
+        Buffer::Numbers(all) => all.iter().flat_map(|word| word.to_ne_bytes()).collect(),
+    }
+}
+
+/// Makes the calls with the program and by the crate; gives the bytes of stack that a call wrote to.
+fn compare(program: &Path, calls: &[Call]) -> usize {
+    let input: Vec<u8> = calls.iter().flat_map(written).collect();
+    let output = run::<&str>(program, &[], &input, input.len());
+    assert!(output.status.success(), "{output:?}");
+    let mut rest = &output.stdout[..];
+    let mut take = |bytes: usize| {
+        let (first, later) = rest.split_at(bytes);
+        rest = later;
+        first.to_vec()
+    };
+    let mut deepest = 0;
+    for call in calls {
+        let answer = u64::from_ne_bytes(take(8).try_into().expect("8 bytes"));
+        let mut part = || u32::from_ne_bytes(take(4).try_into().expect("4 bytes"));
+        let parts = [part(), part(), part(), part(), part()];
+        assert_parts(answer, parts.map(u64::from));
+        let depth = part();
+        let mut by_crate = call.clone();
+        assert_eq!(answer, by_crate.perform(), "{call:?}");
+        for (i, buffer) in by_crate.buffers.iter().enumerate() {
+            let right = elements(buffer);
+            assert!(take(right.len()) == right, "buffer {i} of {call:?}");
+        }
+        deepest = deepest.max(depth as usize);
+    }
+    assert!(rest.is_empty());
+    deepest
+}
+
+/// What the header's functions read in an answer makes up the answer, as crates/loxurfa_c/specs/Packed.antt
+/// has it.
+fn assert_parts(answer: u64, [refused, number, place, value, overlays]: [u64; 5]) {
+    let packed = match refused {
+        1 => (1 << 63) + (number << 32) + place,
+        _ => (value << 32) + overlays,
+    };
+    assert_eq!(answer, packed);
+    assert_eq!(answer >> 63, refused);
+}
+
+/// Random calls of every function, and some with the most trapezoids.
+fn calls(random: &mut Random, of_each: usize) -> Vec<Call> {
+    let mut calls = Vec::new();
+    for function in Function::ALL {
+        calls.extend((0..of_each).map(|_| any_call(random, function)));
+    }
+    let upright: Vec<i32> = (0..20)
+        .flat_map(|k| rectangle(2 * k, 2 * k + 1, 0, 60))
+        .collect();
+    let lying: Vec<i32> = (0..20)
+        .flat_map(|k| rectangle(0, 60, 2 * k, 2 * k + 1))
+        .collect();
+    let both = [upright.clone(), lying.clone()].concat();
+    let words = |words: &Vec<i32>| Buffer::Words(words.clone());
+    let room = || Buffer::Words(random_words(512 * TRAPEZOID_WORDS));
+    let file = file_words(&[both.clone(), both.clone()], TRAPEZOID_WORDS);
+    for code in 0..5 {
+        let mut with = |function: Function, buffers: Vec<Buffer>| {
+            calls.push(Call {
+                function,
+                code,
+                point: [1, 1, 2],
+                buffers,
+            })
+        };
+        let layers = vec![words(&upright), words(&lying)];
+        with(Function::Contains, layers.clone());
+        with(
+            Function::Combine,
+            [layers.clone(), vec![room(), room()]].concat(),
+        );
+        with(Function::Equal, [layers, vec![room(), room()]].concat());
+        with(Function::Deoverlap, vec![words(&both), room(), room()]);
+        with(
+            Function::Components,
+            vec![words(&both), Buffer::Numbers(vec![7; 40])],
+        );
+        with(
+            Function::ReadLayers,
+            vec![
+                Buffer::Bytes(file_bytes(&file)),
+                Buffer::Words(vec![7; MAX_LAYER_FILE_WORDS]),
+            ],
+        );
+        with(
+            Function::WriteLayers,
+            vec![
+                words(&file),
+                Buffer::Bytes(vec![7; 4 * MAX_LAYER_FILE_WORDS]),
+            ],
+        );
+    }
+    calls
+}
+
+fn random_words(words: usize) -> Vec<i32> {
+    Random(94).garbage(words)
+}
+
+#[test]
+fn calls_from_c() {
+    let calls = calls(&mut Random(93), 200);
+    for (compiler, options, name) in [
+        ("cc", &["-std=c99", "-O2"][..], "calls"),
+        ("c++", &["-x", "c++"], "calls++"),
+    ] {
+        let program = compiled(compiler, options, env!("LOXURFA_ARCHIVE"), name);
+        let deepest = compare(&program, &calls);
+        println!("{name}: {deepest} bytes of stack");
+        assert!(deepest > 1000 && deepest < STACK_BYTES, "{deepest} bytes");
+        fs::remove_file(program).expect("removed");
+    }
+}
+
+/// A buffer without elements is NULL in calls.c, and an address by the time it gets to the archive.
+#[test]
+fn no_null() {
+    let functions = "rust/tests/c/addresses.c";
+    let program = compiled("cc", &["-std=c99"], functions, "addresses");
+    let random = &mut Random(95);
+    let mut calls: Vec<Call> = Vec::new();
+    for function in Function::ALL {
+        for _ in 0..20 {
+            let mut call = any_call(random, function);
+            calls.push(call.clone());
+            call.buffers
+                .iter_mut()
+                .for_each(|buffer| buffer.truncate(0));
+            calls.push(call);
+        }
+    }
+    let input: Vec<u8> = calls.iter().flat_map(written).collect();
+    let output = run::<&str>(&program, &[], &input, input.len());
+    let mut rest = &output.stdout[..];
+    for call in &calls {
+        let buffers: usize = call.buffers.iter().map(|b| elements(b).len()).sum();
+        let (outcome, later) = rest.split_at(8 + 4 * 6 + buffers);
+        assert_eq!(outcome[..8], 1u64.to_ne_bytes(), "{:?}", call.function);
+        rest = later;
+    }
+    assert!(rest.is_empty());
+    fs::remove_file(program).expect("removed");
+}
+
+/// The names of the functions that a text calls or declares.
+fn named(text: &str, before: &str) -> Vec<String> {
+    let starts = text
+        .match_indices(before)
+        .map(|(at, _)| &text[at + before.len()..]);
+    let mut names: Vec<String> = starts
+        .map(|rest| {
+            rest.chars()
+                .take_while(|c| c.is_alphanumeric() || *c == '_')
+        })
+        .map(|name| format!("loxurfa_{}", name.collect::<String>()))
+        .collect();
+    names.sort();
+    names.dedup();
+    names
+}
+
+/// calls.c has every function that the header declares, and docs/CALLS.md declares the same ones in
+/// the same words.
+#[test]
+fn every_function() {
+    let text = |path: &str| String::from_utf8(file(path)).expect("text");
+    let header = text("include/loxurfa.h");
+    let declared = named(&header, "\nuint64_t loxurfa_");
+    assert_eq!(declared.len(), Function::ALL.len());
+    let program = text("rust/tests/c/calls.c");
+    assert_eq!(declared, named(&program, "return loxurfa_"));
+
+    let one_line = |text: &str| text.split_whitespace().collect::<Vec<_>>().join(" ");
+    let page = text("docs/CALLS.md");
+    let prototypes: Vec<&str> = page
+        .lines()
+        .filter_map(|line| line.strip_prefix("    uint64_t "))
+        .collect();
+    assert_eq!(prototypes.len(), declared.len());
+    for line in prototypes {
+        assert!(one_line(&header).contains(&one_line(line)), "{line}");
+    }
+}
+
+// ---------------------------------------------------------------------------------------------
+// What docs/CALLS.md says of single calls.
+
+fn refusal<T>(number: u8, place: u32) -> Result<T, Refusal> {
+    Err(Refusal { number, place })
+}
+
+/// `combine` into so many records.
+fn into(records: usize, code: Code, a: &[i32], b: &[i32]) -> Result<Done, Refusal> {
+    let room = || vec![1; TRAPEZOID_WORDS * records];
+    combine(code, a, b, &mut room(), &mut room())
+}
+
+#[test]
+fn the_example_that_surprises() {
+    let one = rectangle(0, 1, 0, 1);
+    let two = [one.clone(), rectangle(2, 3, 0, 1)].concat();
+    let done = |pieces, overlays| Ok(Done { pieces, overlays });
+    assert_eq!(into(2, Code::Union, &two, &two), refusal(refused::SPACE, 0));
+    assert_eq!(into(3, Code::Union, &two, &two), done(2, 3));
+    assert_eq!(into(0, Code::Union, &one, &one), refusal(refused::SPACE, 0));
+    assert_eq!(into(1, Code::Union, &one, &one), done(1, 1));
+    assert_eq!(
+        into(0, Code::AMinusB, &two, &two),
+        refusal(refused::SPACE, 0)
+    );
+    assert_eq!(into(1, Code::AMinusB, &two, &two), done(0, 3));
+    let same = |records: usize| {
+        let room = || vec![1; TRAPEZOID_WORDS * records];
+        equal(&two, &two, &mut room(), &mut room())
+    };
+    assert_eq!(same(0), refusal(refused::SPACE, 0));
+    assert_eq!(same(1), Ok(Equality::Same { overlays: 6 }));
+    // Deoverlapping two that are apart needs no more than the two.
+    let mut room = [vec![1; 48], vec![1; 48]];
+    let [out, scratch] = &mut room;
+    assert_eq!(deoverlap(&two, out, scratch), done(2, 1));
+}
+
+#[test]
+fn the_order_of_rows() {
+    let mut room = [vec![1; 24], vec![1; 24]];
+    let [out, scratch] = &mut room;
+    let answer = raw::combine(9, &[0; 25], &[], out, scratch);
+    assert_eq!(answer, support::outcomes::refusal(1, 0));
+    let mut first = rectangle(0, 1, 0, 1);
+    first.copy_within(0..4, 4);
+    let mut second = rectangle(0, 1, 0, 1);
+    second[23] = 2049;
+    let answer = raw::combine(0, &[first, second].concat(), &[], out, scratch);
+    assert_eq!(answer, support::outcomes::refusal(9, 0));
+}
+
+/// One corner in common.
+#[test]
+fn touching_at_a_corner() {
+    let two = [rectangle(0, 1, 0, 1), rectangle(1, 2, 1, 2)].concat();
+    let mut numbers = [7; 2];
+    assert_eq!(loxurfa::components(&two, &mut numbers), Ok(1));
+    assert_eq!(numbers, [0, 0]);
+    let apart = [rectangle(0, 1, 0, 1), rectangle(2, 3, 2, 3)].concat();
+    assert_eq!(loxurfa::components(&apart, &mut numbers), Ok(2));
+    assert_eq!(numbers, [0, 1]);
+}

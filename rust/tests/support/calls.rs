@@ -1,0 +1,316 @@
+//! Calls of every function, with random and damaged input.
+
+use super::files::{about, damage_bytes, damage_file, file_bytes, file_words};
+use super::polygons::{any_polygons, polygon_words};
+use super::{damage, point_near, whole_point, Random, Scene};
+use crate::reference::{self, read_layer, WORDS};
+use loxurfa::raw;
+
+/// The functions, in the order of include/loxurfa.h.
+#[derive(Clone, Copy, Debug, PartialEq, Eq)]
+pub enum Function {
+    Fracture,
+    Combine,
+    Deoverlap,
+    Equal,
+    Contains,
+    Components,
+    ReadLayers,
+    WriteLayers,
+}
+
+use Function::*;
+
+impl Function {
+    pub const ALL: [Function; 8] = [
+        Fracture,
+        Combine,
+        Deoverlap,
+        Equal,
+        Contains,
+        Components,
+        ReadLayers,
+        WriteLayers,
+    ];
+
+    /// How many of the buffers are only read. They come first.
+    pub fn inputs(self) -> usize {
+        match self {
+            Combine | Equal | Contains => 2,
+            _ => 1,
+        }
+    }
+
+    /// The rows of the table that may refuse it.
+    pub fn rows(self) -> &'static [usize] {
+        match self {
+            Fracture => &[1, 4, 5, 6, 7, 12],
+            Combine => &[1, 2, 7, 8, 9, 10, 11, 12],
+            Deoverlap | Equal => &[1, 7, 8, 9, 10, 11, 12],
+            Contains => &[1, 2, 3, 7, 8, 9, 10, 11],
+            Components => &[1, 7, 8, 9, 10, 11],
+            ReadLayers => &[4, 5, 6, 7, 8, 9, 10, 11, 12],
+            WriteLayers => &[5, 6, 7, 8, 9, 10, 11, 12],
+        }
+    }
+}
+
+/// What a call is lent.
+#[derive(Clone, Debug, PartialEq)]
+pub enum Buffer {
+    Bytes(Vec<u8>),
+    Words(Vec<i32>),
+    Numbers(Vec<u32>),
+}
+
+/// The same, or a part of it, for the time of a call.
+pub enum Lent<'a> {
+    Bytes(&'a mut [u8]),
+    Words(&'a mut [i32]),
+    Numbers(&'a mut [u32]),
+}
+
+impl Buffer {
+    /// The elements from `start` to `end`.
+    pub fn part(&mut self, start: usize, end: usize) -> Lent<'_> {
+        match self {
+            Buffer::Bytes(all) => Lent::Bytes(&mut all[start..end]),
+            Buffer::Words(all) => Lent::Words(&mut all[start..end]),
+            Buffer::Numbers(all) => Lent::Numbers(&mut all[start..end]),
+        }
+    }
+
+    pub fn truncate(&mut self, len: usize) {
+        match self {
+            Buffer::Bytes(all) => all.truncate(len),
+            Buffer::Words(all) => all.truncate(len),
+            Buffer::Numbers(all) => all.truncate(len),
+        }
+    }
+
+    pub fn len(&self) -> usize {
+        match self {
+            Buffer::Bytes(all) => all.len(),
+            Buffer::Words(all) => all.len(),
+            Buffer::Numbers(all) => all.len(),
+        }
+    }
+
+    pub fn is_zero(&self) -> bool {
+        match self {
+            Buffer::Bytes(all) => all.iter().all(|&x| x == 0),
+            Buffer::Words(all) => all.iter().all(|&x| x == 0),
+            Buffer::Numbers(all) => all.iter().all(|&x| x == 0),
+        }
+    }
+}
+
+/// One call: its numbers and its buffers, in the order of the header.
+#[derive(Clone, Debug)]
+pub struct Call {
+    pub function: Function,
+    pub code: u32,
+    pub point: [i32; 3],
+    pub buffers: Vec<Buffer>,
+}
+
+impl Call {
+    /// Makes the call on buffers of these kinds.
+    pub fn make(&self, lent: &mut [Lent]) -> u64 {
+        use Lent::*;
+        let (code, [x, y, d]) = (self.code, self.point);
+        match (self.function, lent) {
+            (Fracture, [Bytes(f), Words(o), Words(s)]) => raw::fracture(f, o, s),
+            (Combine, [Words(a), Words(b), Words(o), Words(s)]) => raw::combine(code, a, b, o, s),
+            (Deoverlap, [Words(a), Words(o), Words(s)]) => raw::deoverlap(a, o, s),
+            (Equal, [Words(a), Words(b), Words(o), Words(s)]) => raw::equal(a, b, o, s),
+            (Contains, [Words(a), Words(b)]) => raw::contains(x, y, d, a, b, code),
+            (Components, [Words(a), Numbers(n)]) => raw::components(a, n),
+            (ReadLayers, [Bytes(f), Words(o)]) => raw::read_layers(f, o),
+            (WriteLayers, [Words(w), Bytes(o)]) => raw::write_layers(w, o),
+            _ => panic!("other buffers than {:?} takes", self.function),
+        }
+    }
+
+    /// Makes the call on its own buffers.
+    pub fn perform(&mut self) -> u64 {
+        let mut buffers = self.buffers.clone();
+        let mut lent: Vec<Lent> = buffers
+            .iter_mut()
+            .map(|buffer| buffer.part(0, buffer.len()))
+            .collect();
+        let answer = self.make(&mut lent);
+        self.buffers = buffers;
+        answer
+    }
+
+    /// The answer and the buffers by the reference.
+    pub fn expected(&self) -> (u64, Vec<Buffer>) {
+        use Buffer::*;
+        let (code, [x, y, d]) = (self.code, self.point);
+        let mut buffers = self.buffers.clone();
+        let answer = match (self.function, &mut buffers[..]) {
+            (Fracture, [Bytes(f), Words(o), Words(s)]) => reference::fracture::fracture(f, o, s),
+            (Combine, [Words(a), Words(b), Words(o), Words(s)]) => {
+                reference::combine(code, a, b, o, s)
+            }
+            (Deoverlap, [Words(a), Words(o), Words(s)]) => reference::deoverlap(a, o, s),
+            (Equal, [Words(a), Words(b), Words(o), Words(s)]) => reference::equal(a, b, o, s),
+            (Contains, [Words(a), Words(b)]) => reference::contains(x, y, d, a, b, code),
+            (Components, [Words(a), Numbers(n)]) => reference::components::components(a, n),
+            (ReadLayers, [Bytes(f), Words(o)]) => reference::files::read_layers(f, o),
+            (WriteLayers, [Words(w), Bytes(o)]) => reference::files::write_layers(w, o),
+            _ => panic!("other buffers than {:?} takes", self.function),
+        };
+        (answer, buffers)
+    }
+}
+
+/// A layer: fit, damaged, of an odd length, or empty.
+fn any_layer(random: &mut Random, scene: &Scene) -> Vec<i32> {
+    let mut layer = scene.layer(random, 6);
+    match random.below(12) {
+        0 | 1 => damage(random, &mut layer),
+        2 => {
+            let words = WORDS * random.below(4);
+            layer = random.garbage(words);
+        }
+        3 => layer.truncate(random.below(layer.len() + 1)),
+        4 => layer.clear(),
+        _ => {}
+    }
+    layer
+}
+
+/// An output and a scratch area, mostly of the same length and of whole records.
+fn room(random: &mut Random) -> [Buffer; 2] {
+    let records = match random.below(8) {
+        0 => 0,
+        1 => 512,
+        2 => random.below(3),
+        _ => random.below(40),
+    };
+    let words = WORDS * records;
+    let off = |random: &mut Random| match random.below(24) {
+        0 => words + 1 + random.below(30),
+        1 => words - words.min(1 + random.below(30)),
+        2 => random.below(100),
+        _ => words,
+    };
+    let (out, scratch) = match random.below(16) {
+        0 => (513 * WORDS, 513 * WORDS),
+        _ => (off(random), off(random)),
+    };
+    [out, scratch].map(|words| Buffer::Words(random.garbage(words)))
+}
+
+/// The words of a layer file, fit or damaged.
+fn layer_file(random: &mut Random) -> Vec<i32> {
+    let scene = Scene::new(random);
+    let layers: Vec<Vec<i32>> = (0..random.below(5))
+        .map(|_| scene.layer(random, 3))
+        .collect();
+    let mut words = file_words(&layers, WORDS);
+    let body = 1 + 2 * layers.len();
+    match random.below(6) {
+        0 => damage_file(random, &mut words, WORDS),
+        1 | 2 => damage(random, &mut words[body..]),
+        3 => {
+            let count = random.below(60);
+            words = random.garbage(count);
+        }
+        _ => {}
+    }
+    words
+}
+
+/// The bytes of a file with these words, now and then of a wrong length.
+fn bytes(random: &mut Random, words: &[i32]) -> Buffer {
+    let mut file = file_bytes(words);
+    if random.once_in(10) {
+        damage_bytes(random, &mut file);
+    }
+    Buffer::Bytes(file)
+}
+
+/// A point, mostly near the layers.
+fn any_point(random: &mut Random, a: &[i32], b: &[i32]) -> [i32; 3] {
+    let fit = |words: &[i32]| words.chunks(WORDS).all(|w| reference::unfit(w).is_none());
+    let whole = a.len() % WORDS == 0 && b.len() % WORDS == 0;
+    if random.once_in(8) || !whole || !fit(a) || !fit(b) {
+        let d = *random.pick(&[0, -1, 1, 7, 1024, 1025, i32::MIN]);
+        return [random.range(-3000, 3000), random.next() as i32 >> 16, d];
+    }
+    let (a, b) = (read_layer(a), read_layer(b));
+    let point = whole_point(point_near(random, &[&a, &b]));
+    point.map_or([0, 0, 1], |(x, y, d)| [x, y, d])
+}
+
+/// A call of the function.
+pub fn any_call(random: &mut Random, function: Function) -> Call {
+    let scene = Scene::new(random);
+    let code = match random.below(16) {
+        0 => random.next() as u32,
+        1 => 5,
+        _ => random.below(5) as u32,
+    };
+    let mut point = [0, 0, 1];
+    let buffers = match function {
+        Fracture => {
+            let mut polygons = any_polygons(random);
+            polygons.truncate(6);
+            let mut words = polygon_words(&polygons);
+            match random.below(8) {
+                0 | 1 => damage_file(random, &mut words, 2),
+                2 => {
+                    let at = random.below(words.len());
+                    words[at] = *random.pick(&[2049, -2049, 2048, i32::MIN]);
+                }
+                _ => {}
+            }
+            let [out, scratch] = room(random);
+            vec![bytes(random, &words), out, scratch]
+        }
+        Combine | Equal => {
+            let (a, b) = (any_layer(random, &scene), any_layer(random, &scene));
+            let [out, scratch] = room(random);
+            vec![Buffer::Words(a), Buffer::Words(b), out, scratch]
+        }
+        Deoverlap => {
+            let [out, scratch] = room(random);
+            vec![Buffer::Words(any_layer(random, &scene)), out, scratch]
+        }
+        Contains => {
+            let (a, b) = (any_layer(random, &scene), any_layer(random, &scene));
+            point = any_point(random, &a, &b);
+            vec![Buffer::Words(a), Buffer::Words(b)]
+        }
+        Components => {
+            let a = any_layer(random, &scene);
+            let count = match random.below(8) {
+                0 => random.below(10),
+                _ => a.len() / WORDS,
+            };
+            let numbers = (0..count).map(|_| random.next() as u32).collect();
+            vec![Buffer::Words(a), Buffer::Numbers(numbers)]
+        }
+        ReadLayers => {
+            let words = layer_file(random);
+            let out = about(random, words.len());
+            let out = Buffer::Words(random.garbage(out));
+            vec![bytes(random, &words), out]
+        }
+        WriteLayers => {
+            let words = layer_file(random);
+            let out = about(random, 4 * words.len());
+            let out = (0..out).map(|_| random.next() as u8 | 1).collect();
+            vec![Buffer::Words(words), Buffer::Bytes(out)]
+        }
+    };
+    Call {
+        function,
+        code,
+        point,
+        buffers,
+    }
+}
