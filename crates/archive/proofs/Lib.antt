@@ -1,3 +1,4 @@
 pub mod Points
 pub mod Sources
 pub mod Archive
+mod Examples

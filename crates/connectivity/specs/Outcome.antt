@@ -32,7 +32,7 @@ unfoldable pub componentsChecked : List ℤ → ℕ → Checked
 componentsChecked a n = row 1 (listsSized a n) (firstRefusal coordinateLimit 0 (layerOf a))
 
 -- ---- the answer
--- "A refusal answers its number and place"; "the answer counts components"
+-- "A refusal answers its number and place, a success its pieces and cuts."; of components: "Each gets the lowest piece number of its component; the answer counts components."
 pub data Answer : Type 0 where
   refused : (number place : ℕ) → Answer
   counted : (components : ℕ) → Answer

@@ -55,7 +55,8 @@ crossings [] = []
 crossings (e ∷ es) = crossingsWith e es ++ crossings es
 
 -- "Stops are the distinct positions of all vertices and of crossings strictly inside both edges' spans." Of equal ones the first in this list
--- names the event: a vertex position by its mark, "any other stop" by "the lowest pair of crossing edges".
+-- names the event: a vertex position by its mark, and "Any other stop is named by the lowest pair of crossing edges, lower number first; pairs go by
+-- their lower number, then their higher."
 unfoldable pub events : ℕ → Polygon → List Base
 events L polygon = marks L polygon ++ crossings (edges polygon)
 

@@ -2,6 +2,7 @@
 use mathlib.Core.Path.{_≡_, subst}
 use mathlib.Core.Bool.{true, _&&_}
 use Prim.Native.Nat.{ℕ, _*_, _≤_}
+use native.Mathlib.Nat.{mul-le-mul}
 use native.Mathlib.Omega.{arith}
 use lib.IntN.{ℤ, pos, natAbs}
 use lib.Signed.{leZ, _≤ℤ_, _<ℤ_}
@@ -10,6 +11,7 @@ use Rattle.integer.specs.Integer.{⊝_, _⊗_}
 use Rattle.integer.proofs.Linear.{zarith, parts, one-part, minus⁺, minus⁻}
 use Rattle.integer.proofs.Magnitude.{mul-magnitude}
 use Rattle.integer.proofs.Tests.{le-yes}
+use Rattle.geometry.specs.Limit.{coordinateLimit}
 use Rattle.geometry.specs.Points.{Point, IsPoint}
 use Rattle.geometry.specs.Code.{pointOf, SmallPoint}
 use Rattle.loxurfa.specs.Rows.{withinTimes, pointPasses}
@@ -31,11 +33,18 @@ module _ (d : ℤ) (e : leZ (pos 1) d && leZ d (pos 1024) ≡ true) where
 between : (z b : ℤ) → ⊝ b ≤ℤ z → z ≤ℤ b → natAbs z ≤ natAbs b
 between z b h k = omega (zarith, parts z, one-part z, parts b, one-part b, minus⁺ b, minus⁻ b)
 
-within-magnitude : (z d : ℤ) → withinTimes z d ≡ true → natAbs z ≤ 2048 * natAbs d
-within-magnitude z d e =
-    let b = pos 2048 ⊗ d in
-    subst (λ (n : ℕ). natAbs z ≤ n) (mul-magnitude (pos 2048) d)
-    (between z b (le-yes (⊝ b) z (left-of (leZ (⊝ b) z) (leZ z b) e)) (le-yes z b (right-of (leZ (⊝ b) z) (leZ z b) e)))
+-- over any limit L: what is from −L·d to L·d, with d within n, is within n·L
+times-within : (L n : ℕ) (z d : ℤ) → ⊝ (pos L ⊗ d) ≤ℤ z → z ≤ℤ pos L ⊗ d → natAbs d ≤ n → natAbs z ≤ n * L
+times-within L n z d least most h =
+    let m : natAbs z ≤ L * natAbs d = subst (λ (k : ℕ). natAbs z ≤ k) (mul-magnitude (pos L) d) (between z (pos L ⊗ d) least most) in
+    let l : L ≤ L = omega arith in
+    omega (arith, m, mul-le-mul l h)
+
+-- at the limit of row 3
+within-magnitude : (n : ℕ) (z d : ℤ) → withinTimes z d ≡ true → natAbs d ≤ n → natAbs z ≤ n * coordinateLimit
+within-magnitude n z d e =
+    let b = pos coordinateLimit ⊗ d in
+    times-within coordinateLimit n z d (le-yes (⊝ b) z (left-of (leZ (⊝ b) z) (leZ z b) e)) (le-yes z b (right-of (leZ (⊝ b) z) (leZ z b) e))
 
 module _ (P : Point) where
   denominator-of : pointPasses P ≡ true → leZ (pos 1) (P .D) && leZ (P .D) (pos 1024) ≡ true
@@ -58,7 +67,7 @@ point-small x y d e =
     let P = pointOf x y d in
     let k = denominator-small (d .v) (denominator-of P e) in
     record {
-      x-small = omega (arith, within-magnitude (x .v) (d .v) (across-of P e));
-      y-small = omega (arith, within-magnitude (y .v) (d .v) (up-of P e));
+      x-small = within-magnitude 1024 (x .v) (d .v) (across-of P e) k;
+      y-small = within-magnitude 1024 (y .v) (d .v) (up-of P e) k;
       d-small = k;
     }

@@ -58,9 +58,9 @@ packed-point-apart no no h k e = refl
 
 pub packed-file-apart : PackedFileApart
 packed-file-apart (file.refused m p) (file.refused n q) h k e = one-refusal file.refused m p n q (omega arith) (omega arith) e
-packed-file-apart (file.refused m p) (file.done n) h k e = kinds m p n 0 (omega arith) (omega arith) e
-packed-file-apart (file.done m) (file.refused n q) h k e = kinds n q m 0 (omega arith) (omega arith) (sym e)
-packed-file-apart (file.done m) (file.done n) h k e = one-success (λ pieces _. file.done pieces) m 0 n 0 (omega arith) (omega arith) e
+packed-file-apart (file.refused m p) (file.done n q) h k e = kinds m p n q (omega arith) (omega arith) e
+packed-file-apart (file.done m p) (file.refused n q) h k e = kinds n q m p (omega arith) (omega arith) (sym e)
+packed-file-apart (file.done m p) (file.done n q) h k e = one-success file.done m p n q (omega arith) (omega arith) e
 
 pub packed-count-apart : PackedCountApart
 packed-count-apart (connected.refused m p) (connected.refused n q) h k e = one-refusal connected.refused m p n q (omega arith) (omega arith) e

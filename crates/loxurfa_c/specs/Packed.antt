@@ -28,10 +28,10 @@ packedPoint (refused-point number place) = refusal number place
 packedPoint yes = success 1 0
 packedPoint no = success 0 0
 
--- the trapezoids of a layer file, and no overlays
+-- the trapezoids of a layer file, and the overlays made, which are none
 abbrev pub packedFile : file.Answer → ℕ
 packedFile (file.refused number place) = refusal number place
-packedFile (file.done pieces) = success pieces 0
+packedFile (file.done pieces overlays) = success pieces overlays
 
 -- the number of components, and no overlays
 abbrev pub packedCount : connected.Answer → ℕ

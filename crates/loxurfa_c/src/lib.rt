@@ -134,8 +134,8 @@ pub extern "C" fn loxurfa_read_layers(file: &[u8], out: &mut [i32]) -> u64
         LayersRead::Refused { number, place } => {
             return refusal(number, place);
         }
-        LayersRead::Done { pieces } => {
-            return success(pieces, 0);
+        LayersRead::Done { pieces, overlays } => {
+            return success(pieces, overlays);
         }
     }
 }
@@ -150,8 +150,8 @@ pub extern "C" fn loxurfa_write_layers(words: &[i32], out: &mut [u8]) -> u64
         LayersWritten::Refused { number, place } => {
             return refusal(number, place);
         }
-        LayersWritten::Done { pieces } => {
-            return success(pieces, 0);
+        LayersWritten::Done { pieces, overlays } => {
+            return success(pieces, overlays);
         }
     }
 }

@@ -1,6 +1,6 @@
--- A column: lines over the positions from p, included, to q, excluded, no two of which cross strictly inside. "The spanning edges are ordered by
--- height, coinciding ones as one group": the levels of the lines right of p. "A piece runs from each group where the sum leaves zero to the next
--- where it returns": the slabs, for any weights of the lines.
+-- A column: lines over the positions from p, included, to q, excluded, no two of which cross strictly inside. "Between neighbouring stops
+-- the spanning edges are ordered by height, coinciding ones as one group.": the levels of the lines right of p. "A piece runs from each group where the sum leaves zero to the next
+-- where it returns.": the slabs, for any weights of the lines.
 use mathlib.Core.Path.{_≡_}
 use mathlib.Core.Bool.{Bool, true, false, not, cond, _&&_}
 use mathlib.Core.List.{List, [], _∷_}

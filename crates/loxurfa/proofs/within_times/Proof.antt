@@ -4,6 +4,7 @@ use native.Mathlib.Omega.{arith}
 use lib.IntN.{pos}
 use lib.Signed.{leZ}
 use Rattle.integer.specs.Integer.{⊝_, _⊗_}
+use Rattle.geometry.specs.Limit.{coordinateLimit}
 use borrow.Author.Needs.{needs}
 use Rattle.loxurfa.proofs.within_times.Statement.{statement}
 use Rattle.loxurfa.proofs.within_times.Tie as tie
@@ -26,15 +27,15 @@ at-most-requires-2 c κs = search needs
 returns : tie.Need-returns
 returns c =
     let s = c .before .before .before .before .before .before .args in
-    let m : c .before .before .before .before .mul .result .v ≡ pos 2048 ⊗ s .d .v = cc in
-    let e : leZ (⊝ (pos 2048 ⊗ s .d .v)) (s .z .v) ≡ true = cc in
+    let m : c .before .before .before .before .mul .result .v ≡ pos coordinateLimit ⊗ s .d .v = cc in
+    let e : leZ (⊝ (pos coordinateLimit ⊗ s .d .v)) (s .z .v) ≡ true = cc in
     rw e (c .at-most2 .ensures ∙ rw m)
 
 returns-2 : tie.Need-returns-2
 returns-2 c =
     let s = c .before .before .before .before .before .args in
-    let m : c .before .before .before .mul .result .v ≡ pos 2048 ⊗ s .d .v = cc in
-    let e : leZ (⊝ (pos 2048 ⊗ s .d .v)) (s .z .v) ≡ false = cc in
+    let m : c .before .before .before .mul .result .v ≡ pos coordinateLimit ⊗ s .d .v = cc in
+    let e : leZ (⊝ (pos coordinateLimit ⊗ s .d .v)) (s .z .v) ≡ false = cc in
     rw e
 
 pub within-times-spec : {M : Type 1} → statement M

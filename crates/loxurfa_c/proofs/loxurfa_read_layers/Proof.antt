@@ -30,8 +30,7 @@ enum-known-answer-2 c = search needs
 
 success-requires : tie.Need-success-requires
 success-requires c κs =
-    let k = subst (λ (r : LayersRead). Small (readAnswer r)) (c .before .answer2 .given .1) (c .before .before .before .before .read-layers .ensures .1) in
-    (k, omega arith)
+    subst (λ (r : LayersRead). Small (readAnswer r)) (c .before .answer2 .given .1) (c .before .before .before .before .read-layers .ensures .1)
 
 same-length-2 : tie.Need-same-length-2
 same-length-2 c = search needs

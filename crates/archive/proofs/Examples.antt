@@ -1,0 +1,114 @@
+-- The hypotheses can be met: a polygon file with the triangle of paper 01's listing, fractured, deoverlapped and united with itself; the union is put
+-- into a layer file, which is written and read back.
+use mathlib.Core.Path.{_≡_, refl}
+use mathlib.Core.List.{List, [], _∷_, map}
+use Prim.Native.Nat.{ℕ}
+use lib.IntN.{ℤ, pos}
+use lib.ListN.{length, replicate}
+use Rattle.integer.specs.Integer.{_⊕_, _⊖_, _⊗_, ⊝_}
+use Rattle.integer.specs.Compare.{orderOf}
+use Rattle.integer.specs.Fraction.{before}
+use Rattle.records.specs.Lists.{All}
+use Rattle.records.specs.Limits.{sized}
+use Rattle.records.specs.Records.{recordAt, recordsFrom, wordsOf}
+use Rattle.records.specs.Words.{unsigned, signed, wordOf, bytesOf, wordCodec}
+use Rattle.levels.specs.Levels.{insert, levels}
+use Rattle.geometry.specs.Limit.{onGrid}
+use Rattle.geometry.specs.Lines.{dx, dy, offset, det, numer}
+use Rattle.geometry.specs.Positions.{crosses, root, meet, heights, rightOf, below}
+use Rattle.geometry.specs.Trapezoids.{trapezoidOf, trapezoidWords}
+use Rattle.geometry.specs.Fitness.{lineOnGrid, isLine, belowBetween, shapeVerdict, verdict, firstRefusal}
+use Rattle.sweep.specs.Lists.{keep, sum}
+use Rattle.sweep.specs.Segments.{spans, inside, crossInside}
+use Rattle.sweep.specs.Columns.{slabs, upTo, column}
+use Rattle.sweep.specs.Sweep.{columns, sweep}
+use Rattle.overlay.specs.Overlaps.{commonLeft, commonRight, crossesInCommon, overlapRight, overlapFrom, overlaps}
+use Rattle.overlay.specs.Overlay as overlays
+use Rattle.boolean.specs.Operations.{less, lessAll, difference, deoverlappedFrom}
+use Rattle.boolean.specs.Space.{lessMarks, lessAllMarks, differenceMarks, deoverlappedMarks, space}
+use Rattle.files.specs.declared.LayersRead.the-variants as read
+use Rattle.files.specs.declared.LayersWritten.the-variants as written
+use Rattle.files.specs.Formats.{fileSized}
+use Rattle.files.specs.Directory.{numberFrom, countOf, pairLength, endOf, pairsFrom, directoryOf}
+use Rattle.files.specs.Contents.{lengthsFrom, cut, vertexOf, vertexWords, pairsOf, layerFileWords}
+use Rattle.files.specs.Rows.{vertexOnGrid, firstOffGrid, polygonFileChecked, layersChecked, layerFileChecked}
+use Rattle.files.specs.Outcomes.{readLayers, writeLayers}
+use Rattle.fracture.specs.Polygons.{edge, edgesFrom, edges}
+use Rattle.fracture.specs.Fracture as fractures
+use Rattle.loxurfa.specs.declared.Fractured.the-variants as fractured
+use Rattle.loxurfa.specs.declared.Deoverlapped.the-variants as deoverlapped
+use Rattle.loxurfa.specs.declared.Combined.the-variants as combined
+use Rattle.loxurfa.specs.Rows.{fractureChecked, combineChecked, deoverlapChecked}
+use Rattle.loxurfa.specs.Outcomes.{fractureOutcome, deoverlapOutcome}
+use Rattle.loxurfa.specs.Outcomes as outcomes
+use Rattle.loxurfa.specs.Table.{lent, cleared, vertex, fileOf}
+use Rattle.chains.specs.Chains.{Layer, outcomeOf, called, Call, held, Contracts}
+use Rattle.archive.specs.Calls.{FractureCall, DeoverlapCall, WriteCall, WriteAccepted, bytesBy, ReadCall, ReadRight}
+use Rattle.archive.specs.Archive.{Source, polygons, layerFrom, Accepted, archiveWords}
+
+-- "0 0 1 0 0 0 1 1 0 0 1 0 2 0 3 1 0 0 2 0 0 2 2 0"
+abbrev triangle : Layer
+triangle = map pos (0 ∷ 0 ∷ 1 ∷ 0 ∷ 0 ∷ 0 ∷ 1 ∷ 1 ∷ 0 ∷ 0 ∷ 1 ∷ 0 ∷ 2 ∷ 0 ∷ 3 ∷ 1 ∷ 0 ∷ 0 ∷ 2 ∷ 0 ∷ 0 ∷ 2 ∷ 2 ∷ 0 ∷ [])
+
+abbrev fracturing : FractureCall
+fracturing =
+    record {
+      file = fileOf (vertex 0 0 ∷ vertex 2 0 ∷ vertex 0 2 ∷ []);
+      out = lent 1;
+      scratch = lent 1;
+      answer = fractured.Done 1 0;
+      out-then = triangle;
+      scratch-then = cleared 1;
+    }
+
+abbrev deoverlapping : DeoverlapCall
+deoverlapping = record { layer = triangle; out = lent 1; scratch = lent 1; answer = deoverlapped.Done 1 0; out-then = triangle; scratch-then = cleared 1 }
+
+abbrev sources : List Source
+sources = polygons fracturing deoverlapping ∷ []
+
+-- layer 0 united with itself is layer 1
+abbrev calls : List Call
+calls =
+    record {
+      step = record { code = 0; first = 0; second = 0; out = lent 1; scratch = lent 1 };
+      answer = combined.Done 1 1;
+      out = triangle;
+      scratch = cleared 1;
+    }
+    ∷ []
+
+-- one layer, its offset 0 and length 1, and its trapezoid
+abbrev words : List ℤ
+words = pos 1 ∷ pos 0 ∷ pos 1 ∷ triangle
+
+abbrev bytes : List ℕ
+bytes = wordsOf wordCodec words
+
+abbrev writing : WriteCall
+writing = record { words = words; out = replicate 108 7; answer = written.Done 1 0; out-then = bytes }
+
+abbrev reading : ReadCall
+reading = record { file = bytes; out = replicate 27 (pos 7); answer = read.Done 1 0; out-then = words }
+
+examples : All Accepted sources × Contracts (map layerFrom sources) calls × (words ≡ archiveWords (held (map layerFrom sources) calls) (1 ∷ []))
+    × WriteAccepted writing × (reading .file ≡ bytesBy writing) × ReadRight reading
+unfolding _⊕_ _⊖_ _⊗_ ⊝_ orderOf before sized recordAt recordsFrom wordsOf unsigned signed wordOf bytesOf insert levels
+    onGrid dx dy offset det numer crosses root meet heights rightOf below trapezoidOf trapezoidWords
+    lineOnGrid isLine belowBetween shapeVerdict verdict firstRefusal keep sum spans inside crossInside slabs upTo column columns sweep
+    commonLeft commonRight crossesInCommon overlapRight overlapFrom overlaps overlays.sides overlays.crossings overlays.events overlays.fills
+    overlays.tagAbove overlays.stack overlays.parts overlays.subdivision overlays.overlay overlays.tagged
+    less lessAll difference deoverlappedFrom lessMarks lessAllMarks differenceMarks deoverlappedMarks space
+    fileSized numberFrom countOf pairLength endOf pairsFrom directoryOf lengthsFrom cut vertexOf vertexWords pairsOf layerFileWords
+    vertexOnGrid firstOffGrid polygonFileChecked layersChecked layerFileChecked readLayers writeLayers
+    edge edgesFrom edges fractures.mark fractures.marks fractures.crossingsWith fractures.crossings fractures.events
+    fractures.trapezoids fractures.fracture fractures.fractureAll
+    fractureChecked combineChecked deoverlapChecked fractureOutcome outcomes.combined deoverlapOutcome outcomeOf called held Contracts
+examples = (
+  (record { fractured = record { kept = refl; accepted = tt }; lent = refl; deoverlapped = record { kept = refl; accepted = tt } }, tt),
+  (λ f g. refl, tt),
+  refl,
+  record { kept = refl; accepted = tt },
+  refl,
+  refl,
+)
