@@ -9,7 +9,7 @@
  * OUTPUTS. `out` takes trapezoids in the same form; past them its words are set to 0. `scratch` has as many words as `out`, and
  * all of them are 0 in the end. What either held before does not matter.
  *
- * MEMORY. What a call writes (`out`, `scratch`, `numbers`) overlaps nothing else that it is lent: no other output, no layer, not
+ * MEMORY. What a call writes (`out`, `scratch`, `numbers`) overlaps nothing else that it is given: no other output, no layer, not
  * `file` and not `words`. Nothing checks that: reading a layer file in place, for one, destroys it and answers success. What is only
  * read may be the same memory. Words are aligned to 4 bytes, bytes to none. A pointer may be NULL where its length is 0, and only
  * there.
@@ -19,7 +19,7 @@
  *
  * ANSWERS. Each call answers one number, which the functions loxurfa_refused to loxurfa_overlays take apart:
  *   bit 63 set    refused: the refusal's number in bits 32 to 39, its place in bits 0 to 31. With the numbers 1 to 11 nothing
- *                 lent has changed, with 12 (no space) the outputs and `scratch` are all 0.
+ *                 has changed, with 12 (no space) the outputs and `scratch` are all 0.
  *   bit 63 clear  done: the call's value, as said at each, in bits 32 to 62, the number of overlays made in bits 0 to 31 (0 where
  *                 nothing is said).
  */

@@ -1,11 +1,11 @@
 //! Calls every function with words on both sides of every buffer, in random and damaged cases: a call
-//! writes within what it is lent, nothing of what it only reads, and nothing at all where it is refused
+//! writes within what it is given, nothing of what it only reads, and nothing at all where it is refused
 //! with 1 to 11.
 
 mod reference;
 mod support;
 
-use support::calls::{any_call, Buffer, Call, Function, Lent};
+use support::calls::{any_call, Borrowed, Buffer, Call, Function};
 use support::outcomes::Outcomes;
 use support::{rounds, Random};
 
@@ -51,11 +51,11 @@ fn check(random: &mut Random, call: &Call) -> u64 {
     let (mut all, starts): (Vec<Buffer>, Vec<usize>) =
         call.buffers.iter().map(|b| guarded(random, b)).unzip();
     let before = all.clone();
-    let mut lent: Vec<Lent> = Vec::new();
+    let mut borrowed: Vec<Borrowed> = Vec::new();
     for ((all, &start), buffer) in all.iter_mut().zip(&starts).zip(&call.buffers) {
-        lent.push(all.part(start, start + buffer.len()));
+        borrowed.push(all.part(start, start + buffer.len()));
     }
-    let answer = call.make(&mut lent);
+    let answer = call.make(&mut borrowed);
     let (right, expected) = call.expected();
     assert_eq!(answer, right, "{call:?}");
 
@@ -101,7 +101,7 @@ fn random_calls() {
 
 /// Every buffer in turn without elements, then all of them.
 #[test]
-fn nothing_lent() {
+fn empty_buffers() {
     let random = &mut Random(92);
     let empty = |buffer: &mut Buffer| buffer.truncate(0);
     for function in Function::ALL {

@@ -24,7 +24,7 @@ struct buffer {
 struct call {
     uint32_t function, code;
     int32_t x, y, d;
-    struct buffer lent[BUFFERS];
+    struct buffer buffers[BUFFERS];
     uint64_t answer;
     uint32_t depth;
 };
@@ -48,10 +48,10 @@ static void write_all(const void *from, size_t bytes)
         fail("standard output");
 }
 
-static uint8_t *bytes(struct call *c, int i) { return c->lent[i].data; }
-static int32_t *words(struct call *c, int i) { return (int32_t *)(void *)c->lent[i].data; }
-static uint32_t *numbers(struct call *c, int i) { return (uint32_t *)(void *)c->lent[i].data; }
-static size_t count(struct call *c, int i) { return c->lent[i].count; }
+static uint8_t *bytes(struct call *c, int i) { return c->buffers[i].data; }
+static int32_t *words(struct call *c, int i) { return (int32_t *)(void *)c->buffers[i].data; }
+static uint32_t *numbers(struct call *c, int i) { return (uint32_t *)(void *)c->buffers[i].data; }
+static size_t count(struct call *c, int i) { return c->buffers[i].count; }
 
 static uint64_t perform(struct call *c)
 {
@@ -110,7 +110,7 @@ int main(void)
         if (!read_all(&c.code, 4) || !read_all(&c.x, 4) || !read_all(&c.y, 4) || !read_all(&c.d, 4))
             fail("a call is cut short");
         for (i = 0; i < BUFFERS; i++) {
-            struct buffer *b = &c.lent[i];
+            struct buffer *b = &c.buffers[i];
             size_t size;
             if (!read_all(&b->size, 4) || !read_all(&b->count, 4))
                 fail("a call is cut short");
@@ -134,8 +134,8 @@ int main(void)
         write_all(parts, sizeof parts);
         write_all(&c.depth, sizeof c.depth);
         for (i = 0; i < BUFFERS; i++) {
-            write_all(c.lent[i].data, (size_t)c.lent[i].size * c.lent[i].count);
-            free(c.lent[i].memory);
+            write_all(c.buffers[i].data, (size_t)c.buffers[i].size * c.buffers[i].count);
+            free(c.buffers[i].memory);
         }
     }
     if (fflush(stdout) != 0)

@@ -55,7 +55,7 @@ impl Function {
     }
 }
 
-/// What a call is lent.
+/// What a call is given.
 #[derive(Clone, Debug, PartialEq)]
 pub enum Buffer {
     Bytes(Vec<u8>),
@@ -64,7 +64,7 @@ pub enum Buffer {
 }
 
 /// The same, or a part of it, for the time of a call.
-pub enum Lent<'a> {
+pub enum Borrowed<'a> {
     Bytes(&'a mut [u8]),
     Words(&'a mut [i32]),
     Numbers(&'a mut [u32]),
@@ -72,11 +72,11 @@ pub enum Lent<'a> {
 
 impl Buffer {
     /// The elements from `start` to `end`.
-    pub fn part(&mut self, start: usize, end: usize) -> Lent<'_> {
+    pub fn part(&mut self, start: usize, end: usize) -> Borrowed<'_> {
         match self {
-            Buffer::Bytes(all) => Lent::Bytes(&mut all[start..end]),
-            Buffer::Words(all) => Lent::Words(&mut all[start..end]),
-            Buffer::Numbers(all) => Lent::Numbers(&mut all[start..end]),
+            Buffer::Bytes(all) => Borrowed::Bytes(&mut all[start..end]),
+            Buffer::Words(all) => Borrowed::Words(&mut all[start..end]),
+            Buffer::Numbers(all) => Borrowed::Numbers(&mut all[start..end]),
         }
     }
 
@@ -116,10 +116,10 @@ pub struct Call {
 
 impl Call {
     /// Makes the call on buffers of these kinds.
-    pub fn make(&self, lent: &mut [Lent]) -> u64 {
-        use Lent::*;
+    pub fn make(&self, borrowed: &mut [Borrowed]) -> u64 {
+        use Borrowed::*;
         let (code, [x, y, d]) = (self.code, self.point);
-        match (self.function, lent) {
+        match (self.function, borrowed) {
             (Fracture, [Bytes(f), Words(o), Words(s)]) => raw::fracture(f, o, s),
             (Combine, [Words(a), Words(b), Words(o), Words(s)]) => raw::combine(code, a, b, o, s),
             (Deoverlap, [Words(a), Words(o), Words(s)]) => raw::deoverlap(a, o, s),
@@ -135,11 +135,11 @@ impl Call {
     /// Makes the call on its own buffers.
     pub fn perform(&mut self) -> u64 {
         let mut buffers = self.buffers.clone();
-        let mut lent: Vec<Lent> = buffers
+        let mut borrowed: Vec<Borrowed> = buffers
             .iter_mut()
             .map(|buffer| buffer.part(0, buffer.len()))
             .collect();
-        let answer = self.make(&mut lent);
+        let answer = self.make(&mut borrowed);
         self.buffers = buffers;
         answer
     }
