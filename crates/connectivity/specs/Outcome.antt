@@ -23,7 +23,7 @@ abbrev pub row : ℕ → Bool → Checked → Checked
 row number true below = below
 row number false below = Refused number 0
 
--- row 1: "layer .. not a multiple of 24 words or above 12,288; .. component list not one entry per piece"
+-- row 1: "layer, output or work area for pieces not a multiple of 24 words or above 12,288; work area unlike output; component list not one entry per piece"
 unfoldable pub listsSized : List ℤ → ℕ → Bool
 listsSized a n = sized (length a) && eqb n (count trapezoidCodec a)
 

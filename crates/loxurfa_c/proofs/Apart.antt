@@ -1,4 +1,4 @@
--- Different answers are never packed into one number.
+-- Different answers are never packed into one number: each can be told from every other.
 use mathlib.Core.Path.{_≡_, refl, sym, ap, ap₂}
 use Prim.Native.Nat.{ℕ, _+_, _^_, _<_}
 use native.Mathlib.Omega.{arith}
