@@ -3,21 +3,21 @@ use mathlib.Core.Path.{_≡_, refl, sym, _∙_, ap, subst}
 use mathlib.Core.Bool.{Bool, true, false}
 use mathlib.Core.List.{List, [], _∷_, map}
 use mathlib.Core.Logic.{_↔_}
-use Prim.Native.Nat.{ℕ, zero, suc, _+_, _/_, _<_}
+use Prim.Native.Nat.{ℕ, _/_, _<_}
 use native.Mathlib.Omega.{arith}
 use lib.Dec.{T}
 use lib.IntN.{ℤ}
-use lib.ListN.{length, take, drop, getD}
+use lib.ListN.{length, take, getD}
 use Rattle.records.specs.Lists.{All, Any}
-use Rattle.records.specs.Records.{Codec}
 use Rattle.geometry.specs.declared.Trapezoid.{Trapezoid}
 use Rattle.geometry.specs.Points.{Point, IsPoint}
 use Rattle.geometry.specs.Trapezoids.{trapezoidCodec, layerOf, LiesInLayer, liesInLayer}
 use Rattle.geometry.proofs.Layers.{lies-in-layer-exact}
 use Rattle.files.specs.Formats.{fileWords}
-use Rattle.files.specs.Contents.{countIn, lengthsFrom, lengthsOf, unitsOf, cut, listsOf, polygonsOf, layersOf, fileLayersOf, layerWordsAt}
+use Rattle.files.specs.Contents.{countIn, polygonsOf, layersOf, fileLayersOf, layerWordsAt}
 use Rattle.files.specs.Outcomes as files
 use Rattle.files.specs.Statements.{wordsRead}
+use Rattle.files.proofs.Pairs.{lists-length}
 use Rattle.files.proofs.RoundTrip.{read-passed, read-words}
 use Rattle.files.proofs.Words.{layer-at, read-pairs}
 use Rattle.fracture.specs.Statements.{Wound}
@@ -58,20 +58,6 @@ module _ (f : FractureCall) (d : DeoverlapCall) (h : BothAccepted f d) where
       )
 
 -- ---- a layer of a layer file
--- there are as many lists as word 0 counts
-cut-length : {A : Type 0} (ns : List ℕ) (xs : List A) → length (cut ns xs) ≡ length ns
-unfolding cut
-cut-length [] xs = refl
-cut-length (n ∷ ns) xs = ap suc (cut-length ns (drop n xs))
-
-lengths-length : (ws : List ℤ) (n i : ℕ) → length (lengthsFrom ws n i) ≡ n
-unfolding lengthsFrom
-lengths-length ws zero i = refl
-lengths-length ws (suc n) i = ap suc (lengths-length ws n (i + 1))
-
-lists-length : {A : Type 0} (C : Codec ℤ A) (ws : List ℤ) → length (listsOf C ws) ≡ countIn ws
-lists-length C ws = cut-length (lengthsOf ws) (unitsOf C ws) ∙ lengths-length ws (countIn ws) 0
-
 module _ (r : ReadCall) (n : ℕ) (h : LayerAccepted r n) where
   read-done : T (files.isDone (files.readLayers (r .file) (r .out) .answer))
   read-done = subst (λ (o : files.Outcome ℤ). T (files.isDone (o .answer))) (h .read .kept) (h .read .accepted)

@@ -98,7 +98,15 @@ Made = Contracts start one × Contracts start two
 absent : (n : ℕ) → n < n → ⊥
 absent n h = omega arith
 
-chains : Made × Holds one (q-r ∷ []) × Holds two (q∩r ∷ q-r ∷ []) × Holds both (q-r ∷ q∩r ∷ q-r ∷ []) × (told start (stepsOf both) ≡ tells)
+-- a step with two equal numbers, and steps with an absent number
+abbrev Numbers : Type 0
+Numbers =
+    (Contracts start (itself ∷ []) × Contracts start (no-first ∷ []) × Contracts start (no-second ∷ []))
+    × (Holds (itself ∷ []) ([] ∷ []) × Holds (no-first ∷ []) [] × Holds (no-second ∷ []) [])
+    × (told start (stepsOf (itself ∷ [])) ≡ tell 2 0 0 true ∷ [])
+    × (told start (stepsOf (no-first ∷ no-second ∷ [])) ≡ tell 0 2 0 false ∷ tell 0 0 2 false ∷ [])
+
+chains : Made × Holds one (q-r ∷ []) × Holds two (q∩r ∷ q-r ∷ []) × Holds both (q-r ∷ q∩r ∷ q-r ∷ []) × (told start (stepsOf both) ≡ tells) × Numbers
 unfolding _⊕_ _⊖_ _⊗_ ⊝_ orderOf before sized recordAt recordsFrom wordsOf insert levels
     onGrid dx dy offset det numer crosses root meet heights rightOf below trapezoidOf trapezoidWords
     lineOnGrid isLine belowBetween shapeVerdict verdict firstRefusal keep spans columns sweep
@@ -111,28 +119,12 @@ chains = (
   (refl, refl),
   (refl, refl),
   refl,
-)
-
--- a step with two equal numbers, and steps with an absent number
-numbers : Contracts start (itself ∷ []) × Contracts start (no-first ∷ []) × Contracts start (no-second ∷ [])
-    × Holds (itself ∷ []) ([] ∷ []) × Holds (no-first ∷ []) [] × Holds (no-second ∷ []) []
-    × (told start (stepsOf (itself ∷ no-first ∷ [])) ≡ tell 2 0 0 true ∷ tell 0 2 0 true ∷ [])
-    × (told start (stepsOf (no-first ∷ no-second ∷ [])) ≡ tell 0 2 0 false ∷ tell 0 0 2 false ∷ [])
-unfolding _⊕_ _⊖_ _⊗_ ⊝_ orderOf before sized recordAt recordsFrom wordsOf insert levels
-    onGrid dx dy offset det numer crosses root meet heights rightOf below trapezoidOf trapezoidWords
-    lineOnGrid isLine belowBetween shapeVerdict verdict firstRefusal keep spans columns sweep
-    commonLeft commonRight crossesInCommon overlapRight overlapFrom overlaps sides crossings events fills tagAbove stack parts subdivision overlay tagged
-    less lessAll difference common intersection lessMarks lessAllMarks differenceMarks commonMarks intersectionMarks space
-    combineChecked combined outcomeOf called run held Contracts told
-numbers = (
-  (λ f g. refl, tt),
-  (λ f g. absurd (absent 2 f), tt),
-  (λ f g. absurd (absent 2 g), tt),
-  (refl, refl),
-  (refl, refl),
-  (refl, refl),
-  refl,
-  refl,
+  (
+    ((λ f g. refl, tt), (λ f g. absurd (absent 2 f), tt), (λ f g. absurd (absent 2 g), tt)),
+    ((refl, refl), (refl, refl), (refl, refl)),
+    refl,
+    refl,
+  ),
 )
 
 -- the first step alone: no success, and no layer more

@@ -1,7 +1,7 @@
 -- The pairs of a directory that is right, one by one, and the lists that they stand for.
 use mathlib.Core.Path.{_≡_, refl, sym, ap, _∙_, subst}
 use mathlib.Core.Bool.{Bool, true, false}
-use mathlib.Core.List.{List}
+use mathlib.Core.List.{List, [], _∷_}
 use Prim.Native.Nat.{ℕ, zero, suc, _+_, _*_, _-_, _/_, _<_, _≤_}
 use native.Mathlib.Nat.{mul-le-mul-left, not-suc-le-zero, le-of-suc-le-suc}
 use native.Mathlib.Omega.{arith}
@@ -16,7 +16,7 @@ use Rattle.files.specs.declared.Directory.{Directory}
 use Rattle.files.specs.declared.Directory.the-variants.{Wrong, Right}
 use Rattle.files.specs.Formats.{wordAt, fileSized, fileWords, polygonFile}
 use Rattle.files.specs.Directory.{pairsFrom, directoryOf, HasPairs}
-use Rattle.files.specs.Contents.{amountOf, countIn, offsetAt, lengthAt, lengthsFrom, bodyOf, unitsOf, cut, joined, listsFrom, vertexCodec, polygonsOf}
+use Rattle.files.specs.Contents.{amountOf, countIn, offsetAt, lengthAt, lengthsFrom, lengthsOf, bodyOf, unitsOf, cut, listsOf, joined, listsFrom, vertexCodec, polygonsOf}
 use Rattle.files.specs.Rows.{sizeRow, directoryRows, firstOffGrid, polygonFileChecked}
 use Rattle.files.specs.Statements.{ListsByOffset, ListsJoined, PairsFit, CheckedPairs}
 use Rattle.files.proofs.Reading.{drop-from, take-from, length-file}
@@ -25,6 +25,21 @@ use Rattle.files.proofs.Right.{next, stops, ends, right, count-in, in-f
 use Rattle.files.proofs.Bounds.{units-are}
 use Rattle.files.proofs.Polygons.{vertex-at}
 
+-- ---- there are as many lists as word 0 counts
+cut-length : {A : Type 0} (ns : List ℕ) (xs : List A) → length (cut ns xs) ≡ length ns
+unfolding cut
+cut-length [] xs = refl
+cut-length (n ∷ ns) xs = ap suc (cut-length ns (drop n xs))
+
+lengths-length : (ws : List ℤ) (n i : ℕ) → length (lengthsFrom ws n i) ≡ n
+unfolding lengthsFrom
+lengths-length ws zero i = refl
+lengths-length ws (suc n) i = ap suc (lengths-length ws n (i + 1))
+
+pub lists-length : {A : Type 0} (C : Codec ℤ A) (ws : List ℤ) → length (listsOf C ws) ≡ countIn ws
+lists-length C ws = cut-length (lengthsOf ws) (unitsOf C ws) ∙ lengths-length ws (countIn ws) 0
+
+-- ---- the pairs
 -- pair number j lies within so many units
 record Fits (f : Format) (ws : List ℤ) (total j : ℕ) : Type 0 where
   least : f .least ≤ lengthAt ws j

@@ -19,10 +19,11 @@ use Rattle.files.specs.declared.Directory.{Directory}
 use Rattle.files.specs.declared.Directory.the-variants.{Wrong, Right}
 use Rattle.files.specs.Formats.{fileSized, fileWords, polygonFile}
 use Rattle.files.specs.Directory.{directoryOf}
-use Rattle.files.specs.Contents.{countIn, lengthsFrom, lengthsOf, unitsOf, cut, vertexCodec, polygonsOf}
+use Rattle.files.specs.Contents.{vertexCodec, polygonsOf}
 use Rattle.files.specs.Rows.{sizeRow, directoryRows, vertexOnGrid, gridRow, firstOffGrid, polygonFileChecked}
 use Rattle.files.proofs.Bounds.{directory-bound}
 use Rattle.files.proofs.Right.{right, count-in}
+use Rattle.files.proofs.Pairs.{lists-length}
 use Rattle.overlay.specs.declared.Fill.{Fill}
 use Rattle.overlay.specs.declared.Fill.the-variants.{NoRoom, Written}
 use Rattle.overlay.specs.Code.{FilledAs}
@@ -67,24 +68,11 @@ unfolding firstOffGrid
 small-polygons L i [] l = tt
 small-polygons L i (p ∷ ps) l = small-grid (all (vertexOnGrid L) p) i (firstOffGrid L (i + 1) ps) (omega arith) (small-polygons L (i + 1) ps (omega arith))
 
-cut-length : {A : Type 0} (ns : List ℕ) (xs : List A) → length (cut ns xs) ≡ length ns
-unfolding cut
-cut-length [] xs = refl
-cut-length (n ∷ ns) xs = ap suc (cut-length ns (drop n xs))
-
-lengths-length : (ws : List ℤ) (n i : ℕ) → length (lengthsFrom ws n i) ≡ n
-unfolding lengthsFrom
-lengths-length ws zero i = refl
-lengths-length ws (suc n) i = ap suc (lengths-length ws n (i + 1))
-
-polygons-length : (ws : List ℤ) → length (polygonsOf ws) ≡ countIn ws
-polygons-length ws = cut-length (lengthsOf ws) (unitsOf vertexCodec ws) ∙ lengths-length ws (countIn ws) 0
-
 small-directory : (L : ℕ) (ws : List ℤ) (d : Directory) → directoryOf polygonFile ws ≡ d → SmallChecked (directoryRows d (firstOffGrid L 0 (polygonsOf ws)))
 small-directory L ws (Wrong number place) e = let h = directory-bound polygonFile ws e in (omega (arith, h .0), omega (arith, h .1))
 small-directory L ws (Right n total) e =
     let r = right polygonFile ws e in
-    small-polygons L 0 (polygonsOf ws) (omega (arith, polygons-length ws, count-in r, r .most))
+    small-polygons L 0 (polygonsOf ws) (omega (arith, lists-length vertexCodec ws, count-in r, r .most))
 
 small-size : (b : Bool) (c : Checked) → SmallChecked c → SmallChecked (sizeRow b c)
 small-size true c h = h
