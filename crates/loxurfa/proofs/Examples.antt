@@ -20,6 +20,7 @@ use Rattle.sweep.specs.Lists.{keep, sum}
 use Rattle.sweep.specs.Segments.{spans, inside, crossInside}
 use Rattle.sweep.specs.Columns.{slabs, upTo, column}
 use Rattle.sweep.specs.Sweep.{columns, sweep}
+use Rattle.connectivity.specs.Outcome as connectivity
 use Rattle.boolean.specs.Space.{space}
 use Rattle.files.specs.Formats.{fileSized}
 use Rattle.files.specs.Directory.{numberFrom, countOf, pairLength, endOf, pairsFrom, directoryOf}
@@ -29,8 +30,8 @@ use Rattle.files.specs.Outcomes as files
 use Rattle.fracture.specs.Polygons.{edge, edgesFrom, edges}
 use Rattle.fracture.specs.Fracture as fractures
 use Rattle.loxurfa.specs.Answers.{refused, refused-equality, refused-point}
-use Rattle.loxurfa.specs.Rows.{pointPasses, fractureChecked, combineChecked, equalChecked, containsChecked}
-use Rattle.loxurfa.specs.Outcomes.{fractureOutcome, combined, equalOutcome, containsAnswer}
+use Rattle.loxurfa.specs.Rows.{pointPasses, fractureChecked, combineChecked, deoverlapChecked, equalChecked, containsChecked}
+use Rattle.loxurfa.specs.Outcomes.{fractureOutcome, combined, deoverlapOutcome, equalOutcome, containsAnswer}
 use Rattle.loxurfa.specs.Table.{box, Q, layer, q, vertex, fileOf, point}
 
 -- ---- "Rows are checked downward": each input below breaks two rows or more
@@ -68,6 +69,15 @@ Asked =
     × (containsAnswer (point 0 0 0) (layer (far ∷ [])) [] 0 ≡ refused-point 3 0)
     × (containsAnswer (point 0 0 1) (layer (far ∷ [])) [] 0 ≡ refused-point 7 0)
 
+-- row 1, then 7 to 11, of the other calls
+abbrev Others : Type 0
+Others =
+    (deoverlapOutcome (layer (far ∷ [])) odd odd .answer ≡ refused 1 0)
+    × (deoverlapOutcome (layer (far ∷ [])) [] [] .answer ≡ refused 7 0)
+    × (equalOutcome (layer (far ∷ [])) [] odd odd .answer ≡ refused-equality 1 0)
+    × (connectivity.componentsOutcome (layer (far ∷ [])) [] .answer ≡ connectivity.refused 1 0)
+    × (connectivity.componentsOutcome (layer (far ∷ [])) (0 ∷ []) .answer ≡ connectivity.refused 7 0)
+
 -- ---- files: row 1, then 4, 5, 6, 7, then 12
 abbrev bytes : List ℤ → List ℕ
 bytes ws = wordsOf wordCodec ws
@@ -82,7 +92,8 @@ Polygons =
     × (fractureOutcome (fileOf (vertex 2049 0 ∷ vertex 2 0 ∷ vertex 0 2 ∷ [])) [] [] .answer ≡ refused 7 0)
     × (fractureOutcome (fileOf (vertex 0 0 ∷ vertex 2 0 ∷ vertex 0 2 ∷ [])) [] [] .answer ≡ refused 12 0)
 
--- 17 layers; an offset of 1; a trapezoid beyond the grid; and an output that is too short for any of them
+-- 17 layers; an offset of 1; a trapezoid beyond the grid; and an output that is too short for any of them. "in a book they are numbered through all
+-- layers": the second layer's first trapezoid is number 1.
 abbrev Layers : Type 0
 Layers =
     (files.readLayers (1 ∷ 2 ∷ 3 ∷ []) [] .answer ≡ files.refused 4 0)
@@ -91,7 +102,7 @@ Layers =
     × (files.readLayers (bytes (pos 1 ∷ pos 0 ∷ pos 1 ∷ layer (far ∷ []))) [] .answer ≡ files.refused 7 0)
     × (files.readLayers (bytes (pos 1 ∷ pos 0 ∷ pos 1 ∷ q)) [] .answer ≡ files.refused 12 0)
     × (files.writeLayers (pos 17 ∷ pos 1 ∷ []) [] .answer ≡ files.refused 5 0)
-    × (files.writeLayers (pos 1 ∷ pos 0 ∷ pos 2 ∷ layer (Q ∷ far ∷ [])) [] .answer ≡ files.refused 7 1)
+    × (files.writeLayers (pos 2 ∷ pos 0 ∷ pos 1 ∷ pos 1 ∷ pos 1 ∷ layer (Q ∷ far ∷ [])) [] .answer ≡ files.refused 7 1)
     × (files.writeLayers (pos 1 ∷ pos 0 ∷ pos 1 ∷ q) [] .answer ≡ files.refused 12 0)
 
 -- ---- "Files are signed 32-bit words, low byte first."
@@ -102,7 +113,7 @@ Bytes =
     × (wordOf (2 ∷ 1 ∷ 0 ∷ 0 ∷ []) ≡ pos 258)
     × (wordOf (0 ∷ 248 ∷ 255 ∷ 255 ∷ []) ≡ negsuc 2047)
 
-examples : Combined × Places × Asked × Polygons × Layers × Bytes
+examples : Combined × Places × Asked × Others × Polygons × Layers × Bytes
 unfolding _⊕_ _⊖_ _⊗_ ⊝_ orderOf before sized recordAt recordsFrom wordsOf unsigned signed wordOf bytesOf insert levels
     onGrid dx dy offset det numer crosses root meet heights rightOf below trapezoidOf trapezoidWords
     lineOnGrid isLine belowBetween shapeVerdict verdict firstRefusal keep sum spans inside crossInside slabs upTo column columns sweep space
@@ -110,11 +121,13 @@ unfolding _⊕_ _⊖_ _⊗_ ⊝_ orderOf before sized recordAt recordsFrom words
     layersChecked layerFileChecked files.readLayers files.writeLayers
     edge edgesFrom edges fractures.mark fractures.marks fractures.crossingsWith fractures.crossings fractures.events
     fractures.trapezoids fractures.fracture fractures.fractureAll
-    pointPasses fractureChecked combineChecked equalChecked containsChecked fractureOutcome combined equalOutcome containsAnswer
+    connectivity.listsSized connectivity.componentsChecked connectivity.componentsOutcome
+    pointPasses fractureChecked combineChecked deoverlapChecked equalChecked containsChecked fractureOutcome combined deoverlapOutcome equalOutcome containsAnswer
 examples = (
   (refl, refl, refl, refl),
   (refl, refl, refl),
   (refl, refl, refl, refl),
+  (refl, refl, refl, refl, refl),
   (refl, refl, refl, refl, refl, refl),
   (refl, refl, refl, refl, refl, refl, refl, refl),
   (refl, refl, refl, refl),
