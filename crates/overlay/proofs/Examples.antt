@@ -1,8 +1,8 @@
--- The definitions compute: the paper's cases (a) and (e), ties of events and of sides in both orders of A and B, a tip on a side, and 15 parts.
+-- The definitions compute: the paper's cases (a) and (e), ties of events and of sides in both orders of A and B, a tip on a side, 15 parts, parts of B only.
 use mathlib.Core.Path.{_≡_, refl}
 use mathlib.Core.List.{List, [], _∷_}
 use Prim.Native.Nat.{ℕ, suc}
-use lib.IntN.{pos}
+use lib.IntN.{pos, negsuc}
 use Rattle.integer.specs.Integer.{_⊕_, _⊖_, _⊗_, ⊝_}
 use Rattle.integer.specs.Compare.{orderOf}
 use Rattle.integer.specs.Fraction.{before}
@@ -16,7 +16,7 @@ use Rattle.sweep.specs.Lists.{keep}
 use Rattle.sweep.specs.Segments.{spans}
 use Rattle.sweep.specs.Sweep.{columns, sweep}
 use Rattle.overlay.specs.Overlaps.{crossing, commonLeft, commonRight, crossesInCommon, overlapRight, overlapFrom, overlaps}
-use Rattle.overlay.specs.Overlay.{Part, sides, crossings, events, fills, tagAbove, stack, parts, subdivision, overlay}
+use Rattle.overlay.specs.Overlay.{Part, sides, crossings, events, fills, tagAbove, stack, parts, subdivision, overlay, tagged}
 
 abbrev line : ℕ → ℕ → ℕ → ℕ → Line
 line a b c d = record { x1 = pos a; y1 = pos b; x2 = pos c; y2 = pos d }
@@ -133,7 +133,115 @@ Fifteen =
     tags (overlay falling rising)
     ≡ 1 ∷ 2 ∷ 1 ∷ 2 ∷ 3 ∷ 1 ∷ 2 ∷ 3 ∷ 2 ∷ 1 ∷ 3 ∷ 2 ∷ 1 ∷ 2 ∷ 2 ∷ []
 
+-- ---- B only
+-- The parts with tag 2. No call shows them: in B − A the two change places, and events and coinciding sides have B's names and lines.
+abbrev second : Trapezoid → Trapezoid → List Trapezoid
+second A B = tagged 2 (overlay A B)
+
+abbrev between : Base → Base → Line → Line → Trapezoid
+between p q l m = record { left = p; right = q; bottom = l; top = m }
+
+-- (a): in [2, 4) what is over the top of Q, in [4, 6) all of R
+abbrev SecondOfBoxes : Type 0
+SecondOfBoxes =
+    second square (box 2 2 6 6)
+    ≡ between (upright 2) (upright 4) (line 0 4 4 4) (line 2 6 6 6)
+    ∷ between (upright 4) (upright 6) (line 2 2 6 2) (line 2 6 6 6)
+    ∷ []
+
+-- B begins where Q ends, and its base is named by other lines: whole, with its own name
+abbrev beside : Trapezoid
+beside = between (crossing (line 0 4 4 0) (line 4 0 5 1)) (upright 8) (line 4 1 8 0) (line 4 2 8 4)
+
+abbrev SecondBeside : Type 0
+SecondBeside = second square beside ≡ beside ∷ []
+
+-- the bottom of B is the top of Q, by other points: whole, with its own line
+abbrev above : Trapezoid
+above = between (upright 2) (upright 6) (line 0 4 8 4) (line 2 8 6 8)
+
+abbrev SecondAbove : Type 0
+SecondAbove = second square above ≡ above ∷ []
+
+-- A inside B: left of A, below it, above it, right of it
+abbrev SecondAround : Type 0
+SecondAround =
+    second (box 1 1 3 3) square
+    ≡ between (upright 0) (upright 1) (line 0 0 4 0) (line 0 4 4 4)
+    ∷ between (upright 1) (upright 3) (line 0 0 4 0) (line 1 1 3 1)
+    ∷ between (upright 1) (upright 3) (line 1 3 3 3) (line 0 4 4 4)
+    ∷ between (upright 3) (upright 4) (line 0 0 4 0) (line 0 4 4 4)
+    ∷ []
+
+-- the bases are level: one column with A's names
+abbrev otherFour : Base
+otherFour = crossing (line 0 4 4 0) (line 0 0 1 0)
+
+abbrev SecondLevel : Type 0
+SecondLevel =
+    second square (between (renamed 0) otherFour (line 0 2 4 2) (line 0 6 4 6))
+    ≡ between (upright 0) (upright 4) (line 0 4 4 4) (line 0 6 4 6)
+    ∷ []
+
+-- the bottoms coincide in [2, 4), where A's line is taken; in [4, 6) only the range of B holds the column, so B has its own bottom
+abbrev SecondLow : Type 0
+SecondLow =
+    second square (between (upright 2) (upright 6) (line 0 0 8 0) (line 2 2 6 2))
+    ≡ between (upright 4) (upright 6) (line 0 0 8 0) (line 2 2 6 2)
+    ∷ []
+
+-- both tips at (0, 0): one column with A's names, and B over the top of A
+abbrev firstTip : Base
+firstTip = crossing (line 0 0 4 0) (line 0 0 4 2)
+
+abbrev secondTip : Base
+secondTip = crossing (line 0 0 4 1) (line 0 0 4 4)
+
+abbrev SecondTips : Type 0
+SecondTips =
+    second (between firstTip (upright 4) (line 0 0 4 0) (line 0 0 4 2)) (between secondTip otherFour (line 0 0 4 1) (line 0 0 4 4))
+    ≡ between firstTip (upright 4) (line 0 0 4 2) (line 0 0 4 4)
+    ∷ []
+
+-- B narrows into Q: the bottoms and the tops cross at 2, one event with the name of the bottoms, A's first; B only is below Q and above it
+abbrev narrowing : Line
+narrowing = record { x1 = pos 0; y1 = negsuc 0; x2 = pos 4; y2 = pos 1 }
+
+abbrev entry : Base
+entry = crossing (line 0 0 4 0) narrowing
+
+abbrev SecondWedge : Type 0
+SecondWedge =
+    second square (between (upright 1) (upright 3) narrowing (line 0 5 4 3))
+    ≡ between (upright 1) entry narrowing (line 0 0 4 0)
+    ∷ between (upright 1) entry (line 0 4 4 4) (line 0 5 4 3)
+    ∷ []
+
+-- B runs from above Q to below it: events at 1 (A's top with B's bottom), 2 (the bottoms, and the tops), 3 (A's bottom with B's top)
+abbrev highEntry : Base
+highEntry = crossing (line 0 4 4 4) (line 1 4 2 0)
+
+abbrev bottomsCross : Base
+bottomsCross = crossing (line 0 0 4 0) (line 1 4 2 0)
+
+abbrev lowExit : Base
+lowExit = crossing (line 0 0 4 0) (line 2 4 3 0)
+
+abbrev SecondSteep : Type 0
+SecondSteep =
+    second square (between (upright 0) (upright 4) (line 1 4 2 0) (line 2 4 3 0))
+    ≡ between (upright 0) highEntry (line 1 4 2 0) (line 2 4 3 0)
+    ∷ between highEntry bottomsCross (line 0 4 4 4) (line 2 4 3 0)
+    ∷ between bottomsCross lowExit (line 1 4 2 0) (line 0 0 4 0)
+    ∷ between lowExit (upright 4) (line 1 4 2 0) (line 2 4 3 0)
+    ∷ []
+
 examples : CaseA × CaseE × Equal × EqualTurned × Remainder × RemainderTurned × Level × Tip × Fifteen
 unfolding _⊕_ _⊖_ _⊗_ ⊝_ orderOf before insert levels dx dy offset det numer crosses root meet heights rightOf below keep spans columns sweep
     commonLeft commonRight crossesInCommon overlapRight overlapFrom overlaps sides crossings events fills tagAbove stack parts subdivision overlay
 examples = (refl, refl, refl, refl, refl, refl, refl, refl, refl)
+
+seconds : SecondOfBoxes × SecondBeside × SecondAbove × SecondAround × SecondLevel × SecondLow × SecondTips × SecondWedge × SecondSteep
+unfolding _⊕_ _⊖_ _⊗_ ⊝_ orderOf before insert levels dx dy offset det numer crosses root meet heights rightOf below keep spans columns sweep
+    commonLeft commonRight crossesInCommon overlapRight overlapFrom overlaps sides crossings events fills tagAbove stack parts subdivision overlay tagged
+seconds = (refl, refl, refl, refl, refl, refl, refl, refl, refl)
