@@ -1,5 +1,5 @@
 //! Compares the reading and writing of layer files with the reference: the whole answer and the
-//! whole output.
+//! whole output; and has cases worked out by hand.
 
 mod reference;
 mod support;
@@ -8,7 +8,7 @@ use loxurfa::{raw, Refusal};
 use reference::{files, unfit, WORDS};
 use support::files::{about, damage_bytes, damage_file, file_bytes, file_words};
 use support::outcomes::{refusal, Outcomes};
-use support::{assert_met, damage, rectangle, rounds, Random, Scene};
+use support::{assert_met, damage, rectangle, rounds, words, Random, Scene};
 
 /// Words of a layer file of at most 16 layers and 512 trapezoids.
 const LONGEST_WORDS: usize = 1 + 2 * 16 + 512 * WORDS;
@@ -54,6 +54,10 @@ fn both(words: &[i32]) -> u64 {
     let (written, _) = write(words, &[77; 4 * LONGEST_WORDS]);
     assert_eq!(answer, written, "{words:?}");
     answer
+}
+
+fn pieces(count: u64) -> u64 {
+    count << 32
 }
 
 fn garbage_bytes(random: &mut Random, bytes: usize) -> Vec<u8> {
@@ -288,18 +292,15 @@ fn most_layers_and_trapezoids() {
         }
         file_words(&layers, WORDS)
     };
-    let pieces = |count: u64| count << 32;
 
-    assert_eq!(both(&file(&[])), pieces(0));
-    assert_eq!(both(&file(&[0; 16])), pieces(0));
-    assert_eq!(both(&file(&[0; 17])), refusal(5, 0));
     assert_eq!(both(&file(&[1; 16])), pieces(16));
     assert_eq!(both(&file(&[32; 16])), pieces(512));
     assert_eq!(both(&file(&[32; 17])), refusal(5, 0));
 
-    // Totals of 512 and 513.
+    // Totals of 512 and 513: refused at the layer that makes 513.
     assert_eq!(both(&file(&[512])), pieces(512));
     assert_eq!(both(&file(&[513])), refusal(6, 0));
+    assert_eq!(both(&file(&[256, 256])), pieces(512));
     assert_eq!(both(&file(&[511, 1])), pieces(512));
     assert_eq!(both(&file(&[512, 0])), pieces(512));
     assert_eq!(both(&file(&[0, 512])), pieces(512));
@@ -345,6 +346,7 @@ fn lengths_of_files() {
         out = now;
         answer
     };
+    // No byte, under 4, no multiple of 4, over 65,532.
     for bytes in [0, 1, 2, 3, 5, 6, 7, 65_529, 65_530, 65_531, 65_533, 65_536] {
         assert_eq!(length(bytes, 0), refusal(4, 0));
         assert_eq!(length(bytes, -1), refusal(4, 0));
@@ -357,13 +359,11 @@ fn lengths_of_files() {
     assert_eq!(length(65_532, 16), refusal(6, 16));
     assert_eq!(length(65_532, 17), refusal(5, 0));
     assert_eq!(length(65_532, -1), refusal(5, 0));
-    assert_eq!(length(8, 0), refusal(6, 0));
     assert_eq!(length(4 + 4 * 24, 0), refusal(6, 0));
     assert_eq!(length(4, 1), refusal(5, 0));
     assert_eq!(length(8, 1), refusal(5, 0));
     assert_eq!(length(16, 1), refusal(6, 1));
-    assert_eq!(length(4 + 8 * 16, 16), 0);
-    assert_eq!(length(8 * 16, 16), refusal(5, 0));
+    // N = 0 and nothing past it.
     assert_eq!(length(4, 0), 0);
 
     // A writer has no row 4.
@@ -387,6 +387,126 @@ fn lengths_of_files() {
     assert_eq!(write(&[0], &[9; 5]), (0, vec![0; 5]));
     assert_eq!(read(&[0; 4], &[]).0, refusal(12, 0));
     assert_eq!(read(&[0; 4], &[9; 2]), (0, vec![0; 2]));
+}
+
+/// A count, and zeros past it.
+#[test]
+fn counts() {
+    let count = |first: i32, length: usize| {
+        let mut file = vec![0; length];
+        file[0] = first;
+        both(&file)
+    };
+    // N = 0 and no body.
+    assert_eq!(count(0, 1), pieces(0));
+    // N = 0 and a body.
+    assert_eq!(count(0, 2), refusal(6, 0));
+    // 16 layers of no trapezoid.
+    assert_eq!(count(16, 33), pieces(0));
+    // The last pair has no length.
+    assert_eq!(count(16, 32), refusal(5, 0));
+    // 17 layers.
+    assert_eq!(count(17, 35), refusal(5, 0));
+    // Out of range.
+    for first in [-1, i32::MIN, i32::MAX] {
+        assert_eq!(count(first, 33), refusal(5, 0));
+    }
+}
+
+/// [0,4) by [0,4)
+fn square() -> Vec<i32> {
+    words("0 0 1 0  0 0 1 1  0 0 1 0  4 0 5 1  0 0 4 0  0 4 4 4")
+}
+
+/// Two pairs, and squares past them up to a number of words.
+fn two_layers(pairs: [i32; 4], length: usize) -> Vec<i32> {
+    let mut file = vec![2];
+    file.extend(pairs);
+    file.extend(square().iter().cycle().take(length - 5));
+    file
+}
+
+#[test]
+fn pairs() {
+    let answer = |pairs: [i32; 4], length: usize| both(&two_layers(pairs, length));
+    // Two layers of a square each.
+    assert_eq!(answer([0, 1, 1, 1], 53), pieces(2));
+    // The last word is missing.
+    assert_eq!(answer([0, 1, 1, 1], 52), refusal(6, 2));
+    // One word too many.
+    assert_eq!(answer([0, 1, 1, 1], 54), refusal(6, 2));
+    // The second offset is 2, not 1.
+    assert_eq!(answer([0, 1, 2, 1], 53), refusal(6, 1));
+    // The first offset is 1, and the second is wrong too.
+    assert_eq!(answer([1, 1, 1, 1], 53), refusal(6, 0));
+    // A negative offset.
+    assert_eq!(answer([0, 1, i32::MIN, 1], 53), refusal(6, 1));
+    // A negative length.
+    assert_eq!(answer([0, i32::MIN, 1, 1], 53), refusal(6, 0));
+    // A length above 512.
+    assert_eq!(answer([0, 1, 1, i32::MAX], 53), refusal(6, 1));
+}
+
+/// Words of the third square, the second of the second layer, which starts at word 53, set to others.
+#[test]
+fn rows() {
+    let third = |changes: &[(usize, i32)]| {
+        let mut file = two_layers([0, 1, 1, 2], 77);
+        for &(place, word) in changes {
+            file[place] = word;
+        }
+        both(&file)
+    };
+    // The square's own words.
+    assert_eq!(third(&[]), pieces(3));
+    // 2,049 in the top.
+    assert_eq!(third(&[(76, 2049)]), refusal(7, 2));
+    assert_eq!(third(&[(76, i32::MIN)]), refusal(7, 2));
+    assert_eq!(third(&[(53, i32::MAX)]), refusal(7, 2));
+    // The bottom's x1 and x2 are 0.
+    assert_eq!(third(&[(71, 0)]), refusal(8, 2));
+    // The lines of the left base coincide.
+    assert_eq!(third(&[(60, 0)]), refusal(9, 2));
+    // The left base is at 5, the right one at 4.
+    assert_eq!(third(&[(57, 5), (59, 6)]), refusal(10, 2));
+    // The top is at -1 at the left base, the bottom at 0.
+    assert_eq!(third(&[(74, -1)]), refusal(11, 2));
+}
+
+/// What an output holds of a file of one square, 27 words. Nothing is written past the room that a call
+/// is given.
+#[test]
+fn outputs() {
+    let mut words = [vec![1, 0, 1], square()].concat();
+    words.push(0);
+    let file = file_bytes(&words);
+    // Words 0, 26, 27 and 63 of an output of sevens.
+    let read = |length: usize, room: usize| {
+        let mut out = [7; 64];
+        let answer = raw::read_layers(&file[..length], &mut out[..room]);
+        (answer, [0, 26, 27, 63].map(|place| out[place]))
+    };
+    // Zero past the file's words.
+    assert_eq!(read(108, 30), (pieces(1), [1, 4, 0, 7]));
+    // They just fit.
+    assert_eq!(read(108, 27), (pieces(1), [1, 4, 7, 7]));
+    // Too short by one: the 26 words are zero.
+    assert_eq!(read(108, 26), (refusal(12, 0), [0, 7, 7, 7]));
+    // One word too many: nothing changed.
+    assert_eq!(read(112, 30), (refusal(6, 1), [7, 7, 7, 7]));
+
+    // Bytes 0, 104, 108 and 255 of an output of nines.
+    let write = |length: usize, room: usize| {
+        let mut out = [9; 256];
+        let answer = raw::write_layers(&words[..length], &mut out[..room]);
+        (answer, [0, 104, 108, 255].map(|place| out[place]))
+    };
+    // Zero past the file.
+    assert_eq!(write(27, 112), (pieces(1), [1, 4, 0, 9]));
+    // Too short by one: the 107 bytes are zero.
+    assert_eq!(write(27, 107), (refusal(12, 0), [0, 0, 9, 9]));
+    // One word too many: nothing changed.
+    assert_eq!(write(28, 112), (refusal(6, 1), [9, 9, 9, 9]));
 }
 
 /// Each row from 7 to 11 in each layer of a file, numbered through all layers; the lowest place

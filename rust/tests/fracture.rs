@@ -1,51 +1,20 @@
 //! Compares fracture with the reference: the whole answer, the whole output and the whole scratch
-//! area; and its trapezoids with the winding number.
+//! area; and its trapezoids with the winding number. Cases worked out by hand are in polygons.rs.
 
 mod reference;
 mod support;
 
 use loxurfa::{raw, Done, Refusal};
-use reference::files::{read_polygons, Polygon};
+use reference::files::Polygon;
 use reference::fracture::{edges, events, fracture_polygon, winding};
 use reference::listing::{list, list_answer};
 use reference::{read_layer, Fraction, Line, Point, WORDS};
 use std::cmp::Ordering;
 use support::files::{about, damage_bytes, damage_file, file_bytes};
 use support::outcomes::{refusal, Outcomes};
+use support::outputs::fracture;
 use support::polygons::{any_polygons, point_near_polygon, polygon_file, polygon_words, Window};
 use support::{assert_met, rounds, Random};
-
-/// Fractures by the library and by the reference and gives the answer and output they agree on.
-fn fracture(file: &[u8], before: &[i32], before_scratch: &[i32]) -> (u64, Vec<i32>) {
-    let (mut out, mut scratch) = (before.to_vec(), before_scratch.to_vec());
-    let (mut expected, mut expected_scratch) = (out.clone(), scratch.clone());
-    let answer = raw::fracture(file, &mut out, &mut scratch);
-    let right = reference::fracture::fracture(file, &mut expected, &mut expected_scratch);
-    let describe = || {
-        format!(
-            "output {} scratch {} file {file:?}\n{:?}",
-            before.len(),
-            before_scratch.len(),
-            read_polygons(file)
-        )
-    };
-    assert!(
-        answer == right,
-        "answer {answer:#x}, not {right:#x}\n{}",
-        describe()
-    );
-    assert!(
-        out == expected,
-        "output {out:?}\nnot {expected:?}\n{}",
-        describe()
-    );
-    assert!(
-        scratch == expected_scratch,
-        "scratch {scratch:?}\n{}",
-        describe()
-    );
-    (answer, out)
-}
 
 /// Fractures polygons with room for some records.
 fn fractured(polygons: &[Polygon], records: usize) -> (u64, Vec<i32>) {
@@ -389,52 +358,7 @@ fn every_place_of_small_files() {
 }
 
 // ---------------------------------------------------------------------------------------------
-// Cases of the paper's table and beside them
-
-#[test]
-fn g_crossed_quadrilateral() {
-    let polygon = vec![[0, 0], [4, 4], [4, 0], [0, 4]];
-    let (answer, words) = fractured(std::slice::from_ref(&polygon), 2);
-    assert_eq!(answer, pieces(2));
-    #[rustfmt::skip]
-    assert_eq!(words, [
-        0, 0, 1, 0,  0, 0, 1, 1,  0, 0, 4, 4,  0, 4, 4, 0,  0, 0, 4, 4,  0, 4, 4, 0,
-        0, 0, 4, 4,  0, 4, 4, 0,  0, 0, 1, 0,  4, 0, 5, 1,  0, 4, 4, 0,  0, 0, 4, 4,
-    ]);
-    assert_eq!(fractured(&[polygon], 1).0, refusal(12, 0));
-}
-
-#[test]
-fn h_run_through_twice() {
-    let once = vec![[0, 0], [2, 0], [2, 2], [0, 2]];
-    let (answer, words) = fractured(&[[once.clone(), once.clone()].concat()], 512);
-    assert_eq!(answer, pieces(1));
-    #[rustfmt::skip]
-    assert_eq!(words, [
-        0, 0, 1, 0,  0, 0, 1, 1,  0, 0, 1, 0,  2, 0, 3, 1,  0, 0, 2, 0,  0, 2, 2, 2,
-    ]);
-    // There and back nothing is left, and no room is needed.
-    let back: Polygon = once.iter().rev().copied().collect();
-    assert_eq!(fractured(&[[once, back].concat()], 0).0, pieces(0));
-}
-
-#[test]
-fn i_at_the_limit() {
-    let (answer, words) = fractured(&[vec![[2048, 2048], [2047, 2048], [2048, 2047]]], 1);
-    assert_eq!(answer, pieces(1));
-    #[rustfmt::skip]
-    assert_eq!(words, [
-        0, 0, 1, 0,  2047, 0, 2048, 1,  0, 0, 1, 0,  2047, 1, 2048, 0,
-        2047, 2048, 2048, 2047,  2047, 2048, 2048, 2048,
-    ]);
-    for wrong in [2049, -2049, i32::MIN, i32::MAX] {
-        let beyond = vec![[2048, 2048], [2047, 2048], [2048, wrong]];
-        assert_eq!(fractured(&[beyond], 1).0, refusal(7, 0));
-        let beyond = vec![[2048, 2048], [wrong, 2048], [2048, 2047]];
-        let fit = vec![[0, 0], [1, 0], [0, 1]];
-        assert_eq!(fractured(&[fit.clone(), fit, beyond], 0).0, refusal(7, 2));
-    }
-}
+// Limits
 
 /// 2 vertices are too few, 33 too many.
 #[test]

@@ -1,10 +1,12 @@
-//! The cases of the paper's proved table that concern these calls, and a few beside them.
+//! The cases of the paper's proved table that concern these calls, and a few beside them. The words of
+//! the parts are in overlays.rs.
 
 mod reference;
 mod support;
 
 use loxurfa::{combine, contains, deoverlap, equal, Code, Done, Equality, Refusal};
 use reference::{read_layer, WORDS};
+use support::outputs::combined;
 use support::rectangle;
 
 const NO_SPACE: Refusal = Refusal {
@@ -18,25 +20,6 @@ fn q() -> Vec<i32> {
 
 fn r() -> Vec<i32> {
     rectangle(2, 6, 2, 6)
-}
-
-/// Combines with room for the given number of records.
-fn combined(code: Code, a: &[i32], b: &[i32], records: usize) -> Result<(Done, Vec<i32>), Refusal> {
-    let mut out = vec![7; records * WORDS];
-    let mut scratch = vec![9; records * WORDS];
-    let done = combine(code, a, b, &mut out, &mut scratch);
-    assert!(scratch.iter().all(|&word| word == 0));
-    match done {
-        Err(refusal) => {
-            assert!(out.iter().all(|&word| word == 0));
-            Err(refusal)
-        }
-        Ok(done) => {
-            let rest = out.split_off(done.pieces as usize * WORDS);
-            assert!(rest.iter().all(|&word| word == 0));
-            Ok((done, out))
-        }
-    }
 }
 
 /// The tags of an overlay by the reference.
@@ -61,11 +44,6 @@ fn b_q_minus_r() {
             overlays: 1
         }
     );
-    #[rustfmt::skip]
-    assert_eq!(words, [
-        0, 0, 1, 0,  0, 0, 1, 1,  0, 0, 1, 0,  2, 0, 3, 1,  0, 0, 1, 0,  0, 4, 1, 4,
-        0, 0, 1, 0,  2, 0, 3, 1,  0, 0, 1, 0,  4, 0, 5, 1,  0, 0, 1, 0,  0, 2, 1, 2,
-    ]);
     assert_eq!(combined(Code::AMinusB, &q(), &r(), 1), Err(NO_SPACE));
     assert_eq!(combined(Code::AMinusB, &q(), &r(), 0), Err(NO_SPACE));
     // The same from the other side.
@@ -116,6 +94,7 @@ fn e_side_by_side() {
 
 #[test]
 fn f_points_of_q() {
+    // The right base is left out, the left one and the bottom are not.
     assert_eq!(contains(4, 0, 1, &q(), &[], Code::Union), Ok(false));
     assert_eq!(contains(0, 0, 1, &q(), &[], Code::Union), Ok(true));
 }

@@ -5,6 +5,7 @@
 pub mod calls;
 pub mod files;
 pub mod outcomes;
+pub mod outputs;
 pub mod polygons;
 pub mod programs;
 pub mod shapes;
@@ -69,6 +70,12 @@ impl Random {
     pub fn garbage(&mut self, words: usize) -> Vec<i32> {
         (0..words).map(|_| self.next() as i32 | 1).collect()
     }
+}
+
+/// The words that a text names.
+pub fn words(text: &str) -> Vec<i32> {
+    let word = |w: &str| w.parse().unwrap_or_else(|_| panic!("{w} is no word"));
+    text.split_whitespace().map(word).collect()
 }
 
 /// The line 0 0 1 0 and one that crosses it at k.
