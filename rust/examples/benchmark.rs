@@ -11,6 +11,8 @@ mod support;
 mod components;
 #[path = "rows/fracture.rs"]
 mod fracture;
+#[path = "rows/overlay.rs"]
+mod overlay;
 
 use loxurfa::raw;
 use reference::{Line, LIMIT, WORDS};
@@ -222,6 +224,7 @@ fn main() {
     let b = tiles(16, 32, whole, whole, 200);
     row("dense", EQUALITY, &a, &b);
 
+    overlay::rows();
     fracture::rows();
     components::rows();
 }
