@@ -86,7 +86,7 @@ fn compare(program: &Path, calls: &[Call]) -> usize {
     deepest
 }
 
-/// What the header's functions read in an answer makes up the answer, as crates/loxurfa_c/specs/Packed.antt
+/// What the header's functions read in an answer makes up the answer, as crates/calls/specs/Packed.antt
 /// has it.
 fn assert_parts(answer: u64, [refused, number, place, value, overlays]: [u64; 5]) {
     let packed = match refused {

@@ -69,7 +69,7 @@ fn constants() -> Vec<(&'static str, i64, i64)> {
     let width = defined(LIMITS, "memoryWidth");
     let most = defined(LIMITS, "maxRecords");
     let limit = defined("crates/geometry/specs/Limit.antt", "coordinateLimit");
-    let denominator = between("crates/loxurfa/specs/Rows.antt", "leZ (P .D) (pos ", "))");
+    let denominator = between("crates/calls/specs/Rows.antt", "leZ (P .D) (pos ", "))");
     let (polygons, layers) = (format("polygonFile"), format("layerFile"));
     let bytes = between(FORMATS, "leb n ", ")");
     let words = 1 + 2 * layers["count"] + layers["unit"] * layers["total"];
@@ -136,11 +136,11 @@ fn codes() -> Vec<(&'static str, i64, i64)> {
 
 /// The refusals: name, number by the definitions, number in the Rust crate.
 fn refusals() -> Vec<(&'static str, i64, i64)> {
-    let rows = "crates/loxurfa/specs/Rows.antt";
+    let rows = "crates/calls/specs/Rows.antt";
     let files = "crates/files/specs/Rows.antt";
     let directory = "crates/files/specs/Directory.antt";
     let fitness = "crates/geometry/specs/Fitness.antt";
-    let outcomes = "crates/loxurfa/specs/Outcomes.antt";
+    let outcomes = "crates/calls/specs/Outcomes.antt";
     let grid = between(fitness, "pass (all (lineOnGrid L) (linesOf t)) ", " ");
     assert_eq!(
         grid,
@@ -260,7 +260,7 @@ fn header_page_and_crate() {
         assert!(rows.all(|row| leading(&row[0]) == Some(right)), "{name}");
     }
     // The values of `equal`: side 0 is 1, side 1 is 2.
-    let packed = text("crates/loxurfa_c/specs/Packed.antt");
+    let packed = text("crates/calls/specs/Packed.antt");
     assert!(packed.contains("packedEquality (same overlays) = success 0 overlays"));
     assert!(packed.contains("packedEquality (differs side overlays) = success (side + 1) overlays"));
     for (name, value) in [("SAME", 0), ("DIFFERS_IN_A", 1), ("DIFFERS_IN_B", 2)] {
@@ -274,7 +274,7 @@ fn header_page_and_crate() {
 /// The bits of an answer: tests/calls.rs holds the header to them.
 #[test]
 fn bits() {
-    let packed = text("crates/loxurfa_c/specs/Packed.antt");
+    let packed = text("crates/calls/specs/Packed.antt");
     assert!(packed.contains("refusal number place = 2 ^ 63 + 2 ^ 32 * number + place"));
     assert!(packed.contains("success pieces overlays = 2 ^ 32 * pieces + overlays"));
 }
@@ -294,18 +294,15 @@ fn functions() {
     );
     let most = named["MAX_TRAPEZOIDS"];
     assert_eq!(constant(records, "MAX_RECORDS: usize"), most);
+    let geometry = "crates/geometry/src/lib.rt";
     let limit = named["COORDINATE_LIMIT"];
-    let loxurfa = "crates/loxurfa/src/lib.rt";
-    assert_eq!(constant(loxurfa, "LIMIT: u32"), limit);
-    assert_eq!(
-        constant("crates/connectivity/src/lib.rt", "LIMIT: u32"),
-        limit
-    );
-    let files = "crates/files/src/lib.rt";
-    assert_eq!(constant(files, "COORDINATE_LIMIT: u32"), limit);
-    assert_eq!(between(files, "return n <= ", ";"), named["MAX_FILE_BYTES"]);
-    assert_eq!(constant(loxurfa, "CODES: u32"), codes().len() as i64);
-    let denominator = between(loxurfa, "let most = integer::natural(", ")");
+    assert_eq!(constant(geometry, "COORDINATE_LIMIT: u32"), limit);
+    let directory = "crates/directory_code/src/lib.rt";
+    let bytes = between(directory, "return n <= ", ";");
+    assert_eq!(bytes, named["MAX_FILE_BYTES"]);
+    let rows = "crates/rows_code/src/lib.rt";
+    assert_eq!(constant(rows, "CODES: u32"), codes().len() as i64);
+    let denominator = between(rows, "let most = integer_code::natural(", ")");
     assert_eq!(denominator, named["MAX_DENOMINATOR"]);
 }
 

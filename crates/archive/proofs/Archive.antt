@@ -7,23 +7,22 @@ use native.Mathlib.Omega.{arith}
 use lib.Dec.{T}
 use lib.IntN.{ℤ}
 use lib.ListN.{length, take, getD}
-use Rattle.records.specs.Lists.{All}
+use Rattle.lists.specs.Lists.{All}
 use Rattle.geometry.specs.declared.Trapezoid.{Trapezoid}
-use Rattle.geometry.specs.Points.{Point, IsPoint}
 use Rattle.geometry.specs.Trapezoids.{layerOf, LiesInLayer, Disjoint}
+use Rattle.boolean.specs.Statements.{IsYes}
 use Rattle.files.specs.Contents.{layersOf}
 use Rattle.files.specs.Outcomes as files
-use Rattle.files.specs.Statements.{bytesWritten, wordsRead}
+use Rattle.files.specs.Statements.{bytesWritten}
 use Rattle.files.proofs.RoundTrip.{written-reads}
 use Rattle.files.proofs.Words.{layers-back}
-use Rattle.boolean.specs.Statements.{IsYes}
-use Rattle.chains.specs.Chains.{Layer, layerAt, Call, held, Contracts, entryAt, evaluation}
-use Rattle.chains.specs.Statements.{DisjointLayer, Promised}
+use Rattle.chains.specs.Chains.{Layer, layerAt, held, entryAt, evaluation}
+use Rattle.chains.specs.Statements.{DisjointLayer}
 use Rattle.chains.proofs.Points.{no-words}
 use Rattle.chains.proofs.Chains.{every-chain}
 use Rattle.archive.specs.Calls.{WriteCall, WriteAccepted, bytesBy, ReadCall, ReadRight, ReadAccepted, wordsBy}
-use Rattle.archive.specs.Archive.{Source, layerFrom, Accepted, sent, chosen, archiveWords}
-use Rattle.archive.specs.Statements.{OnFile, ArchiveExact}
+use Rattle.archive.specs.Archive.{layerFrom, sent, chosen}
+use Rattle.archive.specs.Statements.{ArchiveExact}
 use Rattle.archive.proofs.Sources.{sources-disjoint, sources-fed}
 
 -- ---- written and read back

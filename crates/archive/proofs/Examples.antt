@@ -5,10 +5,11 @@ use mathlib.Core.List.{List, [], _∷_, map}
 use Prim.Native.Nat.{ℕ}
 use lib.IntN.{ℤ, pos}
 use lib.ListN.{length, replicate}
+use Rattle.lists.specs.Lists.{All, cut}
+use Rattle.lists.specs.Tests.{keep}
 use Rattle.integer.specs.Integer.{_⊕_, _⊖_, _⊗_, ⊝_}
 use Rattle.integer.specs.Compare.{orderOf}
 use Rattle.integer.specs.Fraction.{before}
-use Rattle.records.specs.Lists.{All}
 use Rattle.records.specs.Limits.{sized}
 use Rattle.records.specs.Records.{recordAt, recordsFrom, wordsOf}
 use Rattle.records.specs.Words.{unsigned, signed, wordOf, bytesOf, wordCodec}
@@ -18,30 +19,32 @@ use Rattle.geometry.specs.Lines.{dx, dy, offset, det, numer}
 use Rattle.geometry.specs.Positions.{crosses, root, meet, heights, rightOf, below}
 use Rattle.geometry.specs.Trapezoids.{trapezoidOf, trapezoidWords}
 use Rattle.geometry.specs.Fitness.{lineOnGrid, isLine, belowBetween, shapeVerdict, verdict, firstRefusal}
-use Rattle.sweep.specs.Lists.{keep, sum}
+use Rattle.geometry.specs.Ranges.{commonLeft, commonRight}
+use Rattle.geometry.specs.Polygons.{vertexOnGrid}
+use Rattle.sweep.specs.Sums.{sum}
 use Rattle.sweep.specs.Segments.{spans, inside, crossInside}
 use Rattle.sweep.specs.Columns.{slabs, upTo, column}
 use Rattle.sweep.specs.Sweep.{columns, sweep}
-use Rattle.overlay.specs.Overlaps.{commonLeft, commonRight, crossesInCommon, overlapRight, overlapFrom, overlaps}
+use Rattle.overlay.specs.Overlaps.{crossesInCommon, overlapRight, overlapFrom, overlaps}
 use Rattle.overlay.specs.Overlay as overlays
 use Rattle.boolean.specs.Operations.{less, lessAll, difference, deoverlappedFrom}
 use Rattle.boolean.specs.Space.{lessMarks, lessAllMarks, differenceMarks, deoverlappedMarks, space}
+use Rattle.fracture.specs.Polygons.{edge, edgesFrom, edges}
+use Rattle.fracture.specs.Fracture as fractures
 use Rattle.files.specs.declared.LayersRead.the-variants as read
 use Rattle.files.specs.declared.LayersWritten.the-variants as written
 use Rattle.files.specs.Formats.{fileSized}
 use Rattle.files.specs.Directory.{numberFrom, countOf, pairLength, endOf, pairsFrom, directoryOf}
-use Rattle.files.specs.Contents.{lengthsFrom, cut, vertexOf, vertexWords, pairsOf, layerFileWords}
-use Rattle.files.specs.Rows.{vertexOnGrid, firstOffGrid, polygonFileChecked, layersChecked, layerFileChecked}
+use Rattle.files.specs.Contents.{lengthsFrom, vertexOf, vertexWords, pairsOf, layerFileWords}
+use Rattle.files.specs.Rows.{firstOffGrid, polygonFileChecked, layersChecked, layerFileChecked}
 use Rattle.files.specs.Outcomes.{readLayers, writeLayers}
-use Rattle.fracture.specs.Polygons.{edge, edgesFrom, edges}
-use Rattle.fracture.specs.Fracture as fractures
-use Rattle.loxurfa.specs.declared.Fractured.the-variants as fractured
-use Rattle.loxurfa.specs.declared.Deoverlapped.the-variants as deoverlapped
-use Rattle.loxurfa.specs.declared.Combined.the-variants as combined
-use Rattle.loxurfa.specs.Rows.{fractureChecked, combineChecked, deoverlapChecked}
-use Rattle.loxurfa.specs.Outcomes.{fractureOutcome, deoverlapOutcome}
-use Rattle.loxurfa.specs.Outcomes as outcomes
-use Rattle.loxurfa.specs.Table.{lent, cleared, vertex, fileOf}
+use Rattle.calls.specs.declared.Fractured.the-variants as fractured
+use Rattle.calls.specs.declared.Deoverlapped.the-variants as deoverlapped
+use Rattle.calls.specs.declared.Combined.the-variants as combined
+use Rattle.calls.specs.Rows.{fractureChecked, combineChecked, deoverlapChecked}
+use Rattle.calls.specs.Outcomes.{fractureOutcome, deoverlapOutcome}
+use Rattle.calls.specs.Outcomes as outcomes
+use Rattle.calls.specs.Table.{lent, cleared, vertex, fileOf}
 use Rattle.chains.specs.Chains.{Layer, outcomeOf, called, Call, held, Contracts}
 use Rattle.archive.specs.Calls.{FractureCall, DeoverlapCall, WriteCall, WriteAccepted, bytesBy, ReadCall, ReadRight}
 use Rattle.archive.specs.Archive.{Source, polygons, layerFrom, Accepted, archiveWords}

@@ -1,6 +1,5 @@
 -- The starting layers: they are disjoint, and a point lies in one exactly if it was sent.
 use mathlib.Core.Path.{_≡_, refl, sym, _∙_, ap, subst}
-use mathlib.Core.Bool.{Bool, true, false}
 use mathlib.Core.List.{List, [], _∷_, map}
 use mathlib.Core.Logic.{_↔_}
 use Prim.Native.Nat.{ℕ, _/_, _<_}
@@ -8,11 +7,14 @@ use native.Mathlib.Omega.{arith}
 use lib.Dec.{T}
 use lib.IntN.{ℤ}
 use lib.ListN.{length, take, getD}
-use Rattle.records.specs.Lists.{All, Any}
+use Rattle.lists.specs.Lists.{All, Any}
+use Rattle.lists.proofs.Tests.{same-test}
 use Rattle.geometry.specs.declared.Trapezoid.{Trapezoid}
 use Rattle.geometry.specs.Points.{Point, IsPoint}
 use Rattle.geometry.specs.Trapezoids.{trapezoidCodec, layerOf, LiesInLayer, liesInLayer}
 use Rattle.geometry.proofs.Layers.{lies-in-layer-exact}
+use Rattle.boolean.specs.Statements.{SamePoints}
+use Rattle.fracture.specs.Statements.{Wound}
 use Rattle.files.specs.Formats.{fileWords}
 use Rattle.files.specs.Contents.{countIn, polygonsOf, layersOf, fileLayersOf, layerWordsAt}
 use Rattle.files.specs.Outcomes as files
@@ -20,14 +22,12 @@ use Rattle.files.specs.Statements.{wordsRead}
 use Rattle.files.proofs.Pairs.{lists-length}
 use Rattle.files.proofs.RoundTrip.{read-passed, read-words}
 use Rattle.files.proofs.Words.{layer-at, read-pairs}
-use Rattle.fracture.specs.Statements.{Wound}
-use Rattle.boolean.specs.Statements.{SamePoints}
-use Rattle.loxurfa.specs.Answers.{Answer, isDone}
-use Rattle.loxurfa.specs.Outcomes.{Outcome, recordsOf}
-use Rattle.loxurfa.proofs.Exact.{fracture-file-exact, deoverlap-exact}
+use Rattle.calls.specs.Answers.{Answer, isDone}
+use Rattle.calls.specs.Outcomes.{Outcome, recordsOf}
+use Rattle.calls.proofs.Exact.{fracture-file-exact, deoverlap-exact}
 use Rattle.chains.specs.Chains.{Layer, fed}
 use Rattle.chains.specs.Statements.{DisjointLayer}
-use Rattle.archive.specs.Calls.{FractureCall, FractureAccepted, fracturedBy, DeoverlapCall, DeoverlapAccepted, deoverlappedBy, ReadCall, ReadAccepted, wordsBy}
+use Rattle.archive.specs.Calls.{FractureCall, fracturedBy, DeoverlapCall, deoverlappedBy, ReadCall, wordsBy}
 use Rattle.archive.specs.Archive.{Source, polygons, archived, layerFrom, fileLayerAt, BothAccepted, LayerAccepted, Accepted, Sent, sent}
 use Rattle.archive.proofs.Points.{sent-exact}
 
@@ -92,17 +92,11 @@ sources-disjoint [] h = tt
 sources-disjoint (s ∷ sources) h = (source-disjoint s (h .0), sources-disjoint sources (h .1))
 
 -- ---- what the evaluation is fed
-same-answer : (a b : Bool) {X : Type 0} → T a ↔ X → T b ↔ X → a ≡ b
-same-answer true true h k = refl
-same-answer true false h k = absurd (k .1 (h .0 tt))
-same-answer false true h k = absurd (h .1 (k .0 tt))
-same-answer false false h k = refl
-
 source-fed : (P : Point) → IsPoint P → (s : Source) → Accepted s → liesInLayer P (layerOf (layerFrom s)) ≡ sent P s
 source-fed P hP s h =
     let k = source-points P hP s h in
     let l = lies-in-layer-exact P (layerOf (layerFrom s)) in
-    same-answer (liesInLayer P (layerOf (layerFrom s))) (sent P s) ((λ x. k .0 (l .0 x)), (λ y. l .1 (k .1 y))) (sent-exact P s)
+    same-test (liesInLayer P (layerOf (layerFrom s))) (sent P s) (λ x. sent-exact P s .1 (k .0 (l .0 x))) (λ y. l .1 (k .1 (sent-exact P s .0 y)))
 
 pub sources-fed : (P : Point) → IsPoint P → (sources : List Source) → All Accepted sources → fed P (map layerFrom sources) ≡ map (sent P) sources
 sources-fed P hP [] h = refl

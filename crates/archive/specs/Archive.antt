@@ -7,15 +7,16 @@ use Prim.Native.Nat.{ℕ, _<_}
 use lib.Dec.{T}
 use lib.IntN.{ℤ}
 use lib.ListN.{length, getD}
-use Rattle.records.specs.Lists.{Any}
+use Rattle.lists.specs.Lists.{Any}
 use Rattle.geometry.specs.declared.Trapezoid.{Trapezoid}
 use Rattle.geometry.specs.Points.{Point}
 use Rattle.geometry.specs.Trapezoids.{layerOf, LiesInLayer, liesInLayer}
+use Rattle.geometry.specs.Polygons.{Polygon}
 use Rattle.sweep.specs.Columns.{isZero}
+use Rattle.fracture.specs.Polygons.{windingNumber}
+use Rattle.fracture.specs.Statements.{Wound}
 use Rattle.files.specs.Formats.{fileWords}
 use Rattle.files.specs.Contents.{polygonsOf, fileLayersOf, layerWordsAt, layerFileWords}
-use Rattle.fracture.specs.Polygons.{Polygon, windingNumber}
-use Rattle.fracture.specs.Statements.{Wound}
 use Rattle.chains.specs.Chains.{Layer, layerAt}
 use Rattle.chains.specs.Statements.{DisjointLayer}
 use Rattle.archive.specs.Calls.{FractureCall, FractureAccepted, fracturedBy, DeoverlapCall, DeoverlapAccepted, deoverlappedBy, ReadCall, ReadAccepted, wordsBy}

@@ -1,18 +1,18 @@
 -- Calls that were made: what each was lent, what it answered, and what it left in the words that it was lent. A call is right if it kept the function's
 -- contract, and accepted if its answer is no refusal.
-use Prim.Native.Nat.{ℕ, _*_, _/_}
 use mathlib.Core.List.{List}
+use Prim.Native.Nat.{ℕ, _*_, _/_}
 use lib.Dec.{T}
 use lib.IntN.{ℤ}
 use lib.ListN.{length, take}
 use Rattle.files.specs.declared.LayersRead.{LayersRead}
 use Rattle.files.specs.declared.LayersWritten.{LayersWritten}
 use Rattle.files.specs.Outcomes as files
-use Rattle.loxurfa.specs.declared.Fractured.{Fractured}
-use Rattle.loxurfa.specs.declared.Deoverlapped.{Deoverlapped}
-use Rattle.loxurfa.specs.Answers.{fracturedAnswer, deoverlappedAnswer, isDone}
-use Rattle.loxurfa.specs.Outcomes.{recordsOf}
-use Rattle.loxurfa.specs.Contracts.{FractureKept, DeoverlapKept, ReadKept, WriteKept}
+use Rattle.calls.specs.declared.Fractured.{Fractured}
+use Rattle.calls.specs.declared.Deoverlapped.{Deoverlapped}
+use Rattle.calls.specs.Answers.{fracturedAnswer, deoverlappedAnswer, isDone}
+use Rattle.calls.specs.Outcomes.{recordsOf}
+use Rattle.calls.specs.Contracts.{FractureKept, DeoverlapKept, ReadKept, WriteKept}
 use Rattle.chains.specs.Chains.{Layer}
 
 -- ---- `fracture` of a polygon file's bytes

@@ -2,14 +2,13 @@
 use mathlib.Core.Path.{_≡_}
 use mathlib.Core.List.{List, [], map}
 use Prim.Native.Nat.{ℕ, _<_, _≤_}
-use lib.Dec.{T}
 use lib.ListN.{length, getD}
-use Rattle.records.specs.Lists.{All}
+use Rattle.lists.specs.Lists.{All}
 use Rattle.geometry.specs.Points.{Point, IsPoint}
 use Rattle.geometry.specs.Trapezoids.{LiesInLayer, Disjoint}
-use Rattle.files.specs.Contents.{layersOf}
 use Rattle.boolean.specs.Statements.{IsYes}
-use Rattle.chains.specs.Chains.{Layer, Call, held, Contracts, entryAt, evaluation}
+use Rattle.files.specs.Contents.{layersOf}
+use Rattle.chains.specs.Chains.{Call, held, Contracts, entryAt, evaluation}
 use Rattle.archive.specs.Calls.{WriteCall, WriteAccepted, bytesBy, ReadCall, ReadRight, ReadAccepted, wordsBy}
 use Rattle.archive.specs.Archive.{Source, layerFrom, Accepted, sent, chosen, archiveWords}
 

@@ -4,15 +4,15 @@ use mathlib.Core.List.{List, [], _∷_, _++_}
 use Prim.Native.Nat.{ℕ, _+_, _*_}
 use native.Mathlib.Omega.{arith}
 use lib.ListN.{length, take, drop}
+use Rattle.lists.proofs.Counts.{total-append}
 use Rattle.geometry.specs.declared.Trapezoid.{Trapezoid}
 use Rattle.overlay.specs.Overlay.{overlay, tagged}
 use Rattle.boolean.specs.Operations.{union, intersect, first-less-second, second-less-first, either-not-both, less, lessAll, difference, common, deoverlappedFrom}
 use Rattle.boolean.specs.Space.{Mark, addition, overlaysOf, lessMarks, lessAllMarks, oneMarks, differenceMarks, commonMarks, intersectionMarks, deoverlappedMarks, onlyIfEmpty, equalityMarks}
 use Rattle.boolean.specs.Counts.{sumBelow, allOverlays, IntersectionOverlays, countLess, countDifference, DifferenceOverlays, CodeOverlays, DeoverlappedOverlays, EqualityOverlays}
-use Rattle.boolean.proofs.Marks.{sum-append}
 
 overlays-append : (ms ns : List Mark) → allOverlays (ms ++ ns) ≡ allOverlays ms + allOverlays ns
-overlays-append ms ns = sum-append overlaysOf ms ns
+overlays-append ms ns = total-append overlaysOf ms ns
 
 -- ---- intersection
 common-overlays : (k : ℕ) (a : Trapezoid) (B : List Trapezoid) → allOverlays (commonMarks k a B) ≡ length B

@@ -3,8 +3,8 @@ use mathlib.Core.List.{List, [], _∷_}
 use mathlib.Core.Logic.{inl, inr}
 use Prim.Native.Nat.{ℕ}
 use lib.Dec.{T-not, not-T}
-use Rattle.records.specs.Lists.{All}
-use Rattle.records.proofs.Lists.{any-left, any-right, any-split}
+use Rattle.lists.specs.Lists.{All}
+use Rattle.lists.proofs.Lists.{any-left, any-right, any-split}
 use Rattle.geometry.specs.declared.Trapezoid.{Trapezoid}
 use Rattle.geometry.specs.Points.{Point, IsPoint}
 use Rattle.geometry.specs.Trapezoids.{liesIn, LiesInLayer, Disjoint}

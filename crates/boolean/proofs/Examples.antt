@@ -4,6 +4,7 @@ use mathlib.Core.List.{List, [], _∷_}
 use Prim.Native.Nat.{ℕ, suc}
 use lib.Dec.{lit<}
 use lib.IntN.{pos}
+use Rattle.lists.specs.Tests.{keep}
 use Rattle.integer.specs.Integer.{_⊕_, _⊖_, _⊗_, ⊝_}
 use Rattle.integer.specs.Compare.{orderOf}
 use Rattle.integer.specs.Fraction.{before}
@@ -13,14 +14,13 @@ use Rattle.geometry.specs.declared.Base.{Base}
 use Rattle.geometry.specs.declared.Trapezoid.{Trapezoid}
 use Rattle.geometry.specs.Lines.{dx, dy, offset, det, numer}
 use Rattle.geometry.specs.Positions.{crosses, root, meet, heights, rightOf, below}
-use Rattle.sweep.specs.Lists.{keep}
+use Rattle.geometry.specs.Ranges.{crossing, commonLeft, commonRight}
 use Rattle.sweep.specs.Segments.{spans}
 use Rattle.sweep.specs.Sweep.{columns, sweep}
-use Rattle.overlay.specs.Overlaps.{crossing, commonLeft, commonRight, crossesInCommon, overlapRight, overlapFrom, overlaps}
+use Rattle.overlay.specs.Overlaps.{crossesInCommon, overlapRight, overlapFrom, overlaps}
 use Rattle.overlay.specs.Overlay.{sides, crossings, events, fills, tagAbove, stack, parts, subdivision, overlay, tagged}
-use Rattle.boolean.specs.Operations.{union, intersect, first-less-second, either-not-both, less, lessAll, difference, common, intersection, result, deoverlappedFrom, deoverlapped}
+use Rattle.boolean.specs.Operations.{union, intersect, first-less-second, either-not-both, less, lessAll, difference, common, intersection, result, deoverlappedFrom, deoverlapped, Side}
 use Rattle.boolean.specs.Space.{overlaid, addition, enough, short, space, marks, lessMarks, lessAllMarks, differenceMarks, commonMarks, intersectionMarks, equalityMarks}
-use Rattle.boolean.specs.Code.{Side}
 
 abbrev line : ℕ → ℕ → ℕ → ℕ → Line
 line a b c d = record { x1 = pos a; y1 = pos b; x2 = pos c; y2 = pos d }

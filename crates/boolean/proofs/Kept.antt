@@ -2,9 +2,9 @@
 use mathlib.Core.List.{List, [], _∷_, _++_}
 use mathlib.Core.Logic.{inl, inr}
 use Prim.Native.Nat.{ℕ}
-use Rattle.records.specs.Lists.{All}
-use Rattle.records.proofs.Lists.{all-append, all-left, all-right, all-map}
-use Rattle.levels.proofs.Lists.{all-both, all-with, Member, all-member, members}
+use Rattle.lists.specs.Lists.{All, Member}
+use Rattle.lists.proofs.Lists.{all-append, all-left, all-right, all-map, all-both, all-with}
+use Rattle.lists.proofs.Members.{all-member, members}
 use Rattle.geometry.specs.declared.Line.{Line}
 use Rattle.geometry.specs.declared.Trapezoid.{Trapezoid}
 use Rattle.geometry.specs.Trapezoids.{linesOf}

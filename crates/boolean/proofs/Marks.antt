@@ -7,20 +7,16 @@ use native.Mathlib.Omega.{arith}
 use lib.Dec.{T, ltb, ltb→lt, nltb→le}
 use lib.ListN.{length, length-append}
 use borrow.Author.Tests.{lt-ltb, le-ltb}
-use Rattle.records.specs.Lists.{All, Any}
-use Rattle.records.proofs.Lists.{any-right}
-use Rattle.levels.proofs.Lists.{any-elim}
-use Rattle.levels.proofs.Tests.{cond-cases}
+use Rattle.lists.specs.Lists.{All, Any}
+use Rattle.lists.proofs.Tests.{cond-cases}
+use Rattle.lists.proofs.Lists.{any-right, any-elim}
+use Rattle.lists.proofs.Counts.{total-append}
 use Rattle.geometry.specs.declared.Trapezoid.{Trapezoid}
 use Rattle.overlay.specs.Overlay.{overlay, tagged}
 use Rattle.boolean.specs.Operations.{union, intersect, first-less-second, second-less-first, either-not-both, lessAll, difference, common, intersection, deoverlappedFrom}
 use Rattle.boolean.specs.Space.{Mark, held, addition, overlaysOf, Space, enough, short, plus, space, lessAllMarks, oneMarks, differenceMarks, commonMarks, intersectionMarks, deoverlappedMarks}
-use Rattle.boolean.specs.Counts.{sumOver, allOverlays, Exceeds, Within, FirstPast, SpaceExact, isShort, ShortExact, lastHeld, LastMark, DeoverlappedLastMark}
+use Rattle.boolean.specs.Counts.{allOverlays, Exceeds, Within, FirstPast, SpaceExact, isShort, ShortExact, lastHeld, LastMark, DeoverlappedLastMark}
 use Rattle.boolean.proofs.Space.{space-enough}
-
-pub sum-append : {A : Type 0} (f : A → ℕ) (xs ys : List A) → sumOver f (xs ++ ys) ≡ sumOver f xs + sumOver f ys
-sum-append f [] ys = omega arith
-sum-append f (x ∷ xs) ys = let h = sum-append f xs ys in omega arith
 
 -- ---- space
 module _ (room : ℕ) where
@@ -62,7 +58,7 @@ module _ (room : ℕ) where
   first-short : (ms : List Mark) (n : ℕ) → FirstPast room ms n → space room ms ≡ short n
   first-short ms n h =
       let c = allOverlays (h .before) in
-      let s = sum-append overlaysOf (h .before) (h .first ∷ []) in
+      let s = total-append overlaysOf (h .before) (h .first ∷ []) in
       let e : c + overlaysOf (h .first) ≡ n = omega (arith, s, h .overlays) in
       ap (space room) (h .split) ∙ space-enough room c (h .before) (h .first ∷ h .after) (within-enough (h .before) (h .within))
       ∙ ap (plus c) (exceeds-short (h .first) (h .after) (h .exceeds)) ∙ ap short e

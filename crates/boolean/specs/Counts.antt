@@ -7,17 +7,13 @@ use mathlib.Core.Logic.{_↔_}
 use Prim.Native.Nat.{ℕ, zero, suc, _+_, _*_, _<_, _≤_}
 use lib.Dec.{T}
 use lib.ListN.{length, take, drop}
-use Rattle.records.specs.Lists.{All, Any}
+use Rattle.lists.specs.Lists.{All, Any}
+use Rattle.lists.specs.Tests.{total}
 use Rattle.geometry.specs.declared.Trapezoid.{Trapezoid}
 use Rattle.boolean.specs.Operations.{Code, union, intersect, first-less-second, second-less-first, either-not-both, lessAll, difference, result, deoverlapped}
 use Rattle.boolean.specs.Space.{Mark, held, overlaysOf, Space, enough, short, space, marks, differenceMarks, deoverlappedMarks, equalityMarks}
 
 -- ---- sums
--- over a list: f x₀ + f x₁ + ..
-abbrev pub sumOver : {A : Type 0} → (A → ℕ) → List A → ℕ
-sumOver f [] = 0
-sumOver f (x ∷ xs) = f x + sumOver f xs
-
 -- over the numbers below n: f 0 + f 1 + ..
 abbrev pub sumBelow : ℕ → (ℕ → ℕ) → ℕ
 sumBelow zero f = 0
@@ -25,7 +21,7 @@ sumBelow (suc n) f = f 0 + sumBelow n (λ i. f (suc i))
 
 -- the overlays among marks
 abbrev pub allOverlays : List Mark → ℕ
-allOverlays ms = sumOver overlaysOf ms
+allOverlays ms = total overlaysOf ms
 
 -- ---- space
 -- "the result so far plus the pieces in hand exceed the output", which has room for so many; and the contrary
@@ -86,7 +82,7 @@ countLess a B = sumBelow (length B) (λ i. length (lessAll (a ∷ []) (take i B)
 
 -- "each a is in hand"
 abbrev pub countDifference : List Trapezoid → List Trapezoid → ℕ
-countDifference A B = sumOver (λ a. countLess a B) A
+countDifference A B = total (λ a. countLess a B) A
 
 -- whatever the number k of trapezoids in the result before
 abbrev pub DifferenceOverlays : Type 0

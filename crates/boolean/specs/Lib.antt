@@ -3,4 +3,3 @@ pub mod Operations
 pub mod Space
 pub mod Counts
 pub mod Statements
-pub mod Code

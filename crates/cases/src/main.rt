@@ -1,14 +1,14 @@
 // The limits of paper 01 through the public functions of `loxurfa`: 2, 3, 32, 33 vertices; 64, 65 polygons; 512, 513 trapezoids. Each case
 // has its answer, which stands in the file `stdout`, and the reason. An output and its scratch area are lent with 7 in every word, and
 // after the call it is said whether they are unchanged, all zero, or written.
-use connectivity::Connected;
+use calls::Combined;
+use calls::Connected;
+use calls::Deoverlapped;
+use calls::Equality;
+use calls::Fractured;
 use files::LayersRead;
 use files::LayersWritten;
 use libc::STDOUT_FILENO;
-use loxurfa::Combined;
-use loxurfa::Deoverlapped;
-use loxurfa::Equality;
-use loxurfa::Fractured;
 ghost use Prim.Native.Nat.{_≤_};
 
 fn refused(number: u32, place: usize) {
@@ -427,7 +427,7 @@ fn bytes_of(words: &[i32], file: &mut [u8]) {
             return;
         }
         let w = words[i];
-        records::store_word(file, i, w);
+        records_code::store_word(file, i, w);
         i += 1;
     }
 }

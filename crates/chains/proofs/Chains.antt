@@ -5,13 +5,13 @@ use mathlib.Core.List.{List}
 use Prim.Native.Nat.{ℕ}
 use lib.Dec.{T}
 use lib.ListN.{length, drop, length-map}
-use Rattle.records.specs.Lists.{All}
+use Rattle.lists.specs.Lists.{All}
 use Rattle.geometry.specs.Points.{Point, IsPoint}
 use Rattle.geometry.specs.Trapezoids.{layerOf, LiesInLayer, liesInLayer}
 use Rattle.boolean.specs.Statements.{IsYes, SamePoints}
+use Rattle.calls.specs.Statements.{FitLayer}
 use Rattle.chains.specs.Chains.{Layer, layerAt, run, Step, told, evaluate, Call, stepsOf, held, Contracts, entryAt, fed, evaluation, merged}
 use Rattle.chains.specs.Statements.{DisjointLayer, startingTrapezoids, Agree, NeverDiffers, Promised, Joined, EveryChain}
-use Rattle.loxurfa.specs.Statements.{FitLayer}
 use Rattle.chains.proofs.Steps.{run-disjoint, found-fit}
 use Rattle.chains.proofs.Calls.{held-runs, calls-defined, held-kept}
 use Rattle.chains.proofs.Points.{run-points, evaluate-length}

@@ -5,9 +5,9 @@ use mathlib.Core.List.{List, [], _∷_, _++_, map, append-nil}
 use Prim.Native.Nat.{ℕ}
 use lib.Dec.{T}
 use lib.ListN.{length, drop}
-use Rattle.loxurfa.specs.Answers.{combinedAnswer, isDone}
+use Rattle.calls.specs.Answers.{combinedAnswer, isDone}
+use Rattle.calls.specs.Outcomes.{recordsOf}
 use Rattle.chains.specs.Chains.{Layer, Step, outcomeOf, called, added, Call, stepsOf, KeptIfCalled, grown, held, results, Contracts, renumberedStep, renumbered, merged}
-use Rattle.loxurfa.specs.Outcomes.{recordsOf}
 use Rattle.chains.proofs.Success.{called-exact, kept-called}
 use Rattle.chains.proofs.Calls.{held-runs, held-kept}
 use Rattle.chains.proofs.Raised.{added-append}

@@ -6,6 +6,7 @@ use Prim.Native.Nat.{ℕ, _<_}
 use native.Mathlib.Omega.{arith}
 use lib.ListN.{length}
 use lib.IntN.{ℤ}
+use Rattle.lists.specs.Tests.{keep}
 use Rattle.integer.specs.Integer.{_⊕_, _⊖_, _⊗_, ⊝_}
 use Rattle.integer.specs.Compare.{orderOf}
 use Rattle.integer.specs.Fraction.{before}
@@ -19,18 +20,18 @@ use Rattle.geometry.specs.Lines.{dx, dy, offset, det, numer}
 use Rattle.geometry.specs.Positions.{crosses, root, meet, heights, rightOf, below}
 use Rattle.geometry.specs.Trapezoids.{trapezoidOf, trapezoidWords}
 use Rattle.geometry.specs.Fitness.{lineOnGrid, isLine, belowBetween, shapeVerdict, verdict, firstRefusal}
-use Rattle.sweep.specs.Lists.{keep}
+use Rattle.geometry.specs.Ranges.{commonLeft, commonRight}
 use Rattle.sweep.specs.Segments.{spans}
 use Rattle.sweep.specs.Sweep.{columns, sweep}
-use Rattle.overlay.specs.Overlaps.{commonLeft, commonRight, crossesInCommon, overlapRight, overlapFrom, overlaps}
+use Rattle.overlay.specs.Overlaps.{crossesInCommon, overlapRight, overlapFrom, overlaps}
 use Rattle.overlay.specs.Overlay.{sides, crossings, events, fills, tagAbove, stack, parts, subdivision, overlay, tagged}
 use Rattle.boolean.specs.Operations.{less, lessAll, difference, common, intersection}
 use Rattle.boolean.specs.Space.{lessMarks, lessAllMarks, differenceMarks, commonMarks, intersectionMarks, space}
-use Rattle.loxurfa.specs.declared.Combined.{Combined}
-use Rattle.loxurfa.specs.declared.Combined.the-variants.{Refused, Done}
-use Rattle.loxurfa.specs.Rows.{combineChecked}
-use Rattle.loxurfa.specs.Outcomes.{combined}
-use Rattle.loxurfa.specs.Table.{line, baseAt, layer, q, r, lent, cleared}
+use Rattle.calls.specs.declared.Combined.{Combined}
+use Rattle.calls.specs.declared.Combined.the-variants.{Refused, Done}
+use Rattle.calls.specs.Rows.{combineChecked}
+use Rattle.calls.specs.Outcomes.{combined}
+use Rattle.calls.specs.Table.{line, baseAt, layer, q, r, lent, cleared}
 use Rattle.chains.specs.Chains.{Layer, Step, outcomeOf, called, run, Call, stepsOf, held, Contracts, Told, told, evaluate, merged}
 
 -- layers 0 and 1 are Q and R

@@ -1,4 +1,3 @@
-pub mod Lists
 pub mod Success
 pub mod Steps
 pub mod Calls

@@ -2,9 +2,9 @@
 use mathlib.Core.Path.{sym, subst}
 use mathlib.Core.List.{List, [], _∷_, _++_}
 use mathlib.Core.Logic.{inl, inr}
-use Rattle.records.specs.Lists.{All}
-use Rattle.records.proofs.Lists.{all-append, all-map, any-left, any-right}
-use Rattle.levels.proofs.Lists.{any-elim, Member, all-member, members}
+use Rattle.lists.specs.Lists.{All, Member}
+use Rattle.lists.proofs.Lists.{all-append, all-map, any-left, any-right, any-elim}
+use Rattle.lists.proofs.Members.{all-member, members}
 use Rattle.geometry.specs.declared.Line.{Line}
 use Rattle.geometry.specs.declared.Trapezoid.{Trapezoid}
 use Rattle.geometry.specs.Limit.{coordinateLimit}
@@ -12,9 +12,9 @@ use Rattle.geometry.specs.Trapezoids.{linesOf, layerOf}
 use Rattle.boolean.specs.Operations.{Code, result}
 use Rattle.boolean.specs.Statements.{LineOf, LinesFrom}
 use Rattle.boolean.proofs.Kept.{result-lines}
+use Rattle.calls.proofs.Success.{Accepted}
 use Rattle.chains.specs.Chains.{Layer, Step, run}
 use Rattle.chains.specs.Statements.{startingTrapezoids}
-use Rattle.loxurfa.proofs.Success.{Accepted}
 use Rattle.chains.proofs.Steps.{run-keeps}
 
 abbrev HasLines : List Trapezoid → Trapezoid → Type 0

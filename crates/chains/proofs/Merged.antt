@@ -5,8 +5,8 @@ use mathlib.Core.List.{List, [], _∷_, _++_, map, append-assoc, append-nil}
 use Prim.Native.Nat.{ℕ, _<_}
 use native.Mathlib.Omega.{arith}
 use lib.ListN.{length, drop, length-append, List·getD-append}
+use lib.Seq.{drop-append-seam}
 use Rattle.chains.specs.Chains.{Layer, layerAt, Step, outcomeOf, called, succeeds, added, resultOf, stepped, run, Told, toldOf, told, entryAt, said, evaluate, raised, renumberedStep}
-use Rattle.chains.proofs.Lists.{drop-front}
 use Rattle.chains.proofs.Raised.{added-append, raised-at, raised-in}
 use Rattle.chains.proofs.Steps.{found, run-kept}
 use Rattle.chains.proofs.Points.{evaluate-length}
@@ -141,7 +141,7 @@ module _ (start : List Layer) (one two : List Step) where
   alone = ap (λ (layers : List Layer). run layers two) (sym (append-nil start)) ∙ k .alone
 
   added-are : found start two ≡ k .all
-  added-are = ap (drop (length start)) alone ∙ drop-front start (k .all)
+  added-are = ap (drop (length start)) alone ∙ drop-append-seam start (k .all)
 
   pub merged-holds : run start mergedSteps ≡ run start one ++ found start two
   merged-holds =

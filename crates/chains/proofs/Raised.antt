@@ -7,22 +7,16 @@ use native.Mathlib.Nat.{not-le-of-lt}
 use native.Mathlib.Omega.{arith}
 use lib.Dec.{T, ltb, ltb→lt, nltb→le, lt→ltb}
 use lib.ListN.{length, getD, length-append, List·getD-append}
+use lib.Seq.{getD-append-add}
+use Rattle.lists.proofs.Tests.{same-test}
 use Rattle.chains.specs.Chains.{added, raised}
-use Rattle.chains.proofs.Lists.{getD-past}
-
--- tests that say yes to the same
-equal-tests : (a b : Bool) → (T a → T b) → (T b → T a) → a ≡ b
-equal-tests true true f g = refl
-equal-tests true false f g = absurd (f tt)
-equal-tests false true f g = absurd (g tt)
-equal-tests false false f g = refl
 
 -- ---- numbers of starting elements stay, those past them are raised
 raised-starting : (starting count n : ℕ) → n < starting → raised starting count n ≡ n
-raised-starting starting count n h = let e : ltb n starting ≡ true = equal-tests (ltb n starting) true (λ t. tt) (λ t. lt→ltb n starting h) in rw e refl
+raised-starting starting count n h = let e : ltb n starting ≡ true = same-test (ltb n starting) true (λ t. tt) (λ t. lt→ltb n starting h) in rw e refl
 
 raised-past : (starting count n : ℕ) → starting ≤ n → raised starting count n ≡ n + count
-raised-past starting count n h = let e : ltb n starting ≡ false = equal-tests (ltb n starting) false (λ t. not-le-of-lt (ltb→lt n starting t) h) (λ t. absurd t) in rw e refl
+raised-past starting count n h = let e : ltb n starting ≡ false = same-test (ltb n starting) false (λ t. not-le-of-lt (ltb→lt n starting t) h) (λ t. absurd t) in rw e refl
 
 module _ {A : Type 0} where
   pub added-append : (b : Bool) (xs ys : List A) (x : A) → added b (xs ++ ys) x ≡ xs ++ added b ys x
@@ -48,8 +42,8 @@ module _ {A : Type 0} where
             let e : n ≡ length start + (n - length start) = omega arith in
             let l : n + length other ≡ length (start ++ other) + (n - length start) = omega (arith, length-append start other) in
             ap (λ (i : ℕ). getD ((start ++ other) ++ more) i d) (raised-past (length start) (length other) n h ∙ l)
-            ∙ getD-past (start ++ other) more (n - length start) d
-            ∙ sym (ap (λ (i : ℕ). getD (start ++ more) i d) e ∙ getD-past start more (n - length start) d)
+            ∙ getD-append-add (start ++ other) more (n - length start) d
+            ∙ sym (ap (λ (i : ℕ). getD (start ++ more) i d) e ∙ getD-append-add start more (n - length start) d)
 
     -- it is a number of the list exactly if the number was
     pub raised-in : ltb (raised (length start) (length other) n) (length ((start ++ other) ++ more)) ≡ ltb n (length (start ++ more))
@@ -62,12 +56,12 @@ module _ {A : Type 0} where
             let k : n < length ((start ++ other) ++ more) = omega (arith, length-append (start ++ other) more, length-append start other) in
             let l : n < length (start ++ more) = omega (arith, length-append start more) in
             ap (λ (i : ℕ). ltb i (length ((start ++ other) ++ more))) (raised-starting (length start) (length other) n h)
-            ∙ equal-tests (ltb n (length ((start ++ other) ++ more))) (ltb n (length (start ++ more)))
+            ∙ same-test (ltb n (length ((start ++ other) ++ more))) (ltb n (length (start ++ more)))
             (λ t. lt→ltb n (length (start ++ more)) l)
             (λ t. lt→ltb n (length ((start ++ other) ++ more)) k)
         go false f g =
             ap (λ (i : ℕ). ltb i (length ((start ++ other) ++ more))) (raised-past (length start) (length other) n (g tt))
-            ∙ equal-tests (ltb (n + length other) (length ((start ++ other) ++ more))) (ltb n (length (start ++ more)))
+            ∙ same-test (ltb (n + length other) (length ((start ++ other) ++ more))) (ltb n (length (start ++ more)))
             (λ t.
             let h = ltb→lt (n + length other) (length ((start ++ other) ++ more)) t in
             let l : n < length (start ++ more) = omega (arith, length-append (start ++ other) more, length-append start other, length-append start more) in

@@ -4,10 +4,10 @@ use mathlib.Core.Bool.{not}
 use lib.Dec.{T}
 use Rattle.geometry.specs.Trapezoids.{layerOf}
 use Rattle.boolean.specs.Statements.{SamePoints}
-use Rattle.loxurfa.specs.Answers.{EqualityAnswer, equalityAnswer, isRefused}
-use Rattle.loxurfa.specs.Outcomes.{Outcome, equalOutcome}
-use Rattle.loxurfa.specs.Statements.{Compares}
-use Rattle.loxurfa.proofs.Exact.{equal-exact}
+use Rattle.calls.specs.Answers.{EqualityAnswer, equalityAnswer, isRefused}
+use Rattle.calls.specs.Outcomes.{Outcome, equalOutcome}
+use Rattle.calls.specs.Statements.{Compares}
+use Rattle.calls.proofs.Exact.{equal-exact}
 use Rattle.chains.specs.Chains.{Layer}
 use Rattle.chains.specs.Statements.{SameExactly, NeverDiffers}
 

@@ -4,18 +4,18 @@ use mathlib.Core.Bool.{Bool, true, false}
 use mathlib.Core.List.{List, [], _∷_, _++_, append-assoc, append-nil}
 use lib.Dec.{T}
 use lib.ListN.{length, drop}
-use Rattle.records.specs.Lists.{All}
-use Rattle.records.proofs.Lists.{all-append, all-at}
+use lib.Seq.{drop-append-seam}
+use Rattle.lists.specs.Lists.{All}
+use Rattle.lists.proofs.Lists.{all-append, all-at}
 use Rattle.geometry.specs.Limit.{coordinateLimit}
 use Rattle.geometry.specs.Trapezoids.{Disjoint, layerOf}
 use Rattle.boolean.specs.Operations.{Code, codeAt}
 use Rattle.boolean.proofs.Results.{result-disjoint}
+use Rattle.calls.specs.Statements.{FitLayer}
+use Rattle.calls.proofs.Success.{Accepted}
 use Rattle.chains.specs.Chains.{Layer, layerAt, Step, succeeds, added, resultOf, stepped, run}
 use Rattle.chains.specs.Statements.{DisjointLayer}
-use Rattle.loxurfa.specs.Statements.{FitLayer}
-use Rattle.chains.proofs.Lists.{drop-front}
 use Rattle.chains.proofs.Success.{success-gives}
-use Rattle.loxurfa.proofs.Success.{Accepted}
 
 -- ---- what holds of each starting layer, and of each result of layers that it holds of, holds of each layer
 module _ (R : Layer → Type 0) (keeps : (c : Code) (A B C : Layer) → Accepted c A B C → R A → R B → R C) where
@@ -68,7 +68,7 @@ run-grows layers (s ∷ steps) = go (succeeds layers s) (λ t. success-gives lay
     go false f g = g false
 
 found-are : (start : List Layer) (steps : List Step) → found start steps ≡ run-grows start steps .more
-found-are start steps = ap (drop (length start)) (run-grows start steps .is) ∙ drop-front start (run-grows start steps .more)
+found-are start steps = ap (drop (length start)) (run-grows start steps .is) ∙ drop-append-seam start (run-grows start steps .more)
 
 pub run-kept : (start : List Layer) (steps : List Step) → run start steps ≡ start ++ found start steps
 run-kept start steps = run-grows start steps .is ∙ ap (λ (more : List Layer). start ++ more) (sym (found-are start steps))

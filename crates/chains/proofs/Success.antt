@@ -5,7 +5,7 @@ use lib.Dec.{T, ltb, ltb→lt, lt→ltb}
 use lib.ListN.{length}
 use mir.Facts.{and-yes, yes-and}
 use Rattle.boolean.specs.Operations.{codeAt}
-use Rattle.loxurfa.proofs.Success.{Accepted, combined-accepted}
+use Rattle.calls.proofs.Success.{Accepted, combined-accepted}
 use Rattle.chains.specs.Chains.{Layer, layerAt, Step, outcomeOf, called, CalledExact, succeeds, resultOf, Call, Kept, KeptIfCalled}
 
 pub called-exact : CalledExact

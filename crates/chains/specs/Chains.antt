@@ -10,11 +10,11 @@ use lib.IntN.{ℤ}
 use Rattle.geometry.specs.Points.{Point}
 use Rattle.geometry.specs.Trapezoids.{layerOf, liesInLayer}
 use Rattle.boolean.specs.Operations.{codeAt, says}
-use Rattle.loxurfa.specs.declared.Combined.{Combined}
-use Rattle.loxurfa.specs.declared.Equality.{Equality}
-use Rattle.loxurfa.specs.Answers.{Answer, combinedAnswer, isDone}
-use Rattle.loxurfa.specs.Outcomes.{Outcome, recordsOf, combined}
-use Rattle.loxurfa.specs.Contracts.{CombineKept, EqualKept}
+use Rattle.calls.specs.declared.Combined.{Combined}
+use Rattle.calls.specs.declared.Equality.{Equality}
+use Rattle.calls.specs.Answers.{Answer, combinedAnswer, isDone}
+use Rattle.calls.specs.Outcomes.{Outcome, recordsOf, combined}
+use Rattle.calls.specs.Contracts.{CombineKept, EqualKept}
 
 abbrev pub Layer : Type 0
 Layer = List ℤ

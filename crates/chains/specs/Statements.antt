@@ -5,13 +5,13 @@ use mathlib.Core.List.{List, [], _∷_, _++_}
 use Prim.Native.Nat.{ℕ, _<_}
 use lib.Dec.{T}
 use lib.ListN.{length}
-use Rattle.records.specs.Lists.{All}
+use Rattle.lists.specs.Lists.{All}
 use Rattle.geometry.specs.declared.Trapezoid.{Trapezoid}
 use Rattle.geometry.specs.Points.{Point, IsPoint}
 use Rattle.geometry.specs.Trapezoids.{layerOf, LiesInLayer, Disjoint}
 use Rattle.boolean.specs.Statements.{IsYes, LinesFrom}
-use Rattle.loxurfa.specs.Answers.{equalityAnswer, isRefused, isSame}
-use Rattle.loxurfa.specs.Statements.{FitLayer, Compares}
+use Rattle.calls.specs.Answers.{equalityAnswer, isRefused, isSame}
+use Rattle.calls.specs.Statements.{FitLayer, Compares}
 use Rattle.chains.specs.Chains.{Layer, layerAt, Step, stepped, run, Call, stepsOf, KeptIfCalled, held, results, Contracts, entryAt, fed, evaluation, raised, merged, Test, Tested}
 
 -- of a layer's words: no rational point lies in two of its trapezoids

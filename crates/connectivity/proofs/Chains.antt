@@ -1,17 +1,9 @@
--- Laws of chains, and of the elements of a list by their numbers.
+-- Laws of chains.
 use mathlib.Core.Path.{_≡_, refl, sym, _∙_, ap, subst}
-use mathlib.Core.Bool.{Bool}
 use mathlib.Core.List.{List, [], _∷_, _++_}
-use mathlib.Core.Logic.{_↔_}
-use Prim.Native.Nat.{ℕ, zero, suc, _<_}
-use native.Mathlib.Omega.{arith}
-use lib.Dec.{T}
-use lib.ListN.{length}
-use Rattle.records.specs.Lists.{All}
-use Rattle.connectivity.specs.Chains.{Leads, Chained, At}
-use Rattle.connectivity.specs.Components.{testAt}
+use Prim.Native.Nat.{ℕ}
+use Rattle.connectivity.specs.Chains.{Leads, Chained}
 
--- ---- chains
 module _ (R : ℕ → ℕ → Type 0) where
   leads-on : (i j k : ℕ) (js ks : List ℕ) → Leads R i js j → Leads R j ks k → Leads R i (js ++ ks) k
   leads-on i j k [] ks e l = subst (λ (x : ℕ). Leads R x ks k) (sym e) l
@@ -48,27 +40,3 @@ chain-same {R} f same {i} {k} c = leads-same R f same i k (c .through) (c .leads
 
 pub chain-keeps : {R : ℕ → ℕ → Type 0} (P : ℕ → Type 0) → ((i j : ℕ) → R i j → P j) → {i k : ℕ} → Chained R i k → P i → P k
 chain-keeps {R} P keep {i} {k} c h = leads-keeps R P keep i k (c .through) (c .leads) h
-
--- ---- elements by their numbers
-module _ {A : Type 0} where
-  pub at-range : (P : A → Type 0) (xs : List A) (i : ℕ) → At P xs i → i < length xs
-  at-range P [] i h = absurd h
-  at-range P (x ∷ xs) zero h = omega arith
-  at-range P (x ∷ xs) (suc i) h = let k = at-range P xs i h in omega arith
-
-  pub at-map : (P Q : A → Type 0) → ((x : A) → P x → Q x) → (xs : List A) (i : ℕ) → At P xs i → At Q xs i
-  at-map P Q f [] i h = absurd h
-  at-map P Q f (x ∷ xs) zero h = f x h
-  at-map P Q f (x ∷ xs) (suc i) h = at-map P Q f xs i h
-
-  -- two elements, either first
-  pub at-swap : (S : A → A → Type 0) (xs ys : List A) (i j : ℕ) → At (λ (x : A). At (S x) ys j) xs i → At (λ (y : A). At (λ (x : A). S x y) xs i) ys j
-  at-swap S [] ys i j h = absurd h
-  at-swap S (x ∷ xs) ys zero j h = h
-  at-swap S (x ∷ xs) ys (suc i) j h = at-swap S xs ys i j h
-
-  -- the test that says what is meant of each element says it of the element with a number
-  pub test-exact : (f : A → Bool) (P : A → Type 0) (xs : List A) (i : ℕ) → All (λ (x : A). T (f x) ↔ P x) xs → T (testAt f xs i) ↔ At P xs i
-  test-exact f P [] i h = ((λ k. k), (λ k. k))
-  test-exact f P (x ∷ xs) zero h = h .0
-  test-exact f P (x ∷ xs) (suc i) h = test-exact f P xs i (h .1)

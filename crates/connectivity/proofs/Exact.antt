@@ -6,15 +6,16 @@ use Prim.Native.Nat.{ℕ, _<_}
 use native.Mathlib.Omega.{arith}
 use lib.Dec.{T}
 use lib.ListN.{length}
-use Rattle.records.specs.Lists.{All}
-use Rattle.records.proofs.Lists.{all-map}
+use Rattle.lists.specs.Lists.{All, At}
+use Rattle.lists.specs.Tests.{testAt}
+use Rattle.lists.proofs.Lists.{all-map}
+use Rattle.lists.proofs.Members.{at-range, at-map, at-swap, test-exact}
 use Rattle.geometry.specs.declared.Trapezoid.{Trapezoid}
 use Rattle.geometry.specs.Fitness.{FitFor}
 use Rattle.connectivity.specs.Touching.{Touch, touches}
-use Rattle.connectivity.specs.Chains.{At, TouchAt}
-use Rattle.connectivity.specs.Components.{numberAt, testAt, touchingAt, componentNumbers, componentCount, Different, ComponentsOf, ComponentsExact}
+use Rattle.connectivity.specs.Chains.{TouchAt}
+use Rattle.connectivity.specs.Components.{numberAt, touchingAt, componentNumbers, componentCount, Different, ComponentsOf, ComponentsExact}
 use Rattle.connectivity.proofs.Touches.{touches-exact, touch-turn}
-use Rattle.connectivity.proofs.Chains.{at-range, at-map, at-swap, test-exact}
 use Rattle.connectivity.proofs.Joining.{Components, components}
 use Rattle.connectivity.proofs.Owners.{owners-different}
 

@@ -11,7 +11,7 @@ use Rattle.geometry.specs.declared.Base.{Base}
 use Rattle.geometry.specs.declared.Trapezoid.{Trapezoid}
 use Rattle.geometry.specs.Lines.{dx, dy, offset, det, numer}
 use Rattle.geometry.specs.Positions.{crosses, root, meet, heights}
-use Rattle.overlay.specs.Overlaps.{commonLeft, commonRight}
+use Rattle.geometry.specs.Ranges.{commonLeft, commonRight}
 use Rattle.connectivity.specs.Touching.{notAbove, touchesAt, crossesWithin, touchesFrom, touchesBetween, touches}
 use Rattle.connectivity.specs.Components.{ownNumbers, relabelled, joined, joinedFirst, joinedAll, owners, touchingAt, componentNumbers, componentCount}
 

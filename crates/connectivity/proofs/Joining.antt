@@ -8,7 +8,7 @@ use native.Mathlib.Omega.{arith}
 use lib.Dec.{T, T-not, eqb, ltb, eqb→eq, eqb-refl, ltb→lt, nltb→le}
 use lib.ListN.{length, length-append, List·getD-append}
 use lib.Seq.{getD-at}
-use Rattle.levels.proofs.Tests.{yes-or-no, cond-cases}
+use Rattle.lists.proofs.Tests.{yes-or-no, cond-cases}
 use Rattle.connectivity.specs.Chains.{Chained}
 use Rattle.connectivity.specs.Components.{numberAt, ownNumbers, relabelled, joined, joinedIf, joinedFirst, joinedAll}
 use Rattle.connectivity.proofs.Chains.{chain-here, chain-one, chain-on, chain-back, chain-same, chain-keeps}

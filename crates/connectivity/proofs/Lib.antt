@@ -1,10 +1,6 @@
 pub mod Touches
-pub mod Branches
 pub mod Chains
 pub mod Joining
 pub mod Owners
 pub mod Exact
-pub mod Loops
-pub mod Layers
-pub mod Outcome
 pub mod Examples

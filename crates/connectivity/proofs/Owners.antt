@@ -7,7 +7,8 @@ use Prim.Native.Nat.{ℕ, zero, suc, _<_}
 use native.Mathlib.Omega.{arith}
 use lib.Dec.{T, eqb, eqb→eq, eqb-refl}
 use lib.ListN.{length}
-use Rattle.records.specs.Lists.{All, Any, Pairs}
+use Rattle.lists.specs.Lists.{Any, Pairs}
+use Rattle.lists.proofs.Lists.{not-any}
 use Rattle.connectivity.specs.Components.{numberAt, consIf, owners, Different}
 use Rattle.connectivity.proofs.Joining.{same-or-not, less-than}
 
@@ -21,11 +22,6 @@ entry-from : (k : ℕ) (ns : List ℕ) → Any (λ (m : ℕ). k ≡ m) ns → (i
 entry-from k [] h = absurd h
 entry-from k (n ∷ ns) (inl e) = (0, omega arith, e)
 entry-from k (n ∷ ns) (inr h) = let r = entry-from k ns h in let l = r .1 in (suc (r .0), omega arith, r .2)
-
--- no element is k
-none : (k : ℕ) (ns : List ℕ) → (Any (λ (m : ℕ). k ≡ m) ns → ⊥) → All (λ (m : ℕ). k ≡ m → ⊥) ns
-none k [] h = tt
-none k (n ∷ ns) h = ((λ e. h (inl e)), none k ns (λ a. h (inr a)))
 
 -- ---- the owners
 module _ (ns : List ℕ) where
@@ -58,7 +54,7 @@ module _ (ns : List ℕ) where
   owners-apart (suc m) = go (eqb (numberAt ns m) m) (owners-apart m)
     where
       go : (b : Bool) → Pairs (λ (a b : ℕ). a ≡ b → ⊥) (owners ns m) → Pairs (λ (a b : ℕ). a ≡ b → ⊥) (consIf b m (owners ns m))
-      go true h = (none m (owners ns m) (λ a. let l = owner-out m m a .0 in omega arith), h)
+      go true h = (not-any (λ (k : ℕ). m ≡ k) (owners ns m) (λ a. let l = owner-out m m a .0 in omega arith), h)
       go false h = h
 
   -- where each number is its own number's, the owners are the different numbers

@@ -7,6 +7,7 @@ use lib.Dec.{T, T-not, not-T}
 use lib.IntN.{ℤ, pos}
 use lib.Signed.{leZ, _≤ℤ_, _<ℤ_, leZ-yes, clashℤ}
 use mir.Facts.{and-yes, yes-and, or-yes}
+use Rattle.lists.proofs.Tests.{cond-cases, or-left, or-right}
 use Rattle.integer.specs.declared.Ordering.{Ordering}
 use Rattle.integer.specs.declared.Ordering.the-variants.{Less, Equal, Greater}
 use Rattle.integer.specs.Integer.{_⊕_, _⊗_}
@@ -16,7 +17,6 @@ use Rattle.integer.proofs.Order.{lt→le, lt-or-le, weighted-le, weighted-lt}
 use Rattle.integer.proofs.Linear.{zarith, neg-le, neg-lt, neg-ge}
 use Rattle.integer.proofs.Tests.{order-exact, says-order}
 use Rattle.integer.proofs.Fraction.{cross, cross-turn, cross→before, cross→at-most, at-most→cross, at-most-refl, at-most-trans, before→at-most, before-at-most-trans, at-most-before-trans}
-use Rattle.levels.proofs.Tests.{cond-cases}
 use Rattle.geometry.specs.declared.Line.{Line}
 use Rattle.geometry.specs.declared.Base.{Base}
 use Rattle.geometry.specs.declared.Trapezoid.{Trapezoid}
@@ -26,15 +26,14 @@ use Rattle.geometry.specs.Points.{Point, at, side, under}
 use Rattle.geometry.specs.Orders.{Uncrossed}
 use Rattle.geometry.specs.Trapezoids.{based, liesInClosed}
 use Rattle.geometry.specs.Fitness.{FitFor}
+use Rattle.geometry.specs.Ranges.{crossing, commonLeft, commonRight}
 use Rattle.geometry.proofs.Identities.{gap-moves, gap-turn, det-turn, root-cross, gap-between, height-refl}
 use Rattle.geometry.proofs.Heights.{heights-gap, height-total}
 use Rattle.geometry.proofs.Between.{ahead, stays-closed, order-from}
 use Rattle.geometry.proofs.Meet.{det→crosses, meet-cases, meet-proper, meet-gap}
 use Rattle.geometry.proofs.Points.{on, on-point, on-other, on-from, on-to, between-lines}
 use Rattle.geometry.proofs.Fitness.{left-proper, right-proper, left-before-right, bottom-line, top-line}
-use Rattle.overlay.specs.Overlaps.{crossing, commonLeft, commonRight}
-use Rattle.overlay.proofs.Tests.{or-left, or-right}
-use Rattle.overlay.proofs.Ranges.{fit-based, common-left-proper, common-right-proper, from-left, righter-first, righter-second, lefter-first, lefter-second}
+use Rattle.geometry.proofs.Ranges.{fit-based, common-left-proper, common-right-proper, from-left, righter-first, righter-second, lefter-first, lefter-second}
 use Rattle.connectivity.specs.Touching.{Touch, notAbove, touchesAt, crossesWithin, touchesFrom, touchesBetween, touches, TouchesExact}
 
 -- ---- at or below at a position

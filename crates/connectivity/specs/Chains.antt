@@ -1,7 +1,8 @@
 -- Chains: numbers that lead from one to another, each to the next by a relation.
 use mathlib.Core.Path.{_≡_}
 use mathlib.Core.List.{List, [], _∷_}
-use Prim.Native.Nat.{ℕ, zero, suc}
+use Prim.Native.Nat.{ℕ}
+use Rattle.lists.specs.Lists.{At}
 use Rattle.geometry.specs.declared.Trapezoid.{Trapezoid}
 use Rattle.connectivity.specs.Touching.{Touch}
 
@@ -13,12 +14,6 @@ Leads R i (j ∷ js) k = R i j × Leads R j js k
 pub record Chained (R : ℕ → ℕ → Type 0) (i k : ℕ) : Type 0 where
   pub through : List ℕ
   pub leads : Leads R i through k
-
--- the list has an element with number i, and P holds of it
-abbrev pub At : {A : Type 0} → (A → Type 0) → List A → ℕ → Type 0
-At P [] i = ⊥
-At P (x ∷ xs) zero = P x
-At P (x ∷ xs) (suc i) = At P xs i
 
 -- the trapezoids with the numbers i and j touch
 abbrev pub TouchAt : List Trapezoid → ℕ → ℕ → Type 0

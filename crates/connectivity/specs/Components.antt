@@ -6,7 +6,8 @@ use mathlib.Core.Logic.{_↔_}
 use Prim.Native.Nat.{ℕ, zero, suc, _<_, _≤_, max, min}
 use lib.Dec.{eqb}
 use lib.ListN.{length, getD}
-use Rattle.records.specs.Lists.{All, Any, Pairs}
+use Rattle.lists.specs.Lists.{All, Any, Pairs}
+use Rattle.lists.specs.Tests.{testAt}
 use Rattle.geometry.specs.declared.Trapezoid.{Trapezoid}
 use Rattle.geometry.specs.Fitness.{FitFor}
 use Rattle.connectivity.specs.Touching.{touches}
@@ -54,12 +55,6 @@ owners ns zero = []
 owners ns (suc i) = consIf (eqb (numberAt ns i) i) i (owners ns i)
 
 -- ---- components
--- the list has an element with number i, and the test says yes of it
-abbrev pub testAt : {A : Type 0} → (A → Bool) → List A → ℕ → Bool
-testAt f [] i = false
-testAt f (x ∷ xs) zero = f x
-testAt f (x ∷ xs) (suc i) = testAt f xs i
-
 -- the trapezoids with the numbers i and j touch
 unfoldable pub touchingAt : List Trapezoid → ℕ → ℕ → Bool
 touchingAt ts i j = testAt (λ (t : Trapezoid). testAt (touches t) ts j) ts i

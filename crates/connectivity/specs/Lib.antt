@@ -2,5 +2,3 @@
 pub mod Touching
 pub mod Chains
 pub mod Components
-pub mod Code
-pub mod Outcome

@@ -11,7 +11,7 @@ use Rattle.geometry.specs.Positions.{crosses, position, heights, isLess}
 use Rattle.geometry.specs.Points.{Point, IsPoint}
 use Rattle.geometry.specs.Trapezoids.{liesInClosed}
 use Rattle.geometry.specs.Fitness.{FitFor}
-use Rattle.overlay.specs.Overlaps.{crossing, commonLeft, commonRight}
+use Rattle.geometry.specs.Ranges.{crossing, commonLeft, commonRight}
 
 -- "pieces touch if their closed forms share a rational point"
 abbrev pub Touch : Trapezoid → Trapezoid → Type 0

@@ -8,6 +8,7 @@ use native.Mathlib.Omega.{arith}
 use lib.Dec.{eqb}
 use lib.ListN.{length, length-drop}
 use lib.IntN.{ℤ}
+use Rattle.lists.specs.Tests.{all}
 use Rattle.records.specs.Records.{Codec, count}
 use Rattle.records.proofs.Records.{length-from}
 use Rattle.geometry.specs.declared.Trapezoid.{Trapezoid}
@@ -17,7 +18,7 @@ use Rattle.geometry.specs.declared.Checked.the-variants.{Passed, Refused}
 use Rattle.geometry.specs.Limit.{coordinateLimit}
 use Rattle.geometry.specs.Positions.{position}
 use Rattle.geometry.specs.Trapezoids.{linesOf}
-use Rattle.geometry.specs.Fitness.{all, lineOnGrid, isLine, baseCrosses, leftOf, belowBetween, pass, shapeVerdict, verdict, refuse, firstRefusal}
+use Rattle.geometry.specs.Fitness.{lineOnGrid, isLine, baseCrosses, leftOf, belowBetween, pass, shapeVerdict, verdict, refuse, firstRefusal}
 use Rattle.files.specs.declared.Format.{Format}
 use Rattle.files.specs.declared.Number.{Number}
 use Rattle.files.specs.declared.Number.the-variants.{Of, Outside}

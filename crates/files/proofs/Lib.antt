@@ -5,10 +5,11 @@ pub mod Right
 pub mod Layers
 pub mod Polygons
 pub mod Bounds
-pub mod Answering
 pub mod Calls
 pub mod WordSizes
 pub mod RoundTrip
 pub mod Pairs
 pub mod Words
 pub mod Form
+pub mod Answers
+pub mod Grid

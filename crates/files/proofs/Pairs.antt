@@ -1,13 +1,15 @@
 -- The pairs of a directory that is right, one by one, and the lists that they stand for.
 use mathlib.Core.Path.{_≡_, refl, sym, ap, _∙_, subst}
 use mathlib.Core.Bool.{Bool, true, false}
-use mathlib.Core.List.{List, [], _∷_}
+use mathlib.Core.List.{List}
 use Prim.Native.Nat.{ℕ, zero, suc, _+_, _*_, _-_, _/_, _<_, _≤_}
 use native.Mathlib.Nat.{mul-le-mul-left, not-suc-le-zero, le-of-suc-le-suc}
 use native.Mathlib.Omega.{arith}
 use lib.ListN.{take-append-drop, drop-of-length-le, length, take, drop, length-drop}
 use lib.Seq.{drop-drop, getD-drop}
 use lib.IntN.{ℤ, pos}
+use Rattle.lists.specs.Lists.{cut, joined}
+use Rattle.lists.proofs.Parts.{cut-length}
 use Rattle.records.specs.Records.{Codec, recordAt, recordsFrom, count}
 use Rattle.records.proofs.Records.{length-from}
 use Rattle.geometry.specs.declared.Checked.the-variants.{Passed}
@@ -16,7 +18,7 @@ use Rattle.files.specs.declared.Directory.{Directory}
 use Rattle.files.specs.declared.Directory.the-variants.{Wrong, Right}
 use Rattle.files.specs.Formats.{wordAt, fileSized, fileWords, polygonFile}
 use Rattle.files.specs.Directory.{pairsFrom, directoryOf, HasPairs}
-use Rattle.files.specs.Contents.{amountOf, countIn, offsetAt, lengthAt, lengthsFrom, lengthsOf, bodyOf, unitsOf, cut, listsOf, joined, listsFrom, vertexCodec, polygonsOf}
+use Rattle.files.specs.Contents.{amountOf, countIn, offsetAt, lengthAt, lengthsFrom, lengthsOf, bodyOf, unitsOf, listsOf, listsFrom, vertexCodec, polygonsOf}
 use Rattle.files.specs.Rows.{sizeRow, directoryRows, firstOffGrid, polygonFileChecked}
 use Rattle.files.specs.Statements.{ListsByOffset, ListsJoined, PairsFit, CheckedPairs}
 use Rattle.files.proofs.Reading.{drop-from, take-from, length-file}
@@ -26,11 +28,6 @@ use Rattle.files.proofs.Bounds.{units-are}
 use Rattle.files.proofs.Polygons.{vertex-at}
 
 -- ---- there are as many lists as word 0 counts
-cut-length : {A : Type 0} (ns : List ℕ) (xs : List A) → length (cut ns xs) ≡ length ns
-unfolding cut
-cut-length [] xs = refl
-cut-length (n ∷ ns) xs = ap suc (cut-length ns (drop n xs))
-
 lengths-length : (ws : List ℤ) (n i : ℕ) → length (lengthsFrom ws n i) ≡ n
 unfolding lengthsFrom
 lengths-length ws zero i = refl

@@ -7,17 +7,19 @@ use native.Mathlib.Omega.{arith}
 use lib.ListN.{length, take, drop, length-drop}
 use lib.Seq.{drop-drop, getD-take, getD-drop}
 use lib.IntN.{ℤ, pos}
+use Rattle.lists.specs.Lists.{cut}
+use Rattle.lists.specs.Tests.{all}
 use Rattle.records.specs.Records.{recordAt, recordsFrom}
 use Rattle.records.proofs.Records.{from-step, from-none}
 use Rattle.geometry.specs.declared.Checked.the-variants.{Passed, Refused}
 use Rattle.geometry.specs.Limit.{onGrid}
-use Rattle.geometry.specs.Fitness.{all}
-use Rattle.files.specs.declared.Vertex.{Vertex}
+use Rattle.geometry.specs.declared.Vertex.{Vertex}
+use Rattle.geometry.specs.Polygons.{vertexOnGrid}
 use Rattle.files.specs.declared.Directory.the-variants.{Right}
 use Rattle.files.specs.Formats.{wordAt, polygonFile}
 use Rattle.files.specs.Directory.{pairsFrom, HasPairs}
-use Rattle.files.specs.Contents.{amountOf, countIn, lengthAt, lengthsFrom, bodyOf, unitsOf, cut, vertexOf, vertexCodec, polygonsOf}
-use Rattle.files.specs.Rows.{vertexOnGrid, firstOffGrid}
+use Rattle.files.specs.Contents.{amountOf, countIn, lengthAt, lengthsFrom, bodyOf, unitsOf, vertexOf, vertexCodec, polygonsOf}
+use Rattle.files.specs.Rows.{firstOffGrid}
 use Rattle.files.proofs.Reading.{drop-from, take-from}
 use Rattle.files.proofs.Walk.{pair}
 use Rattle.files.proofs.Right.{Next, Ends, next, ends, right, count-in}

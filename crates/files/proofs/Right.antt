@@ -9,7 +9,7 @@ use lib.ListN.{length, drop}
 use lib.IntN.{ℤ, pos}
 use borrow.Author.Tests.{eqb-true}
 use borrow.Rule.Slice.PartMut.{midOf}
-use Rattle.records.proofs.Parts.{mid-tail}
+use Rattle.lists.proofs.Parts.{mid-tail}
 use Rattle.files.specs.declared.Format.{Format}
 use Rattle.files.specs.declared.Number.{Number}
 use Rattle.files.specs.declared.Number.the-variants.{Of, Outside}

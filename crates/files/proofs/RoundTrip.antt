@@ -24,7 +24,7 @@ use Rattle.files.specs.Statements.{bytesWritten, wordsRead, WrittenReads
 use Rattle.files.proofs.Reading.{length-file}
 use Rattle.files.proofs.Right.{right}
 use Rattle.files.proofs.Bounds.{passes}
-use Rattle.files.proofs.Answering.{done-is}
+use Rattle.files.proofs.Answers.{done-is}
 use Rattle.files.proofs.Calls.{file-passes, length-bytes}
 use Rattle.files.proofs.WordSizes.{words-passed}
 

@@ -5,10 +5,10 @@ use Prim.Native.Nat.{ℕ, zero, suc, _+_, _*_, _<_, _≤_}
 use native.Mathlib.Omega.{arith}
 use lib.ListN.{length, drop, length-drop}
 use lib.IntN.{ℤ, pos, negsuc, natAbs}
-use Rattle.records.specs.Lists.{All}
+use Rattle.lists.specs.Lists.{All}
+use Rattle.lists.proofs.Lists.{all-of}
 use Rattle.records.specs.Records.{wordsOf}
 use Rattle.records.specs.Words.{Word}
-use Rattle.records.proofs.Lists.{all-of}
 use Rattle.records.proofs.Records.{words-records}
 use Rattle.geometry.specs.declared.Line.{Line}
 use Rattle.geometry.specs.declared.Trapezoid.{Trapezoid}

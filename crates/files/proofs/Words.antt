@@ -5,14 +5,16 @@ use Prim.Native.Nat.{ℕ, zero, suc, _+_, _*_, _<_, _≤_}
 use native.Mathlib.Nat.{not-suc-le-zero, le-of-suc-le-suc}
 use native.Mathlib.Omega.{arith}
 use lib.Dec.{T}
-use lib.ListN.{length, take, drop, getD, length-append, length-map}
-use lib.Seq.{take-append-seam, drop-append-seam, drop-drop, getD-drop}
+use lib.ListN.{length, drop, getD, length-append, length-map}
+use lib.Seq.{drop-drop, getD-drop}
 use lib.IntN.{ℤ, pos}
 use borrow.Author.Tests.{eq-eqb}
+use Rattle.lists.specs.Lists.{cut, joined}
+use Rattle.lists.proofs.Lists.{all-of}
+use Rattle.lists.proofs.Parts.{cut-joined}
 use Rattle.records.specs.Limits.{memoryWidth, maxRecords}
-use Rattle.records.specs.Records.{Codec, recordsFrom, records, wordsOf}
+use Rattle.records.specs.Records.{recordsFrom, wordsOf}
 use Rattle.records.specs.Words.{wordCodec}
-use Rattle.records.proofs.Lists.{all-of}
 use Rattle.records.proofs.Records.{words-from, records-words, length-words}
 use Rattle.geometry.specs.declared.Trapezoid.{Trapezoid}
 use Rattle.geometry.specs.declared.Checked.the-variants.{Passed}
@@ -25,7 +27,7 @@ use Rattle.files.specs.declared.Number.the-variants.{Of}
 use Rattle.files.specs.declared.Directory.the-variants.{Right}
 use Rattle.files.specs.Formats.{wordAt, fileWords, layerFile, layerWords}
 use Rattle.files.specs.Directory.{naturalOf, countOf, pairLength, endOf, pairsFrom, directoryOf, HasPairs}
-use Rattle.files.specs.Contents.{amountOf, countIn, offsetAt, lengthAt, lengthsFrom, bodyOf, unitsOf, cut, joined, listsFrom, fileCodec, pairsOf, layerFileWords, layerWordsAt}
+use Rattle.files.specs.Contents.{amountOf, countIn, offsetAt, lengthAt, lengthsFrom, bodyOf, unitsOf, listsFrom, fileCodec, pairsOf, layerFileWords, layerWordsAt}
 use Rattle.files.specs.Rows.{layerWordsChecked}
 use Rattle.files.specs.Outcomes.{Outcome, isDone, writeLayers}
 use Rattle.files.specs.Statements.{LayersBack, Writable, WriterAccepts, LayerAt, ReadPairs}
@@ -37,12 +39,6 @@ use Rattle.files.proofs.Bounds.{passes, units-bound}
 use Rattle.files.proofs.Calls.{file-passes, length-bytes}
 use Rattle.files.proofs.RoundTrip.{write-is, write-passed, read-passed, read-words}
 use Rattle.files.proofs.Pairs.{lists-by-offset, pairs-fit}
-
--- lists joined and cut again
-cut-joined : {A : Type 0} (xss : List (List A)) → cut (map length xss) (joined xss) ≡ xss
-unfolding cut
-cut-joined [] = refl
-cut-joined (xs ∷ xss) = rw (take-append-seam xs (joined xss), drop-append-seam xs (joined xss), cut-joined xss)
 
 length-pairs : (before : ℕ) (ns : List ℕ) → length (pairsOf before ns) ≡ 2 * length ns
 unfolding pairsOf

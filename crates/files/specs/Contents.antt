@@ -3,12 +3,13 @@ use mathlib.Core.List.{List, [], _∷_, _++_, map}
 use Prim.Native.Nat.{ℕ, zero, suc, _+_, _*_, _≤_}
 use lib.IntN.{ℤ, pos}
 use lib.ListN.{length, take, drop, getD}
+use Rattle.lists.specs.Lists.{cut, joined}
 use Rattle.records.specs.Limits.{memoryWidth, fileWidth}
 use Rattle.records.specs.Records.{Codec, recordsFrom, records, wordsOf}
 use Rattle.geometry.specs.declared.Trapezoid.{Trapezoid}
 use Rattle.geometry.specs.Trapezoids.{trapezoidWords, trapezoidOf, trapezoidCodec}
+use Rattle.geometry.specs.declared.Vertex.{Vertex}
 use Rattle.files.specs.declared.Format.{Format}
-use Rattle.files.specs.declared.Vertex.{Vertex}
 use Rattle.files.specs.declared.Number.{Number}
 use Rattle.files.specs.declared.Number.the-variants.{Of, Outside}
 use Rattle.files.specs.Formats.{wordAt}
@@ -48,17 +49,8 @@ bodyOf ws = drop (2 * countIn ws + 1) ws
 abbrev pub unitsOf : {A : Type 0} → Codec ℤ A → List ℤ → List A
 unitsOf C ws = records C (bodyOf ws)
 
-unfoldable pub cut : {A : Type 0} → List ℕ → List A → List (List A)
-cut [] xs = []
-cut (n ∷ ns) xs = take n xs ∷ cut ns (drop n xs)
-
 abbrev pub listsOf : {A : Type 0} → Codec ℤ A → List ℤ → List (List A)
 listsOf C ws = cut (lengthsOf ws) (unitsOf C ws)
-
--- lists one after the other
-abbrev pub joined : {A : Type 0} → List (List A) → List A
-joined [] = []
-joined (xs ∷ xss) = xs ++ joined xss
 
 -- the lists by offset and length, n of them from number i on: "Offset and length count units from the start of the body"
 unfoldable pub listsFrom : {A : Type 0} → Codec ℤ A → List ℤ → ℕ → ℕ → List (List A)

@@ -1,18 +1,20 @@
 -- The table of refusals, rows 4 to 11, of files and of a layer file's words: "Rows are checked downward".
-use mathlib.Core.Bool.{Bool, true, false, _&&_}
+use mathlib.Core.Bool.{Bool, true, false}
 use mathlib.Core.List.{List, [], _∷_}
 use Prim.Native.Nat.{ℕ, _+_}
 use lib.IntN.{ℤ}
 use lib.ListN.{length}
+use Rattle.lists.specs.Tests.{all}
 use Rattle.records.specs.Records.{Codec}
 use Rattle.geometry.specs.declared.Trapezoid.{Trapezoid}
 use Rattle.geometry.specs.declared.Checked.{Checked}
 use Rattle.geometry.specs.declared.Checked.the-variants.{Passed, Refused}
-use Rattle.geometry.specs.Limit.{coordinateLimit, onGrid}
+use Rattle.geometry.specs.Limit.{coordinateLimit}
 use Rattle.geometry.specs.Trapezoids.{trapezoidCodec}
-use Rattle.geometry.specs.Fitness.{all, firstRefusal}
+use Rattle.geometry.specs.Fitness.{firstRefusal}
+use Rattle.geometry.specs.declared.Vertex.{Vertex}
+use Rattle.geometry.specs.Polygons.{vertexOnGrid}
 use Rattle.files.specs.declared.Format.{Format}
-use Rattle.files.specs.declared.Vertex.{Vertex}
 use Rattle.files.specs.declared.Directory.{Directory}
 use Rattle.files.specs.declared.Directory.the-variants.{Wrong, Right}
 use Rattle.files.specs.Formats.{fileSized, fileWords, polygonFile, layerFile, layerWords}
@@ -30,9 +32,6 @@ directoryRows (Wrong number place) below = Refused number place
 directoryRows (Right count total) below = below
 
 -- ---- row 7 of a polygon file: "coordinate beyond ±2,048", place the polygon
-unfoldable pub vertexOnGrid : ℕ → Vertex → Bool
-vertexOnGrid L v = onGrid L (v .x) && onGrid L (v .y)
-
 abbrev pub gridRow : Bool → ℕ → Checked → Checked
 gridRow true i below = below
 gridRow false i below = Refused 7 i

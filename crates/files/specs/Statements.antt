@@ -8,8 +8,8 @@ use Prim.Native.Nat.{ℕ, _+_, _*_, _/_, _<_, _≤_}
 use lib.Dec.{T}
 use lib.IntN.{ℤ}
 use lib.ListN.{length, take, getD}
+use Rattle.lists.specs.Lists.{All, joined}
 use Rattle.records.specs.Limits.{memoryWidth}
-use Rattle.records.specs.Lists.{All}
 use Rattle.records.specs.Records.{Codec}
 use Rattle.records.specs.Words.{Byte}
 use Rattle.geometry.specs.declared.Trapezoid.{Trapezoid}
@@ -20,7 +20,7 @@ use Rattle.geometry.specs.Fitness.{FitFor}
 use Rattle.files.specs.declared.Format.{Format}
 use Rattle.files.specs.Formats.{fileWords, polygonFile, layerWords}
 use Rattle.files.specs.Directory.{HasPairs}
-use Rattle.files.specs.Contents.{countIn, unitsOf, listsOf, joined, listsFrom, PairAt, layersOf, fileLayersOf, layerFileWords, layerWordsAt}
+use Rattle.files.specs.Contents.{countIn, unitsOf, listsOf, listsFrom, PairAt, layersOf, fileLayersOf, layerFileWords, layerWordsAt}
 use Rattle.files.specs.Rows.{polygonFileChecked}
 use Rattle.files.specs.Outcomes.{isDone, readLayers, writeLayers}
 

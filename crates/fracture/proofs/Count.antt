@@ -1,28 +1,30 @@
 -- How many trapezoids of a polygon hold a point: one if its winding number is not zero there, and none if it is.
 use mathlib.Core.Path.{_≡_, refl, _∙_, ap, ap₂}
-use mathlib.Core.Bool.{Bool, true, false, not, _&&_}
+use mathlib.Core.Bool.{Bool, true, false, not, _&&_, and-true}
 use mathlib.Core.List.{List, [], _∷_, map}
 use mathlib.Core.Logic.{_⊎_, inl, inr}
 use Prim.Native.Nat.{ℕ, _+_}
 use lib.Dec.{T}
 use lib.IntN.{ℤ, pos}
+use Rattle.lists.specs.Lists.{All}
+use Rattle.lists.specs.Tests.{always, bit, count}
+use Rattle.lists.proofs.Tests.{true-is, false-is}
+use Rattle.lists.proofs.Lists.{all-of, all-map}
 use Rattle.integer.specs.Fraction.{Fraction, Proper, before}
-use Rattle.integer.proofs.Tests.{true-is, false-is}
-use Rattle.records.specs.Lists.{All}
-use Rattle.records.proofs.Lists.{all-of, all-map}
 use Rattle.geometry.specs.declared.Base.{Base}
 use Rattle.geometry.specs.Positions.{crosses, position}
 use Rattle.geometry.specs.Points.{Point, at, under}
 use Rattle.geometry.specs.Trapezoids.{based, liesIn}
+use Rattle.geometry.specs.Polygons.{Polygon}
 use Rattle.geometry.proofs.Meet.{proper-crosses}
-use Rattle.sweep.specs.Lists.{always, bit, count, sum}
+use Rattle.sweep.specs.Sums.{sum}
 use Rattle.sweep.specs.Segments.{spans, spanning}
 use Rattle.sweep.specs.Columns.{isZero, Slab, holds, column, winding}
 use Rattle.sweep.specs.Sweep.{Column}
-use Rattle.sweep.proofs.Lists.{sum-same, sum-none, sum-keep}
+use Rattle.sweep.proofs.Sums.{sum-same, sum-none, sum-keep}
 use Rattle.sweep.proofs.Column.{column-winding}
 use Rattle.sweep.proofs.Sweep.{sweep-count}
-use Rattle.fracture.specs.Polygons.{Polygon, Edge, lineOf, directionOf, edges, segment, passesUnder, windingNumber}
+use Rattle.fracture.specs.Polygons.{Edge, lineOf, directionOf, edges, segment, passesUnder, windingNumber}
 use Rattle.fracture.specs.Fracture.{events, trapezoid, trapezoids, fracture}
 use Rattle.fracture.specs.Statements.{FractureCount}
 use Rattle.fracture.proofs.Edges.{directions-sum}
@@ -71,16 +73,12 @@ module _ (P : Point) (p q : Base) where
       go true false true w (inr h) = absurd h
 
 -- ---- sums over the spanning edges
-and-always : (b : Bool) → b && true ≡ b
-and-always true = refl
-and-always false = refl
-
 module _ (polygon : Polygon) where
   spanning-sum : (x : Fraction) → Proper x → sum directionOf always (spanning segment x (edges polygon)) ≡ pos 0
   spanning-sum x hx =
       let over : Edge → Bool = λ e. spans x (segment e) in
       sum-keep over directionOf always (edges polygon)
-      ∙ sum-same (λ (e : Edge). over e && true) directionOf over (edges polygon) (all-of (λ (e : Edge). over e && true ≡ over e) (λ e. and-always (over e)) (edges polygon))
+      ∙ sum-same (λ (e : Edge). over e && true) directionOf over (edges polygon) (all-of (λ (e : Edge). over e && true ≡ over e) (λ e. and-true (over e)) (edges polygon))
       ∙ directions-sum x hx polygon
 
   -- where the same edges span x and the point

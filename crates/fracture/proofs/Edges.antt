@@ -5,6 +5,8 @@ use mathlib.Core.List.{List, [], _∷_}
 use lib.Dec.{T}
 use lib.IntN.{ℤ, pos, negsuc}
 use lib.Signed.{ltZ, _<ℤ_}
+use Rattle.lists.specs.Lists.{All}
+use Rattle.lists.proofs.Lists.{all-append}
 use Rattle.integer.specs.Integer.{_⊕_, _⊖_}
 use Rattle.integer.specs.Fraction.{Fraction, Proper, before}
 use Rattle.integer.proofs.Laws.{mul-one}
@@ -13,14 +15,13 @@ use Rattle.integer.proofs.Order.{antisymm}
 use Rattle.integer.proofs.Linear.{zarith}
 use Rattle.integer.proofs.Tests.{lt-yes, lt-no}
 use Rattle.integer.proofs.Fraction.{before-trans}
-use Rattle.records.specs.Lists.{All}
-use Rattle.records.proofs.Lists.{all-append}
 use Rattle.geometry.specs.Lines.{IsLine}
-use Rattle.sweep.specs.Lists.{sum}
+use Rattle.geometry.specs.declared.Vertex.{Vertex}
+use Rattle.geometry.specs.Polygons.{Polygon}
+use Rattle.sweep.specs.Sums.{sum}
 use Rattle.sweep.specs.Segments.{spans}
-use Rattle.sweep.proofs.Lists.{sum-append}
-use Rattle.files.specs.declared.Vertex.{Vertex}
-use Rattle.fracture.specs.Polygons.{Polygon, Edge, directionOf, through, edge, edgesFrom, edges, whole, segment}
+use Rattle.sweep.proofs.Sums.{sum-append}
+use Rattle.fracture.specs.Polygons.{Edge, directionOf, through, edge, edgesFrom, edges, whole, segment}
 
 -- ---- whole positions
 pub whole-proper : (k : ℤ) → Proper (whole k)

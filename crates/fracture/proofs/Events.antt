@@ -6,20 +6,21 @@ use mathlib.Core.Logic.{_⊎_, inl, inr}
 use Prim.Native.Nat.{ℕ}
 use lib.Dec.{T}
 use mir.Facts.{and-yes}
+use Rattle.lists.specs.Lists.{All, Any, Pairs, Member, SomePair}
+use Rattle.lists.proofs.Tests.{cond-cases}
+use Rattle.lists.proofs.Lists.{all-of, all-append, all-left, all-right, all-map, any-map, any-left, any-right, any-split, any-elim, some-pair}
+use Rattle.lists.proofs.Members.{members}
 use Rattle.integer.specs.Fraction.{Fraction, Proper}
-use Rattle.records.specs.Lists.{All, Any, Pairs}
-use Rattle.records.proofs.Lists.{all-of, all-append, all-left, all-right, all-map, any-map, any-left, any-right, any-split}
-use Rattle.levels.proofs.Tests.{cond-cases}
-use Rattle.levels.proofs.Lists.{Member, any-elim, members}
 use Rattle.geometry.specs.declared.Base.{Base}
 use Rattle.geometry.specs.Positions.{crosses, meet, position}
+use Rattle.geometry.specs.declared.Vertex.{Vertex}
+use Rattle.geometry.specs.Polygons.{Polygon}
 use Rattle.geometry.proofs.Meet.{meet-proper}
 use Rattle.sweep.specs.Segments.{inside, crossInside}
 use Rattle.sweep.specs.Sweep.{Complete}
-use Rattle.files.specs.declared.Vertex.{Vertex}
-use Rattle.fracture.specs.Polygons.{Polygon, Edge, edges, whole, segment}
+use Rattle.fracture.specs.Polygons.{Edge, edges, whole, segment}
 use Rattle.fracture.specs.Fracture.{mark, marks, crossing, edgesCross, crossingsWith, crossings, events}
-use Rattle.fracture.specs.Statements.{SomePair, CrossAt, EventsExact}
+use Rattle.fracture.specs.Statements.{CrossAt, EventsExact}
 use Rattle.fracture.proofs.Edges.{Ends, edges-ends}
 use Rattle.fracture.proofs.Marks.{mark-position, mark-proper}
 
@@ -140,12 +141,6 @@ module _ (x : Fraction) where
   unfolding crossings
   crossings-some [] h = h
   crossings-some (e ∷ es) h = elim (any-split (λ (k : Base). x ≡ position k) (crossingsWith e es) (crossings es) h) [ inl k ↦ inl (with-some e es k) | inr k ↦ inr (crossings-some es k) ]
-
--- B, from R of each pair and Q of some
-some-pair : {A B : Type 0} {R Q : A → A → Type 0} → ((a b : A) → R a b → Q a b → B) → (xs : List A) → Pairs R xs → SomePair Q xs → B
-some-pair f [] h k = absurd k
-some-pair f (x ∷ xs) h (inl k) = any-elim (f x) xs (h .0) k
-some-pair f (x ∷ xs) h (inr k) = some-pair f xs (h .1) k
 
 pub events-exact : EventsExact
 unfolding events

@@ -5,6 +5,7 @@ use mathlib.Core.List.{List, [], _∷_, _++_, map}
 use Prim.Native.Nat.{ℕ, suc}
 use lib.IntN.{ℤ, pos}
 use lib.ListN.{length}
+use Rattle.lists.specs.Tests.{keep}
 use Rattle.integer.specs.Integer.{_⊕_, _⊖_, _⊗_, ⊝_}
 use Rattle.integer.specs.Compare.{orderOf}
 use Rattle.integer.specs.Fraction.{before}
@@ -17,13 +18,13 @@ use Rattle.geometry.specs.Lines.{dx, dy, offset, det, numer}
 use Rattle.geometry.specs.Positions.{crosses, root, meet, heights, rightOf, below}
 use Rattle.geometry.specs.Points.{Point, side, under}
 use Rattle.geometry.specs.Trapezoids.{trapezoidWords}
-use Rattle.sweep.specs.Lists.{keep, sum}
+use Rattle.geometry.specs.declared.Vertex.{Vertex}
+use Rattle.geometry.specs.Polygons.{vertexOnGrid, Polygon, polygonOnGrid}
+use Rattle.sweep.specs.Sums.{sum}
 use Rattle.sweep.specs.Segments.{spans, inside, crossInside}
 use Rattle.sweep.specs.Columns.{slabs, upTo, column}
 use Rattle.sweep.specs.Sweep.{columns, sweep}
-use Rattle.files.specs.declared.Vertex.{Vertex}
-use Rattle.files.specs.Rows.{vertexOnGrid}
-use Rattle.fracture.specs.Polygons.{Polygon, polygonOnGrid, edge, edgesFrom, edges, windingNumber}
+use Rattle.fracture.specs.Polygons.{edge, edgesFrom, edges, windingNumber}
 use Rattle.fracture.specs.Fracture.{lineBy, mark, marks, crossingsWith, crossings, events, trapezoids, fracture, fractureAll}
 
 abbrev vertex : ℕ → ℕ → Vertex

@@ -3,9 +3,10 @@ use mathlib.Core.Path.{ap}
 use mathlib.Core.List.{List, [], _∷_, map}
 use mathlib.Core.Logic.{inl, inr}
 use Prim.Native.Nat.{ℕ, _≤_}
-use Rattle.records.specs.Lists.{All}
-use Rattle.records.proofs.Lists.{all-append, all-map, any-map}
-use Rattle.levels.proofs.Lists.{Member, all-member, members}
+use Rattle.lists.specs.Lists.{All, Member}
+use Rattle.lists.proofs.Lists.{all-append, all-map, any-map}
+use Rattle.lists.proofs.Members.{all-member, members}
+use Rattle.lists.proofs.Kept.{keep-all}
 use Rattle.geometry.specs.declared.Line.{Line}
 use Rattle.geometry.specs.declared.Base.{Base}
 use Rattle.geometry.specs.declared.Trapezoid.{Trapezoid}
@@ -13,15 +14,15 @@ use Rattle.geometry.specs.Limit.{OnGrid}
 use Rattle.geometry.specs.Lines.{IsLine}
 use Rattle.geometry.specs.Positions.{position}
 use Rattle.geometry.specs.Fitness.{FitFor}
+use Rattle.geometry.specs.declared.Vertex.{Vertex}
+use Rattle.geometry.specs.Polygons.{VertexOnGrid, Polygon, PolygonOnGrid}
 use Rattle.geometry.proofs.Meet.{proper-crosses}
 use Rattle.geometry.proofs.Fitness.{base-exact, bases-exact}
 use Rattle.sweep.specs.Segments.{spans}
 use Rattle.sweep.specs.Columns.{Slab, Below, column}
-use Rattle.sweep.proofs.Lists.{keep-all}
 use Rattle.sweep.proofs.Column.{column-open}
 use Rattle.sweep.proofs.Sweep.{sweep-all}
-use Rattle.files.specs.declared.Vertex.{Vertex}
-use Rattle.fracture.specs.Polygons.{VertexOnGrid, Polygon, PolygonOnGrid, Edge, lineOf, directionOf, edges, segment}
+use Rattle.fracture.specs.Polygons.{Edge, lineOf, directionOf, edges, segment}
 use Rattle.fracture.specs.Fracture.{mark, events, trapezoid, trapezoids, fracture, fractureAll}
 use Rattle.fracture.specs.Statements.{FractureFit, IsSide, FractureSides, SidesOfOne, FractureAllSides, IsBase, FractureBases}
 use Rattle.fracture.proofs.Edges.{edges-ends}

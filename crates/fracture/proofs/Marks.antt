@@ -6,12 +6,12 @@ use native.Mathlib.Nat.{le-refl}
 use lib.Dec.{T, T-not}
 use lib.IntN.{ℤ, pos, negsuc, natAbs}
 use lib.Signed.{_<ℤ_}
+use Rattle.lists.proofs.Tests.{cond-cases}
 use Rattle.integer.specs.Integer.{_⊕_, _⊖_}
 use Rattle.integer.specs.Fraction.{Proper}
 use Rattle.integer.proofs.Ring.{Expr, ring, _⊞_, _⊟_, _⊠_, con, _≗_, sub-zero}
 use Rattle.integer.proofs.Order.{trichotomy}
 use Rattle.integer.proofs.Linear.{zarith, sum, difference, parts, one-part}
-use Rattle.levels.proofs.Tests.{cond-cases}
 use Rattle.geometry.specs.declared.Line.{Line}
 use Rattle.geometry.specs.declared.Base.{Base}
 use Rattle.geometry.specs.Limit.{OnGrid}

@@ -7,17 +7,19 @@ use Prim.Native.Nat.{ℕ, _+_, _≤_, _<_}
 use native.Mathlib.Omega.{arith}
 use lib.Dec.{T}
 use lib.IntN.{ℤ, pos}
-use Rattle.integer.proofs.Tests.{true-is}
-use Rattle.records.proofs.Lists.{all-map, any-left, any-right, any-split}
-use Rattle.levels.proofs.Lists.{Member, all-member, members}
+use Rattle.lists.specs.Lists.{Member}
+use Rattle.lists.specs.Tests.{bit, count}
+use Rattle.lists.proofs.Tests.{true-is}
+use Rattle.lists.proofs.Lists.{all-map, any-left, any-right, any-split}
+use Rattle.lists.proofs.Members.{all-member, members}
+use Rattle.lists.proofs.Counts.{count-some, bit-most}
 use Rattle.geometry.specs.declared.Trapezoid.{Trapezoid}
 use Rattle.geometry.specs.Points.{Point, IsPoint}
 use Rattle.geometry.specs.Trapezoids.{liesIn, LiesInLayer, Apart, Disjoint}
-use Rattle.sweep.specs.Lists.{bit, count}
+use Rattle.geometry.specs.Polygons.{Polygon}
 use Rattle.sweep.specs.Columns.{isZero}
-use Rattle.sweep.proofs.Lists.{count-some}
 use Rattle.sweep.proofs.Slabs.{zero-is}
-use Rattle.fracture.specs.Polygons.{Polygon, windingNumber}
+use Rattle.fracture.specs.Polygons.{windingNumber}
 use Rattle.fracture.specs.Fracture.{fracture, fractureAll}
 use Rattle.fracture.specs.Statements.{Wound, FractureExact, PolygonDisjoint}
 use Rattle.fracture.proofs.Count.{fracture-count}
@@ -80,9 +82,5 @@ counted-apart (t ∷ ts) k = (all-map later ts (members ts), counted-apart ts (�
         let j = k P hP in
         omega arith
 
-at-most-one : (b : Bool) → bit b ≤ 1
-at-most-one true = omega arith
-at-most-one false = omega arith
-
 pub polygon-disjoint : PolygonDisjoint
-polygon-disjoint L polygon = counted-apart (fracture L polygon) (λ P hP. let e = fracture-count L polygon P hP in rw e (at-most-one (not (isZero (windingNumber P polygon)))))
+polygon-disjoint L polygon = counted-apart (fracture L polygon) (λ P hP. let e = fracture-count L polygon P hP in rw e (bit-most (not (isZero (windingNumber P polygon)))))

@@ -8,10 +8,11 @@ use Rattle.geometry.specs.declared.Line.{Line}
 use Rattle.geometry.specs.declared.Base.{Base}
 use Rattle.geometry.specs.declared.Trapezoid.{Trapezoid}
 use Rattle.geometry.specs.Positions.{position}
+use Rattle.geometry.specs.Polygons.{Polygon}
 use Rattle.sweep.specs.Segments.{crossInside}
 use Rattle.sweep.specs.Columns.{isZero, Slab, column}
 use Rattle.sweep.specs.Sweep.{sweep}
-use Rattle.fracture.specs.Polygons.{Polygon, Edge, lineOf, directionOf, edges, segment}
+use Rattle.fracture.specs.Polygons.{Edge, lineOf, directionOf, edges, segment}
 
 -- ---- events
 abbrev pub lineBy : ℤ → ℤ → ℤ → ℤ → Line

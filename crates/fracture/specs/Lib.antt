@@ -2,4 +2,3 @@
 pub mod Polygons
 pub mod Fracture
 pub mod Statements
-pub mod Code

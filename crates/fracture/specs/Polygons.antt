@@ -1,39 +1,15 @@
 -- Polygons, their edges, and the winding number at a rational point.
 use mathlib.Core.Bool.{Bool, cond, _&&_}
 use mathlib.Core.List.{List, [], _∷_, _++_}
-use mathlib.Core.Logic.{_↔_}
-use Prim.Native.Nat.{ℕ, _≤_}
-use lib.Dec.{T}
-use lib.IntN.{ℤ, pos, negsuc, natAbs}
+use lib.IntN.{ℤ, pos, negsuc}
 use lib.Signed.{ltZ}
 use Rattle.integer.specs.Fraction.{Fraction}
-use Rattle.records.specs.Lists.{All}
 use Rattle.geometry.specs.declared.Line.{Line}
 use Rattle.geometry.specs.Points.{Point, at, under}
-use Rattle.geometry.specs.Fitness.{all}
-use Rattle.sweep.specs.Lists.{sum}
+use Rattle.geometry.specs.declared.Vertex.{Vertex}
+use Rattle.geometry.specs.Polygons.{Polygon}
+use Rattle.sweep.specs.Sums.{sum}
 use Rattle.sweep.specs.Segments.{Segment, spans}
-use Rattle.files.specs.declared.Vertex.{Vertex}
-use Rattle.files.specs.Rows.{vertexOnGrid}
-
--- the vertices in order
-abbrev pub Polygon : Type 0
-Polygon = List Vertex
-
--- row 7: each coordinate is within the limit L
-pub record VertexOnGrid (L : ℕ) (v : Vertex) : Type 0 where
-  pub x : natAbs (v .x) ≤ L
-  pub y : natAbs (v .y) ≤ L
-
-abbrev pub PolygonOnGrid : ℕ → Polygon → Type 0
-PolygonOnGrid L polygon = All (VertexOnGrid L) polygon
-
--- the test, which says what it means (proofs/Grid.antt: `polygon-grid-exact`)
-unfoldable pub polygonOnGrid : ℕ → Polygon → Bool
-polygonOnGrid L polygon = all (vertexOnGrid L) polygon
-
-abbrev pub PolygonGridExact : Type 0
-PolygonGridExact = (L : ℕ) (polygon : Polygon) → T (polygonOnGrid L polygon) ↔ PolygonOnGrid L polygon
 
 -- ---- edges
 pub record Edge : Type 0 where

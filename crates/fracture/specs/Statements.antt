@@ -1,13 +1,14 @@
 -- What is proved of the fracture. Each statement is proved under its name in lower case.
 use mathlib.Core.Path.{_≡_}
 use mathlib.Core.Bool.{not}
-use mathlib.Core.List.{List, [], _∷_}
+use mathlib.Core.List.{List}
 use mathlib.Core.Logic.{_⊎_, _↔_}
 use Prim.Native.Nat.{ℕ, _≤_}
 use lib.Dec.{T}
 use lib.IntN.{ℤ, pos, natAbs}
+use Rattle.lists.specs.Lists.{All, Any, SomePair}
+use Rattle.lists.specs.Tests.{bit, count}
 use Rattle.integer.specs.Fraction.{Fraction}
-use Rattle.records.specs.Lists.{All, Any}
 use Rattle.geometry.specs.declared.Line.{Line}
 use Rattle.geometry.specs.declared.Base.{Base}
 use Rattle.geometry.specs.declared.Trapezoid.{Trapezoid}
@@ -16,11 +17,11 @@ use Rattle.geometry.specs.Positions.{crosses, meet, position}
 use Rattle.geometry.specs.Points.{Point, IsPoint}
 use Rattle.geometry.specs.Trapezoids.{liesIn, LiesInLayer, Disjoint}
 use Rattle.geometry.specs.Fitness.{FitFor}
-use Rattle.sweep.specs.Lists.{bit, count}
+use Rattle.geometry.specs.declared.Vertex.{Vertex}
+use Rattle.geometry.specs.Polygons.{Polygon, PolygonOnGrid}
 use Rattle.sweep.specs.Segments.{crossInside}
 use Rattle.sweep.specs.Columns.{isZero}
-use Rattle.files.specs.declared.Vertex.{Vertex}
-use Rattle.fracture.specs.Polygons.{Polygon, PolygonOnGrid, Edge, edges, whole, segment, windingNumber}
+use Rattle.fracture.specs.Polygons.{Edge, edges, whole, segment, windingNumber}
 use Rattle.fracture.specs.Fracture.{mark, events, fracture, fractureAll}
 
 -- ---- which points lie in it, for every limit and all polygons, of any size (proofs/Points.antt, the count in proofs/Count.antt)
@@ -73,11 +74,6 @@ MarkAt = (L : ℕ) (k : ℤ) → T (crosses (mark L k .first) (mark L k .second)
 
 abbrev pub MarkOnGrid : Type 0
 MarkOnGrid = (L : ℕ) (k : ℤ) → 1 ≤ L → natAbs k ≤ L → OnGrid L (mark L k .first) × OnGrid L (mark L k .second)
-
--- some two of a list, the earlier first
-abbrev pub SomePair : {A : Type 0} → (A → A → Type 0) → List A → Type 0
-SomePair R [] = ⊥
-SomePair R (x ∷ xs) = Any (R x) xs ⊎ SomePair R xs
 
 -- two edges cross at x, strictly inside both spans
 abbrev pub CrossAt : Fraction → Edge → Edge → Type 0

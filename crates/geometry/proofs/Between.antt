@@ -5,6 +5,7 @@ use mathlib.Core.Logic.{inl, inr}
 use lib.IntN.{ℤ, pos}
 use lib.Dec.{T, not-T}
 use lib.Signed.{_≤ℤ_, _<ℤ_}
+use Rattle.lists.proofs.Tests.{yes-or-no}
 use Rattle.integer.specs.Integer.{_⊕_, _⊗_}
 use Rattle.integer.specs.Fraction.{Fraction, Proper, before, mediant}
 use Rattle.integer.proofs.Ring.{ring, _⊠_, _≗_}
@@ -15,7 +16,7 @@ use Rattle.geometry.specs.declared.Line.{Line}
 use Rattle.geometry.specs.Lines.{det}
 use Rattle.geometry.specs.Positions.{gap, root, below}
 use Rattle.geometry.specs.Orders.{Uncrossed}
-use Rattle.geometry.proofs.Identities.{T-or-not, gap-moves, gap-turn, det-turn, root-zero, root-cross}
+use Rattle.geometry.proofs.Identities.{gap-moves, gap-turn, det-turn, root-zero, root-cross}
 use Rattle.geometry.proofs.Heights.{Lower, below→lower, coincide, coincide-everywhere}
 
 pub uncrossed-turn : (p q : Fraction) (l m : Line) → Uncrossed p q l m → Uncrossed p q m l
@@ -57,7 +58,7 @@ module _ (p q : Fraction) (l m : Line) (hp : Proper p) (hq : Proper q) (clear : 
   -- and weakly in order from p to q, the ends included, also where they coincide
   pub stays-closed : T (not (below p m l)) → (x : Fraction) → Proper x → T (not (before x p)) → T (not (before q x)) → gap l m x ≤ℤ pos 0
   unfolding root
-  stays-closed h x hx u v = elim (T-or-not (below p l m)) [ inl b ↦ ordered (below→lower p l m b) | inr b ↦ (let c = coincide p l m b h in let z = coincide-everywhere p x l m hp (c .0) (c .1) in omega (zarith, z)) ]
+  stays-closed h x hx u v = elim (yes-or-no (below p l m)) [ inl b ↦ ordered (below→lower p l m b) | inr b ↦ (let c = coincide p l m b h in let z = coincide-everywhere p x l m hp (c .0) (c .1) in omega (zarith, z)) ]
     where
       from : pos 0 ≤ℤ cross x p
       from = neg-ge (cross-turn p x) (at-most→cross p x u)

@@ -11,25 +11,26 @@ use lib.IntN.{ℤ, pos, negsuc, natAbs}
 use lib.ListN.{length}
 use lib.Signed.{leZ, _≤ℤ_, leZ-yes, ltZ-yes, clashℤ}
 use mir.Facts.{and-yes, yes-and}
+use Rattle.lists.specs.Lists.{All}
+use Rattle.lists.specs.Tests.{all}
+use Rattle.lists.proofs.Lists.{all-map, all-exact}
 use Rattle.integer.specs.Integer.{_⊕_, _⊖_, _⊗_, ⊝_}
 use Rattle.integer.specs.Fraction.{Fraction, Proper, before, mediant}
 use Rattle.integer.proofs.Ring.{ring, _⊞_, _⊟_, _⊠_, con, _≗_, sub-zero}
 use Rattle.integer.proofs.Order.{eq-by, eq-over, positive-mul}
 use Rattle.integer.proofs.Linear.{zarith, minus⁺, minus⁻, parts, one-part, neg-zero}
 use Rattle.integer.proofs.Fraction.{cross, cross-turn, cross→at-most, at-most-before-trans, before-at-most-trans, before→at-most, mediant-proper, mediant-after, mediant-before}
-use Rattle.records.specs.Lists.{All}
-use Rattle.records.proofs.Lists.{all-map}
 use Rattle.geometry.specs.declared.Line.{Line}
 use Rattle.geometry.specs.declared.Trapezoid.{Trapezoid}
 use Rattle.geometry.specs.declared.Verdict.{Verdict}
 use Rattle.geometry.specs.declared.Verdict.the-variants.{Fit, Row}
 use Rattle.geometry.specs.declared.Checked.the-variants.{Passed, Refused}
-use Rattle.geometry.specs.Limit.{onGrid, OnGrid}
+use Rattle.geometry.specs.Limit.{onGrid, OnGrid, coordinateLimit}
 use Rattle.geometry.specs.Lines.{dx, dy, offset, IsLine, det}
-use Rattle.geometry.specs.Positions.{gap, crosses, meet, position}
+use Rattle.geometry.specs.Positions.{gap, crosses, meet, position, below}
 use Rattle.geometry.specs.Points.{Point, at, side, On, under, SamePoint}
 use Rattle.geometry.specs.Trapezoids.{linesOf, based, liesIn}
-use Rattle.geometry.specs.Fitness.{CrossInOnePoint, GridRow, LineRow, BaseRow, BasesRow, SidesRow, FitFor, all, lineOnGrid, isLine, baseCrosses, leftOf, belowBetween, pass, shapeVerdict, verdict, refuse, firstRefusal, GridExact, BaseExact, BasesExact, SidesExact, FitExact, LayerExact, RowExact, RefusedAt, PlaceExact, FitMore, FitHoldsPoint}
+use Rattle.geometry.specs.Fitness.{CrossInOnePoint, GridRow, LineRow, BaseRow, BasesRow, SidesRow, FitFor, lineOnGrid, isLine, baseCrosses, leftOf, belowBetween, pass, shapeVerdict, verdict, refuse, firstRefusal, GridExact, BaseExact, BasesExact, SidesExact, FitExact, LayerExact, RowExact, RefusedAt, PlaceExact, FitMore, FitHoldsPoint}
 use Rattle.geometry.proofs.Identities.{dx-positive, side-gap}
 use Rattle.geometry.proofs.Heights.{coincide-everywhere}
 use Rattle.geometry.proofs.Meet.{det→crosses, meet-proper, meet-gap, meet-only}
@@ -69,14 +70,6 @@ grid-exact L l = (
 line-exact : (l : Line) → T (isLine l) ↔ IsLine l
 unfolding isLine
 line-exact l = ((λ t. record { rightward = ltZ-yes t }), (λ h. h .rightward .lt))
-
--- a test of each of a list
-pub all-exact : {A : Type 0} (f : A → Bool) (P : A → Type 0) → ((x : A) → T (f x) ↔ P x) → (xs : List A) → T (all f xs) ↔ All P xs
-all-exact f P e [] = ((λ t. tt), (λ h. tt))
-all-exact f P e (x ∷ xs) = (
-  (λ t. let h = and-yes (f x) (all f xs) t in (e x .0 (h .0), all-exact f P e xs .0 (h .1))),
-  (λ h. yes-and (f x) (all f xs) (e x .1 (h .0)) (all-exact f P e xs .1 (h .1))),
-)
 
 -- ---- row 9
 -- a point on both lines stands where the gap is 0
@@ -391,3 +384,11 @@ fit-holds-point L t h =
           (yes-and (before (at P) q) _ (on-before (t .bottom) x q (bottom-line h) xq)
           (yes-and (under P (t .bottom)) (not (under P (t .top))) (on-under (t .bottom) x) (on-below (t .bottom) (t .top) x (h .sides x hx px xq))))),
     )
+
+-- ---- the lines of a fit trapezoid are on the grid
+module _ {t : Trapezoid} (h : FitFor coordinateLimit t) where
+  pub bottom-grid : OnGrid coordinateLimit (t .bottom)
+  bottom-grid = h .grid .1 .1 .1 .1 .0
+
+  pub top-grid : OnGrid coordinateLimit (t .top)
+  top-grid = h .grid .1 .1 .1 .1 .1 .0

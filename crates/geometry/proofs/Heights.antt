@@ -5,6 +5,7 @@ use mathlib.Core.Logic.{_⊎_, inl, inr}
 use lib.IntN.{ℤ, pos}
 use lib.Dec.{T, T-not, not-T}
 use lib.Signed.{_≤ℤ_, _<ℤ_}
+use Rattle.lists.proofs.Tests.{yes-or-no}
 use Rattle.integer.specs.declared.Ordering.{Ordering}
 use Rattle.integer.specs.declared.Ordering.the-variants.{Less, Equal, Greater}
 use Rattle.integer.specs.Integer.{_⊕_, _⊗_, ⊝_}
@@ -19,7 +20,7 @@ use Rattle.geometry.specs.declared.Line.{Line}
 use Rattle.geometry.specs.Lines.{IsLine, det, numer}
 use Rattle.geometry.specs.Positions.{gap, heights, thenBy, rightOf, isLess, below}
 use Rattle.geometry.specs.Points.{at}
-use Rattle.geometry.proofs.Identities.{dx-positive, T-or-not, gap-chain, det-chain, gap-moves, gap-turn, det-turn}
+use Rattle.geometry.proofs.Identities.{dx-positive, gap-chain, det-chain, gap-moves, gap-turn, det-turn}
 
 -- ---- heights at a position
 pub heights-gap : (x : Fraction) (l m : Line) → heights x l m ≡ orderOf (gap l m x) (pos 0)
@@ -110,7 +111,7 @@ coincide x l m h k = go (not-below→at-most x l m k) (not-below→at-most x m l
     go (inr a) (inr b) = (a .0, (let u = a .1 in let v = b .1 in omega (zarith, det-turn l m, minus⁺ (det l m), minus⁻ (det l m))))
 
 pub right-total : (x : Fraction) (l m : Line) → T (below x l m) ⊎ (((gap l m x ≡ pos 0) × (det l m ≡ pos 0)) ⊎ T (below x m l))
-right-total x l m = elim (T-or-not (below x l m)) [ inl h ↦ inl h | inr h ↦ elim (T-or-not (below x m l)) [ inl k ↦ inr (inr k) | inr k ↦ inr (inl (coincide x l m h k)) ] ]
+right-total x l m = elim (yes-or-no (below x l m)) [ inl h ↦ inl h | inr h ↦ elim (yes-or-no (below x m l)) [ inl k ↦ inr (inr k) | inr k ↦ inr (inl (coincide x l m h k)) ] ]
 
 -- ---- transitive
 module _ (x : Fraction) (l m k : Line) (hl : IsLine l) (hm : IsLine m) (hk : IsLine k) where

@@ -1,9 +1,6 @@
 -- The identities of lines on which every comparison rests. dx, dy and offset of a line are atoms here.
 use mathlib.Core.Path.{_≡_}
-use mathlib.Core.Bool.{Bool, true, false, not}
-use mathlib.Core.Logic.{_⊎_, inl, inr}
 use lib.IntN.{pos}
-use lib.Dec.{T}
 use lib.Signed.{_<ℤ_}
 use Rattle.integer.specs.Integer.{_⊕_, _⊖_, _⊗_, ⊝_}
 use Rattle.integer.specs.Fraction.{Fraction}
@@ -18,10 +15,6 @@ use Rattle.geometry.specs.Points.{Point, at, side}
 pub dx-positive : {l : Line} → IsLine l → pos 0 <ℤ dx l
 unfolding dx
 dx-positive h = lt→positive (h .rightward)
-
-pub T-or-not : (b : Bool) → T b ⊎ T (not b)
-T-or-not true = inl tt
-T-or-not false = inr tt
 
 pub side-gap : (l m : Line) (P : Point) → dx m ⊗ side l P ⊖ dx l ⊗ side m P ≡ ⊝ gap l m (at P)
 unfolding side gap det numer

@@ -1,3 +1,4 @@
+pub mod Polygons
 pub mod Identities
 pub mod Heights
 pub mod Between
@@ -9,6 +10,4 @@ pub mod Orders
 pub mod Magnitudes
 pub mod Trapezoids
 pub mod Layers
-pub mod Conjunction
-pub mod Branches
-pub mod Checking
+pub mod Ranges

@@ -5,14 +5,15 @@ use mathlib.Core.Logic.{inl, inr}
 use lib.IntN.{pos}
 use lib.Dec.{T, T-not}
 use lib.Signed.{ltZ, _≤ℤ_, _<ℤ_, ltZ-yes, ltZ-no}
+use Rattle.lists.proofs.Tests.{cond-cases}
 use Rattle.integer.specs.Fraction.{Fraction, Proper}
+use Rattle.integer.specs.Integer.{⊝_}
 use Rattle.integer.proofs.Ring.{ring, _⊟_, _⊠_, minus, _≗_}
 use Rattle.integer.proofs.Order.{antisymm, lt-or-le, lt→le}
 use Rattle.integer.proofs.Linear.{zarith, minus⁺, minus⁻, neg-gt, neg-zero}
 use Rattle.integer.proofs.Fraction.{cross}
-use Rattle.geometry.specs.declared.Line.{Line}
-use Rattle.integer.specs.Integer.{⊝_}
 use Rattle.integer.proofs.Tests.{yes-lt, no-lt}
+use Rattle.geometry.specs.declared.Line.{Line}
 use Rattle.geometry.specs.Lines.{dx, offset, det, numer}
 use Rattle.geometry.specs.Positions.{gap, crosses, root, meet}
 use Rattle.geometry.proofs.Identities.{gap-turn, det-turn, root-zero, root-cross}
@@ -44,11 +45,7 @@ not-crosses→det l m h =
 -- ---- the position
 pub meet-cases : (P : Fraction → Type 0) (l m : Line) → (pos 0 <ℤ det l m → P (root l m)) → (det l m ≤ℤ pos 0 → P (root m l)) → P (meet l m)
 unfolding meet
-meet-cases P l m f g = go (ltZ (pos 0) (det l m)) (λ h. f (ltZ-yes h)) (λ h. g (ltZ-no h))
-  where
-    go : (t : Bool) → (T t → P (root l m)) → (T (not t) → P (root m l)) → P (cond t (root l m) (root m l))
-    go true f g = f tt
-    go false f g = g tt
+meet-cases P l m f g = cond-cases P (ltZ (pos 0) (det l m)) (root l m) (root m l) (λ h. f (ltZ-yes h)) (λ h. g (ltZ-no h))
 
 pub meet-proper : (l m : Line) → T (crosses l m) → Proper (meet l m)
 unfolding root

@@ -18,10 +18,10 @@ use Rattle.geometry.specs.declared.Line.{Line}
 use Rattle.geometry.specs.Lines.{det}
 use Rattle.geometry.specs.Positions.{gap, root}
 use Rattle.geometry.specs.Points.{at}
+use Rattle.geometry.specs.Fitness.{BelowBetween, apartBy, belowBetween}
 use Rattle.geometry.proofs.Identities.{gap-moves, gap-turn, det-turn, root-zero, root-cross, gap-between}
 use Rattle.geometry.proofs.Heights.{heights-gap}
 use Rattle.geometry.proofs.Between.{ahead}
-use Rattle.geometry.specs.Fitness.{BelowBetween, apartBy, belowBetween}
 
 -- above at neither base, and below at one
 pub record Meets (l m : Line) (p q : Fraction) : Type 0 where

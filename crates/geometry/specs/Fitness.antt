@@ -5,13 +5,16 @@ use mathlib.Core.List.{List, [], _∷_, _++_}
 use mathlib.Core.Logic.{_↔_}
 use Prim.Native.Nat.{ℕ, _+_, _≤_}
 use lib.Dec.{T}
-use lib.IntN.{pos}
+use lib.IntN.{pos, ℤ}
 use lib.ListN.{length}
 use lib.Signed.{ltZ, _<ℤ_}
+use Rattle.lists.specs.Lists.{All}
+use Rattle.lists.specs.Tests.{all}
 use Rattle.integer.specs.declared.Ordering.{Ordering}
 use Rattle.integer.specs.declared.Ordering.the-variants.{Less, Equal, Greater}
 use Rattle.integer.specs.Fraction.{Fraction, Proper, before}
-use Rattle.records.specs.Lists.{All}
+use Rattle.records.specs.Limits.{maxRecords}
+use Rattle.records.specs.Records.{count}
 use Rattle.geometry.specs.declared.Line.{Line}
 use Rattle.geometry.specs.declared.Base.{Base}
 use Rattle.geometry.specs.declared.Trapezoid.{Trapezoid}
@@ -19,11 +22,11 @@ use Rattle.geometry.specs.declared.Verdict.{Verdict}
 use Rattle.geometry.specs.declared.Verdict.the-variants.{Fit, Row}
 use Rattle.geometry.specs.declared.Checked.{Checked}
 use Rattle.geometry.specs.declared.Checked.the-variants.{Passed, Refused}
-use Rattle.geometry.specs.Limit.{onGrid, OnGrid}
+use Rattle.geometry.specs.Limit.{onGrid, OnGrid, coordinateLimit}
 use Rattle.geometry.specs.Lines.{IsLine}
 use Rattle.geometry.specs.Positions.{gap, crosses, heights, position}
 use Rattle.geometry.specs.Points.{Point, IsPoint, On, SamePoint}
-use Rattle.geometry.specs.Trapezoids.{linesOf, liesIn}
+use Rattle.geometry.specs.Trapezoids.{linesOf, liesIn, trapezoidCodec, layerOf}
 
 -- ---- the meanings
 -- row 9: one rational point lies on both lines, and no other
@@ -67,10 +70,6 @@ pub record FitFor (L : ℕ) (t : Trapezoid) : Type 0 where
   pub sides : SidesRow t
 
 -- ---- the tests, row by row
-abbrev pub all : {A : Type 0} → (A → Bool) → List A → Bool
-all f [] = true
-all f (x ∷ xs) = f x && all f xs
-
 unfoldable pub lineOnGrid : ℕ → Line → Bool
 lineOnGrid L l = onGrid L (l .x1) && (onGrid L (l .y1) && (onGrid L (l .x2) && onGrid L (l .y2)))
 
@@ -179,3 +178,8 @@ FitMore = (L M : ℕ) (t : Trapezoid) → L ≤ M → FitFor L t → FitFor M t
 -- a rational point lies in every fit trapezoid
 abbrev pub FitHoldsPoint : Type 0
 FitHoldsPoint = (L : ℕ) (t : Trapezoid) → FitFor L t → (P : Point) × IsPoint P × T (liesIn P t)
+
+-- the words of a layer of at most 512 trapezoids, which are fit
+pub record Layer (s : List ℤ) : Type 0 where
+  pub fit : All (FitFor coordinateLimit) (layerOf s)
+  pub few : count trapezoidCodec s ≤ maxRecords

@@ -1,4 +1,4 @@
--- Paper 01's first section and the rows 7 to 11 of its table.
+-- Paper 01's first section, polygons, and the rows 7 to 11 of its table.
 pub mod Limit
 pub mod Lines
 pub mod Positions
@@ -6,4 +6,5 @@ pub mod Points
 pub mod Orders
 pub mod Trapezoids
 pub mod Fitness
-pub mod Code
+pub mod Ranges
+pub mod Polygons

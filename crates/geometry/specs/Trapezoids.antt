@@ -7,8 +7,8 @@ use lib.Dec.{T}
 use lib.IntN.{ℤ, pos}
 use lib.ListN.{getD}
 use lib.Signed.{leZ}
+use Rattle.lists.specs.Lists.{Any, Pairs}
 use Rattle.integer.specs.Fraction.{before}
-use Rattle.records.specs.Lists.{Any, Pairs}
 use Rattle.records.specs.Limits.{memoryWidth}
 use Rattle.records.specs.Records.{Codec, records}
 use Rattle.geometry.specs.declared.Line.{Line}

@@ -1,8 +1,8 @@
 -- What the normaliser and `omega` are held to: an identity of degree 5 in 16 variables, and linear goals of each kind.
 use mathlib.Core.Path.{_≡_}
+use Prim.Native.Nat.{_≤_}
 use lib.IntN.{ℤ, pos, natAbs}
 use lib.Signed.{_≤ℤ_, _<ℤ_}
-use Prim.Native.Nat.{_≤_}
 use Rattle.integer.specs.Integer.{_⊕_, _⊖_, _⊗_}
 use Rattle.integer.proofs.Ring.{ring, con, _⊞_, _⊟_, _⊠_, _≗_}
 use Rattle.integer.proofs.Linear.{zarith, sum, difference, parts, one-part, lin}

@@ -1,11 +1,12 @@
 -- The order of fractions: total and transitive, with the mediant strictly between, and the sign of a linear function by it.
 -- "p at most q" is `T (not (before q p))`.
 use mathlib.Core.Path.{_≡_, refl, sym, subst}
-use mathlib.Core.Bool.{Bool, true, false, not}
+use mathlib.Core.Bool.{not}
 use mathlib.Core.Logic.{_⊎_, inl, inr, _↔_}
 use lib.Dec.{T, not-T}
 use lib.IntN.{ℤ, pos}
 use lib.Signed.{_≤ℤ_, _<ℤ_, ltZ-yes, ltZ-no, clashℤ}
+use Rattle.lists.proofs.Tests.{yes-or-no}
 use Rattle.integer.specs.declared.Ordering.the-variants.{Less, Equal, Greater}
 use Rattle.integer.specs.Integer.{_⊕_, _⊖_, _⊗_, ⊝_}
 use Rattle.integer.specs.Compare.{orderOf}
@@ -45,11 +46,7 @@ cross→at-most p q h = not-T (before q p) (λ k. clashℤ (neg-gt (cross-turn q
 
 -- ---- total
 pub before-or-not : (p q : Fraction) → T (before p q) ⊎ T (not (before p q))
-before-or-not p q = go (before p q)
-  where
-    go : (t : Bool) → T t ⊎ T (not t)
-    go true = inl tt
-    go false = inr tt
+before-or-not p q = yes-or-no (before p q)
 
 pub before-total : (p q : Fraction) → T (before p q) ⊎ ((cross p q ≡ pos 0) ⊎ T (before q p))
 before-total p q =

@@ -3,7 +3,6 @@ pub mod Ring
 pub mod Order
 pub mod Magnitude
 pub mod Linear
-pub mod Word
 pub mod Tests
 pub mod Fraction
 mod Examples

@@ -1,29 +1,16 @@
 -- Both ways between the tests of code, `ltZ`, `leZ` and `orderOf`, and facts.
 use mathlib.Core.Path.{_≡_, refl, sym, _∙_, ap, ap₂, subst}
-use mathlib.Core.Bool.{Bool, true, false, not}
-use lib.Dec.{T, T-not, not-T}
+use mathlib.Core.Bool.{Bool, true, false}
+use lib.Dec.{T-not, not-T}
 use lib.IntN.{ℤ, pos}
 use lib.Signed.{ltZ, leZ, _≤ℤ_, _<ℤ_, leZ-yes, ltZ-yes, ltZ-no, ≤ℤ-refl, clashℤ}
+use Rattle.lists.proofs.Tests.{true-is, false-is, is-true, is-false}
 use Rattle.integer.specs.Integer.{_⊖_, ⊝_}
 use Rattle.integer.specs.Compare.{Ordered, orderBy, orderOf, OrderExact}
 use Rattle.integer.specs.declared.Ordering.{Ordering}
 use Rattle.integer.specs.declared.Ordering.the-variants.{Less, Equal, Greater}
 use Rattle.integer.proofs.Order.{antisymm, lt→le, lt-sub}
 use Rattle.integer.proofs.Ring.{ring, _⊟_, minus, _≗_}
-
-pub true-is : {t : Bool} → T t → t ≡ true
-true-is {t = true} h = refl
-true-is {t = false} h = absurd h
-
-pub false-is : {t : Bool} → T (not t) → t ≡ false
-false-is {t = true} h = absurd h
-false-is {t = false} h = refl
-
-pub is-true : {t : Bool} → t ≡ true → T t
-is-true e = subst T (sym e) tt
-
-pub is-false : {t : Bool} → t ≡ false → T (not t)
-is-false e = subst (λ (x : Bool). T (not x)) (sym e) tt
 
 -- ---- a < b
 pub lt-yes : (a b : ℤ) → ltZ a b ≡ true → a <ℤ b

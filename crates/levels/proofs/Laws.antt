@@ -8,9 +8,10 @@ use native.Mathlib.Nat.{le-refl}
 use native.Mathlib.Omega.{arith}
 use lib.Dec.{T}
 use lib.ListN.{length}
-use Rattle.records.specs.Lists.{All, Any}
-use Rattle.levels.specs.Levels.{Neighbours, AtMost, Level, Ordered, insert, levels, Rising, Covers, FirstOfLevel, LevelsOf, NoneBetween}
-use Rattle.levels.proofs.Lists.{Member, all-with, members}
+use Rattle.lists.specs.Lists.{All, Any, Neighbours, Member}
+use Rattle.lists.proofs.Lists.{all-with}
+use Rattle.lists.proofs.Members.{members}
+use Rattle.levels.specs.Levels.{AtMost, Level, Ordered, insert, levels, Rising, Covers, FirstOfLevel, LevelsOf, NoneBetween}
 use Rattle.levels.proofs.Order.{LessThanAll, less-not-level, greater-not-level, level-refl, level-trans, less-than-all, rising-least}
 
 module _ {A : Type 0} (less : A → A → Bool) where

@@ -1,5 +1,3 @@
-pub mod Tests
-pub mod Lists
 pub mod Order
 pub mod Laws
 pub mod Unique

@@ -5,11 +5,10 @@ use mathlib.Core.List.{List, [], _∷_}
 use mathlib.Core.Option.{Option, none, some}
 use mathlib.Core.Logic.{inl, inr}
 use lib.Dec.{T, T-not, not-T}
-use Rattle.records.specs.Lists.{All}
-use Rattle.records.proofs.Lists.{all-map}
+use Rattle.lists.specs.Lists.{All}
+use Rattle.lists.proofs.Tests.{cond-cases}
+use Rattle.lists.proofs.Lists.{all-map, all-both, all-with, any-elim}
 use Rattle.levels.specs.Levels.{IfSome, AtMost, Level, Ordered, levels, above, candidate, lesser, next, Rising, FirstOfLevel, LevelsOf, NextOf, NextExact}
-use Rattle.levels.proofs.Tests.{cond-cases}
-use Rattle.levels.proofs.Lists.{all-both, all-with, any-elim}
 use Rattle.levels.proofs.Order.{less-not-level, at-most-refl, less-at-most}
 use Rattle.levels.proofs.Laws.{first-all, first-unique, levels-all, levels-rising, levels-of}
 

@@ -3,10 +3,10 @@ use mathlib.Core.Bool.{Bool}
 use mathlib.Core.List.{List, _∷_}
 use mathlib.Core.Logic.{inl, inr}
 use lib.Dec.{T, T-not}
-use Rattle.records.specs.Lists.{All, Any}
+use Rattle.lists.specs.Lists.{All, Any}
+use Rattle.lists.proofs.Tests.{yes-or-no}
+use Rattle.lists.proofs.Lists.{all-with, any-elim, all-both}
 use Rattle.levels.specs.Levels.{AtMost, Level, Ordered, Rising}
-use Rattle.levels.proofs.Tests.{yes-or-no}
-use Rattle.levels.proofs.Lists.{all-with, any-elim, all-both}
 
 module _ {A : Type 0} (less : A → A → Bool) where
   -- x is less than each of ys

@@ -4,9 +4,9 @@ use mathlib.Core.Bool.{Bool}
 use mathlib.Core.List.{List, [], _∷_}
 use mathlib.Core.Option.{Option, none, some}
 use lib.Dec.{T}
-use Rattle.records.specs.Lists.{All}
+use Rattle.lists.specs.Lists.{All}
+use Rattle.lists.proofs.Tests.{cond-cases, cond-yes, cond-no}
 use Rattle.levels.specs.Levels.{IfSome, AtMost, Ordered, candidate, lesser, next, scan, ScanIsNext}
-use Rattle.levels.proofs.Tests.{cond-cases, cond-yes, cond-no}
 use Rattle.levels.proofs.Order.{less-trans}
 use Rattle.levels.proofs.Next.{lesser-all, candidate-all, next-all}
 

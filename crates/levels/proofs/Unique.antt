@@ -4,10 +4,9 @@ use mathlib.Core.Bool.{Bool}
 use mathlib.Core.List.{List, [], _∷_}
 use mathlib.Core.Logic.{inl, inr}
 use lib.Dec.{T, T-not}
-use Rattle.records.specs.Lists.{All, Any}
-use Rattle.records.proofs.Lists.{all-map}
+use Rattle.lists.specs.Lists.{All, Any}
+use Rattle.lists.proofs.Lists.{all-map, all-with}
 use Rattle.levels.specs.Levels.{AtMost, Level, Ordered, levels, Rising, Covers, FirstOfLevel, LevelsOf, LevelsExact}
-use Rattle.levels.proofs.Lists.{all-with}
 use Rattle.levels.proofs.Order.{LessThanAll, less-than-all, rising-least}
 use Rattle.levels.proofs.Laws.{first-all, first-unique, levels-of}
 

@@ -7,9 +7,9 @@ use Prim.Native.Nat.{ℕ, zero, suc, _≤_}
 use native.Mathlib.Omega.{arith}
 use lib.Dec.{T}
 use lib.ListN.{length}
-use Rattle.records.specs.Lists.{All}
+use Rattle.lists.specs.Lists.{All}
+use Rattle.lists.proofs.Tests.{cond-cases, cond-yes, cond-no}
 use Rattle.levels.specs.Levels.{IfSome, Ordered, levels, above, next, walk, Rising, WalkIsLevels}
-use Rattle.levels.proofs.Tests.{cond-cases, cond-yes, cond-no}
 use Rattle.levels.proofs.Order.{LessThanAll, at-most-refl}
 use Rattle.levels.proofs.Laws.{levels-length, levels-rising}
 use Rattle.levels.proofs.Next.{head, beyond, next-all, next-head}

@@ -7,13 +7,7 @@ use mathlib.Core.Logic.{_⊎_, _↔_}
 use Prim.Native.Nat.{ℕ, zero, suc}
 use lib.Dec.{T}
 use lib.ListN.{length}
-use Rattle.records.specs.Lists.{All, Any, Pairs}
-
--- what holds of each two neighbours in a list
-abbrev pub Neighbours : {A : Type 0} → (A → A → Type 0) → List A → Type 0
-Neighbours R [] = Unit {0}
-Neighbours R (x ∷ []) = Unit {0}
-Neighbours R (x ∷ y ∷ ys) = R x y × Neighbours R (y ∷ ys)
+use Rattle.lists.specs.Lists.{All, Any, Pairs, Neighbours}
 
 -- what holds of the element, if there is one
 abbrev pub IfSome : {A : Type 0} → (A → Type 0) → Option A → Type 0

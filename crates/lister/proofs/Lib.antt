@@ -1,3 +1,2 @@
 -- What the lister prints.
 pub mod Printing
-pub mod Exact

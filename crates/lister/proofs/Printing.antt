@@ -3,8 +3,8 @@ use mathlib.Core.Path.{_≡_, refl, sym, _∙_, ap, subst}
 use mathlib.Core.List.{List, [], _∷_}
 use Prim.Native.Nat.{ℕ, _/_, _*_, _≤_}
 use native.Mathlib.Omega.{arith}
-use lib.IntN.{ℤ, pos}
-use lib.ListN.{length, take, drop, length-append, length-replicate}
+use lib.IntN.{ℤ}
+use lib.ListN.{length, take, drop, length-append}
 use Rattle.records.specs.Limits.{memoryWidth}
 use Rattle.geometry.specs.declared.Trapezoid.{Trapezoid}
 use Rattle.geometry.specs.declared.Checked.{Checked}
@@ -12,18 +12,17 @@ use Rattle.geometry.specs.declared.Checked.the-variants.{Passed, Refused}
 use Rattle.geometry.specs.Trapezoids.{layerOf}
 use Rattle.boolean.specs.Operations.{deoverlapped}
 use Rattle.boolean.specs.Space.{Mark, addition, space, deoverlappedMarks}
+use Rattle.calls.specs.declared.Fractured.{Fractured}
+use Rattle.calls.specs.declared.Fractured.the-variants as fractured
+use Rattle.calls.specs.declared.Deoverlapped.{Deoverlapped}
+use Rattle.calls.specs.declared.Deoverlapped.the-variants as after-deoverlap
+use Rattle.calls.specs.Answers.{Answer, fracturedAnswer, deoverlappedAnswer}
+use Rattle.calls.specs.Rows.{fractureChecked, deoverlapChecked}
+use Rattle.calls.specs.Outcomes.{Outcome, observed, written, outcome, fracturedOf, fractureOutcome, deoverlapOutcome}
 use Rattle.listing.specs.Listing.{listing, refusalLine}
-use Rattle.loxurfa.specs.declared.Fractured.{Fractured}
-use Rattle.loxurfa.specs.declared.Fractured.the-variants as fractured
-use Rattle.loxurfa.specs.declared.Deoverlapped.{Deoverlapped}
-use Rattle.loxurfa.specs.declared.Deoverlapped.the-variants as after-deoverlap
-use Rattle.loxurfa.specs.Answers.{Answer, fracturedAnswer, deoverlappedAnswer}
-use Rattle.loxurfa.specs.Rows.{fractureChecked, deoverlapChecked}
-use Rattle.loxurfa.specs.Outcomes.{Outcome, observed, written, outcome, fracturedOf, fractureOutcome, deoverlapOutcome}
-use Rattle.lister.specs.Lister.{layerSize, blank, printedAs, deoverlapListed, listedAs, listed, Put}
-
-pub blank-length : length blank ≡ layerSize
-blank-length = length-replicate layerSize (pos 0)
+use Rattle.listing.specs.Lister.{layerSize, blank, printedAs, deoverlapListed, listedAs, listed}
+use Rattle.listing.proofs.Blank.{blank-length}
+use Rattle.lister.specs.Code.{Put}
 
 -- the same text, put into a buffer
 pub put-as : {s t : List ℕ} (d : List ℕ) (r : ℕ) (e : List ℕ) → s ≡ t → Put s d r e → Put t d r e

@@ -1,3 +1,2 @@
--- What the lister prints.
-pub mod Lister
-pub mod Statements
+-- A text put into a buffer.
+pub mod Code

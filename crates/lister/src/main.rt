@@ -1,14 +1,15 @@
 // Lists a polygon file: reads it on standard input, fractures it, deoverlaps the trapezoids, and prints them on standard output.
+use calls::Deoverlapped;
+use calls::Fractured;
 use libc::STDERR_FILENO;
 use libc::STDIN_FILENO;
 use libc::STDOUT_FILENO;
-use loxurfa::Deoverlapped;
-use loxurfa::Fractured;
 ghost use mathlib.Core.Path.{_≡_};
 ghost use Prim.Native.Nat.{_≤_};
 ghost use lib.ListN.{length};
 ghost use Rattle.listing.specs.Listing.{listingRoom};
-ghost use Rattle.lister.specs.Lister.{layerSize, deoverlapListed, listed, Put};
+ghost use Rattle.listing.specs.Lister.{layerSize, deoverlapListed, listed};
+ghost use Rattle.lister.specs.Code.{Put};
 
 // The text for a layer, deoverlapped into `out`, at the start of `text`. The answer is its length.
 fn list_layer(layer: &[i32], out: &mut [i32], scratch: &mut [i32], text: &mut [u8]) -> usize
@@ -18,10 +19,10 @@ fn list_layer(layer: &[i32], out: &mut [i32], scratch: &mut [i32], text: &mut [u
     let d = loxurfa::deoverlap(layer, out, scratch);
     match d {
         Deoverlapped::Refused { number, place } => {
-            return listing::refuse_into(number, place, text);
+            return listing_code::refuse_into(number, place, text);
         }
         Deoverlapped::Done { pieces, overlays } => {
-            return listing::list_into(out, pieces, text);
+            return listing_code::list_into(out, pieces, text);
         }
     }
 }
@@ -40,7 +41,7 @@ fn list_file(
     let f = loxurfa::fracture(file, first, scratch);
     match f {
         Fractured::Refused { number, place } => {
-            return listing::refuse_into(number, place, text);
+            return listing_code::refuse_into(number, place, text);
         }
         Fractured::Done { pieces, overlays } => {
             let end = records::MEMORY_WIDTH * pieces;

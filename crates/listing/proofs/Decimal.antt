@@ -4,13 +4,13 @@ use mathlib.Core.Bool.{Bool, true, false}
 use mathlib.Core.List.{List, [], _∷_, _++_}
 use Prim.Native.Nat.{ℕ, zero, suc, _+_, _*_, _-_, _/_, _%_, _^_, _<_, _≤_}
 use native.Mathlib.Omega.{arith}
-use borrow.Author.Tests.{lt-ltb, le-ltb, ltb-true, ltb-false, ne-eqb}
 use lib.Dec.{ltb}
 use lib.IntN.{pos, negsuc}
 use lib.ListN.{length, length-append, List·getD-append}
+use borrow.Author.Tests.{lt-ltb, le-ltb, ltb-true, ltb-false, ne-eqb}
+use Rattle.lists.specs.Lists.{All}
+use Rattle.lists.proofs.Lists.{all-append}
 use Rattle.integer.specs.Integer.{⊝_}
-use Rattle.records.specs.Lists.{All}
-use Rattle.records.proofs.Lists.{all-append}
 use Rattle.listing.specs.Listing.{digits, decimal, decimalWord}
 use Rattle.listing.specs.Statements.{readFrom, IsDigit, Exact, DecimalExact, readWord, WordExact}
 

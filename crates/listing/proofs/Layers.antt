@@ -5,18 +5,16 @@ use Prim.Native.Nat.{ℕ, zero, suc, _+_, _*_, _≤_}
 use native.Mathlib.Omega.{arith}
 use lib.IntN.{ℤ}
 use lib.ListN.{length, take, drop, length-drop}
-use lib.Seq.{slice, take-add, drop-at, length-take-le}
+use lib.Seq.{slice, length-take-le}
+use Rattle.lists.proofs.Lists.{all-of}
+use Rattle.lists.proofs.Parts.{slice-take}
 use Rattle.records.specs.Limits.{memoryWidth}
 use Rattle.records.specs.Records.{recordAt, recordsFrom}
-use Rattle.records.proofs.Lists.{all-of}
 use Rattle.records.proofs.Records.{length-from}
 use Rattle.geometry.specs.Trapezoids.{trapezoidCodec, trapezoidWords}
 use Rattle.geometry.proofs.Trapezoids.{trapezoid-faithful}
 use Rattle.listing.specs.Listing.{line, linesFrom, headLine, listing, trapezoidLines, layerListing}
 use Rattle.listing.specs.Statements.{LayerListed}
-
-slice-take : (s : List ℤ) (f w : ℕ) → f ≤ length s → slice f (f + w) s ≡ take w (drop f s)
-slice-take s f w l = ap (drop f) (take-add f w s) ∙ drop-at (take f s) (take w (drop f s)) f (length-take-le f s l)
 
 record-words : (s : List ℤ) (i : ℕ) → memoryWidth * i + memoryWidth ≤ length s → slice (memoryWidth * i) (memoryWidth * i + memoryWidth) s ≡ trapezoidWords (recordAt trapezoidCodec s i)
 unfolding recordAt

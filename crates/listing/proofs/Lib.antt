@@ -1,8 +1,5 @@
-pub mod Writing
+pub mod Exact
 pub mod Decimal
-pub mod Spelling
-pub mod Signs
-pub mod Texts
-pub mod Sizes
 pub mod Layers
 mod Examples
+pub mod Blank

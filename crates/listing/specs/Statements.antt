@@ -6,9 +6,9 @@ use Prim.Native.Nat.{ℕ, _+_, _*_, _-_, _≤_, _<_}
 use lib.Dec.{eqb}
 use lib.IntN.{ℤ, pos}
 use lib.ListN.{length, getD}
+use Rattle.lists.specs.Lists.{All}
 use Rattle.integer.specs.Integer.{⊝_}
 use Rattle.records.specs.Limits.{memoryWidth}
-use Rattle.records.specs.Lists.{All}
 use Rattle.records.specs.Records.{recordsFrom}
 use Rattle.geometry.specs.Trapezoids.{trapezoidCodec}
 use Rattle.listing.specs.Listing.{decimal, decimalWord, listing, layerListing}

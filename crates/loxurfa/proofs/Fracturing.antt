@@ -1,90 +1,20 @@
--- The call that cuts the polygons of a polygon file: its rows, its outcome way out by way out, and what a success gives.
-use mathlib.Core.Path.{_≡_, refl, sym, _∙_, ap, subst}
-use mathlib.Core.Bool.{Bool, true, false}
+-- The outcome of `fracture`, way out by way out.
+use mathlib.Core.Path.{_≡_, _∙_, subst}
 use mathlib.Core.List.{List, [], _∷_}
-use Prim.Native.Nat.{ℕ, zero, suc, _+_, _<_, _≤_}
+use Prim.Native.Nat.{ℕ, _<_, _≤_}
 use native.Mathlib.Omega.{arith}
-use lib.Dec.{T}
-use lib.ListN.{length, drop}
+use lib.ListN.{length}
 use lib.IntN.{ℤ}
 use borrow.Author.Tests.{lt-ltb, le-ltb}
 use Rattle.records.specs.Limits.{maxRecords}
-use Rattle.geometry.specs.declared.Checked.{Checked}
 use Rattle.geometry.specs.declared.Checked.the-variants.{Passed, Refused}
-use Rattle.geometry.specs.Limit.{coordinateLimit}
-use Rattle.geometry.specs.Trapezoids.{layerOf}
-use Rattle.geometry.specs.Fitness.{all}
-use Rattle.files.specs.declared.Vertex.{Vertex}
-use Rattle.files.specs.declared.Directory.{Directory}
-use Rattle.files.specs.declared.Directory.the-variants.{Wrong, Right}
-use Rattle.files.specs.Formats.{fileSized, fileWords, polygonFile}
-use Rattle.files.specs.Directory.{directoryOf}
-use Rattle.files.specs.Contents.{vertexCodec, polygonsOf}
-use Rattle.files.specs.Rows.{sizeRow, directoryRows, vertexOnGrid, gridRow, firstOffGrid, polygonFileChecked}
-use Rattle.files.proofs.Bounds.{directory-bound}
-use Rattle.files.proofs.Right.{right, count-in}
-use Rattle.files.proofs.Pairs.{lists-length}
-use Rattle.overlay.specs.declared.Fill.{Fill}
-use Rattle.overlay.specs.declared.Fill.the-variants.{NoRoom, Written}
-use Rattle.overlay.specs.Code.{FilledAs}
-use Rattle.fracture.proofs.Loading.{checked-grid}
-use Rattle.fracture.proofs.Fitness.{fracture-fit}
+use Rattle.geometry.specs.declared.Fill.{Fill}
+use Rattle.geometry.specs.declared.Fill.the-variants.{NoRoom, Written}
 use Rattle.boolean.specs.Space.{addition, enough, short, space}
-use Rattle.loxurfa.specs.Answers.{refused, done, isDone, Small}
-use Rattle.loxurfa.specs.Rows.{buffersSized, fractureChecked}
-use Rattle.loxurfa.specs.Outcomes.{observed, zeros, roomOf, recordsOf, written, fracturedOf, fractureOutcome}
-use Rattle.loxurfa.specs.Statements.{FitLayer}
-use Rattle.loxurfa.proofs.Checks.{Buffers, row-passed, buffers-ready, SmallChecked, small-row}
-use Rattle.loxurfa.proofs.Room.{addition-room}
-use Rattle.loxurfa.proofs.Success.{passed, outcome-wrote, layer-words, words-fit}
-
--- ---- its rows
-module _ (file : List ℕ) (out scratch : ℕ) where
-  pub fracture-lengths : buffersSized out scratch ≡ false → Refused 1 0 ≡ fractureChecked file out scratch
-  unfolding fractureChecked
-  fracture-lengths e = rw e
-
-  pub fracture-rows : buffersSized out scratch ≡ true → polygonFileChecked coordinateLimit file ≡ fractureChecked file out scratch
-  unfolding fractureChecked
-  fracture-rows e = rw e
-
-pub record FractureReady (file : List ℕ) (out scratch : ℕ) : Type 0 where
-  pub rows : polygonFileChecked coordinateLimit file ≡ Passed
-  pub buffers : Buffers out scratch
-
-pub fracture-ready : (file : List ℕ) (out scratch : ℕ) → fractureChecked file out scratch ≡ Passed → FractureReady file out scratch
-unfolding fractureChecked
-fracture-ready file out scratch e =
-    let h = row-passed 1 (buffersSized out scratch) (polygonFileChecked coordinateLimit file) e in
-    record { rows = h .1; buffers = buffers-ready out scratch (h .0) }
-
--- ---- the sizes of a refusal's number and place
-small-grid : (b : Bool) (i : ℕ) (c : Checked) → i < 1024 → SmallChecked c → SmallChecked (gridRow b i c)
-small-grid true i c l h = h
-small-grid false i c l h = (omega arith, l)
-
-small-polygons : (L i : ℕ) (ps : List (List Vertex)) → i + length ps ≤ 1024 → SmallChecked (firstOffGrid L i ps)
-unfolding firstOffGrid
-small-polygons L i [] l = tt
-small-polygons L i (p ∷ ps) l = small-grid (all (vertexOnGrid L) p) i (firstOffGrid L (i + 1) ps) (omega arith) (small-polygons L (i + 1) ps (omega arith))
-
-small-directory : (L : ℕ) (ws : List ℤ) (d : Directory) → directoryOf polygonFile ws ≡ d → SmallChecked (directoryRows d (firstOffGrid L 0 (polygonsOf ws)))
-small-directory L ws (Wrong number place) e = let h = directory-bound polygonFile ws e in (omega (arith, h .0), omega (arith, h .1))
-small-directory L ws (Right n total) e =
-    let r = right polygonFile ws e in
-    small-polygons L 0 (polygonsOf ws) (omega (arith, lists-length vertexCodec ws, count-in r, r .most))
-
-small-size : (b : Bool) (c : Checked) → SmallChecked c → SmallChecked (sizeRow b c)
-small-size true c h = h
-small-size false c h = (omega arith, omega arith)
-
-small-file : (L : ℕ) (file : List ℕ) → SmallChecked (polygonFileChecked L file)
-unfolding polygonFileChecked
-small-file L file = small-size (fileSized (length file)) _ (small-directory L (fileWords file) (directoryOf polygonFile (fileWords file)) refl)
-
-pub fracture-refused : (file : List ℕ) (out scratch : ℕ) → SmallChecked (fractureChecked file out scratch)
-unfolding fractureChecked
-fracture-refused file out scratch = small-row 1 (omega arith) (buffersSized out scratch) (polygonFileChecked coordinateLimit file) (λ s. small-file coordinateLimit file)
+use Rattle.calls.specs.Answers.{refused, done, Small}
+use Rattle.calls.specs.Rows.{fractureChecked}
+use Rattle.calls.specs.Outcomes.{observed, zeros, roomOf, written, fracturedOf, fractureOutcome}
+use Rattle.trapezoids_code.specs.Tails.{FilledAs}
 
 -- ---- its outcome
 space-short : (room k : ℕ) → room < k → space room (addition k ∷ []) ≡ short 0
@@ -125,21 +55,3 @@ module _ (file : List ℕ) (out scratch : List ℤ) where
 
     pub fracture-small : roomOf out ≤ maxRecords → {t : ℕ} → f ≡ Written t → Small (done t 0)
     fracture-small b p = let k = filled p in (omega (arith, k .0, k .1, b), omega arith)
-
--- ---- a success, with the records R
-pub record Fractures (file : List ℕ) (R : List ℤ) : Type 0 where
-  pub is : layerOf R ≡ fracturedOf file
-  pub fit : FitLayer R
-
-pub fracture-accepted : (file : List ℕ) (out scratch : List ℤ) → T (isDone (fractureOutcome file out scratch .answer))
-    → Fractures file (recordsOf (fractureOutcome file out scratch .answer) (fractureOutcome file out scratch .out))
-unfolding fractureOutcome
-fracture-accepted file out scratch h =
-    let ts = fracturedOf file in
-    let ms = addition (length ts) ∷ [] in
-    let checked = fractureChecked file (length out) (length scratch) in
-    let r = fracture-ready file (length out) (length scratch) (passed checked out scratch ts ms h) in
-    let w = outcome-wrote checked out scratch ts ms h in
-    let l : length ts ≤ maxRecords = omega (arith, addition-room (roomOf out) (length ts) (w .room), r .buffers .few) in
-    let g = fracture-fit coordinateLimit (polygonsOf (fileWords file)) (omega arith) (checked-grid coordinateLimit file (r .rows)) in
-    record { is = ap layerOf (w .is) ∙ layer-words ts; fit = subst FitLayer (sym (w .is)) (words-fit ts g l) }

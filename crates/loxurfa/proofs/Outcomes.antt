@@ -14,18 +14,19 @@ use Rattle.geometry.specs.declared.Checked.{Checked}
 use Rattle.geometry.specs.declared.Checked.the-variants.{Passed, Refused}
 use Rattle.geometry.specs.Points.{Point}
 use Rattle.geometry.specs.Trapezoids.{layerOf, liesInLayer}
-use Rattle.overlay.specs.Code.{Borrowed}
 use Rattle.boolean.specs.declared.Folded.{Folded}
 use Rattle.boolean.specs.declared.Folded.the-variants.{Short, Done}
-use Rattle.boolean.specs.Operations.{codeAt, result, difference, deoverlapped}
+use Rattle.boolean.specs.Operations.{codeAt, result, difference, deoverlapped, Side}
 use Rattle.boolean.specs.Space.{Mark, space, marks, deoverlappedMarks, equalityMarks}
-use Rattle.boolean.specs.Code.{maxOverlays, OverlaysWithin, FoldedAs, Side, ComparedAs, ComparedWithin}
 use Rattle.boolean.specs.declared.Compared.{Compared}
 use Rattle.boolean.specs.declared.Compared.the-variants as comparison
-use Rattle.loxurfa.specs.Answers.{refused, done, refused-equality, same, differs, refused-point, yes, no, Small, SmallEquality}
-use Rattle.loxurfa.specs.Rows.{combineChecked, deoverlapChecked, equalChecked, containsChecked}
-use Rattle.loxurfa.specs.Outcomes.{observed, zeros, roomOf, written, combined, deoverlapOutcome, compared, comparedIn, equalOutcome, containsAnswer}
-use Rattle.loxurfa.proofs.Checks.{SmallChecked}
+use Rattle.calls.specs.Answers.{refused, done, refused-equality, same, differs, refused-point, yes, no, Small, SmallEquality}
+use Rattle.calls.specs.Rows.{combineChecked, deoverlapChecked, equalChecked, containsChecked}
+use Rattle.calls.specs.Outcomes.{observed, zeros, roomOf, written, combined, deoverlapOutcome, compared, comparedIn, equalOutcome, containsAnswer}
+use Rattle.calls.proofs.Checks.{SmallChecked}
+use Rattle.trapezoids_code.specs.Tails.{Borrowed}
+use Rattle.remainder_code.specs.Code.{maxOverlays, OverlaysWithin, FoldedAs}
+use Rattle.boolean_code.specs.Code.{ComparedAs, ComparedWithin}
 
 pub small-refused : {c : Checked} {n p : ℕ} → c ≡ Refused n p → SmallChecked c → (n ≤ 12) × (p < 1024)
 small-refused e h = subst SmallChecked e h

@@ -2,157 +2,93 @@
 // connected components of layers of trapezoids; and layer files, for every input.
 use boolean::Compared;
 use boolean::Folded;
-use connectivity::Connected;
+use calls::Combined;
+use calls::Connected;
+use calls::Containment;
+use calls::Deoverlapped;
+use calls::Equality;
+use calls::Fractured;
 use files::LayersRead;
 use files::LayersWritten;
 use geometry::Checked;
+use geometry::Fill;
 use integer::Int;
-use overlay::Fill;
 ghost use mathlib.Core.Path.{_≡_};
-ghost use mathlib.Core.Bool.{_&&_};
-ghost use Prim.Native.Nat.{_<_, _≤_};
-ghost use lib.IntN.{pos, natAbs};
 ghost use lib.ListN.{length};
-ghost use lib.Signed.{leZ};
-ghost use Rattle.records.specs.Limits.{sized};
-ghost use Rattle.geometry.specs.Code.{pointOf};
-ghost use Rattle.connectivity.specs.Outcome.{connectedAnswer, Small as SmallConnected};
 ghost use Rattle.files.specs.Outcomes.{readAnswer, writtenAnswer, Small as SmallFile};
-ghost use Rattle.loxurfa.specs.Answers.{fracturedAnswer, combinedAnswer, deoverlappedAnswer, equalityAnswer, pointAnswer, Small, SmallEquality, SmallPoint};
-ghost use Rattle.loxurfa.specs.Outcomes.{zeros, containsAnswer};
-ghost use Rattle.loxurfa.specs.Contracts.{FractureKept, CombineKept, DeoverlapKept, EqualKept, ContainsKept, ReadKept, WriteKept, ComponentsKept};
-ghost use Rattle.loxurfa.specs.Rows.{buffersSized, withinTimes, pointPasses, layersChecked, fractureChecked, combineChecked, deoverlapChecked, equalChecked, containsChecked};
+ghost use Rattle.calls.specs.Components.{connectedAnswer, Small as SmallConnected};
+ghost use Rattle.calls.specs.Contracts.{ComponentsKept, ReadKept, WriteKept, FractureKept, CombineKept, DeoverlapKept, EqualKept, ContainsKept};
+ghost use Rattle.calls.specs.Answers.{fracturedAnswer, combinedAnswer, deoverlappedAnswer, equalityAnswer, pointAnswer, Small, SmallEquality, SmallPoint};
+ghost use Rattle.calls.specs.Outcomes.{zeros, containsAnswer};
+ghost use Rattle.geometry_code.specs.Code.{pointOf};
 
-// What `fracture` answers: the refusal's number and place, or the trapezoids written and the overlays made, which are none.
-pub enum Fractured {
-    Refused { number: u32, place: usize },
-    Done { pieces: usize, overlays: usize },
-}
-
-// What `combine` answers: the refusal's number and place, or the trapezoids written and the overlays made.
-pub enum Combined {
-    Refused { number: u32, place: usize },
-    Done { pieces: usize, overlays: usize },
-}
-
-// The same of `deoverlap`.
-pub enum Deoverlapped {
-    Refused { number: u32, place: usize },
-    Done { pieces: usize, overlays: usize },
-}
-
-// What `equal` answers. Side 0: the first layer has points that the second has not; side 1: only the second has.
-pub enum Equality {
-    Refused { number: u32, place: usize },
-    Same { overlays: usize },
-    Differs { side: u32, overlays: usize },
-}
-
-// What `contains` answers.
-pub enum Containment {
-    Refused { number: u32, place: usize },
-    Yes,
-    No,
-}
-
-// Grid coordinates run from -LIMIT to LIMIT.
-const LIMIT: u32 = 2048;
-// Codes run from 0 to CODES - 1.
-const CODES: u32 = 5;
-
-// Row 1, of an output and a scratch area of so many words.
-fn buffers_sized(out: usize, scratch: usize) -> bool
-    ensures { λ r. ⌜ r ≡ buffersSized out scratch ⌝ }
+// Each trapezoid's component number, the lowest of its component, written to `numbers`, which has an entry for each trapezoid.
+pub fn components(a: &[i32], numbers: &mut [u32]) -> Connected
+    ensures { λ r. ⌜ ComponentsKept (now (a .entry)) (now (numbers .entry)) r (now (numbers .exit)) ⌝ }
+    ensures small { λ r. ⌜ SmallConnected (connectedAnswer r) ⌝ }
 {
-    if records::sized(out) {
-        if records::sized(scratch) {
-            return scratch == out;
-        }
-    }
-    false
-}
-
-// Row 1, of a layer, an output and a scratch area.
-fn one_sized(a: usize, out: usize, scratch: usize) -> bool
-    ensures { λ r. ⌜ r ≡ sized a && buffersSized out scratch ⌝ }
-{
-    if records::sized(a) {
-        return buffers_sized(out, scratch);
-    }
-    false
-}
-
-// The same with two layers.
-fn both_sized(a: usize, b: usize, out: usize, scratch: usize) -> bool
-    ensures { λ r. ⌜ r ≡ sized a && (sized b && buffersSized out scratch) ⌝ }
-{
-    if records::sized(a) {
-        return one_sized(b, out, scratch);
-    }
-    false
-}
-
-// Row 1, of two layers.
-fn layers_sized(a: usize, b: usize) -> bool
-    ensures { λ r. ⌜ r ≡ sized a && sized b ⌝ }
-{
-    if records::sized(a) {
-        return records::sized(b);
-    }
-    false
-}
-
-// Whether z is from -LIMIT times d to LIMIT times d.
-fn within_times(z: Int, d: Int) -> bool
-    requires { ⌜ natAbs (d .v) ≤ 1024 ⌝ }
-    ensures { λ r. ⌜ r ≡ withinTimes (z .v) (d .v) ⌝ }
-{
-    let limit = integer::natural(LIMIT);
-    let most = integer::mul(limit, d);
-    let least = integer::neg(most);
-    if integer::at_most(least, z) {
-        return integer::at_most(z, most);
-    }
-    false
-}
-
-// Whether d is from 1 to 1,024.
-fn denominator_passes(d: Int) -> bool
-    ensures { λ r. ⌜ r ≡ leZ (pos 1) (d .v) && leZ (d .v) (pos 1024) ⌝ }
-{
-    let one = integer::natural(1);
-    let most = integer::natural(1024);
-    if integer::at_most(one, d) {
-        return integer::at_most(d, most);
-    }
-    false
-}
-
-// Row 3 lets the point (x/d, y/d) pass.
-fn point_passes(x: Int, y: Int, d: Int) -> bool
-    ensures { λ r. ⌜ r ≡ pointPasses (pointOf x y d) ⌝ }
-{
-    if denominator_passes(d) {
-        if within_times(x, d) {
-            return within_times(y, d);
-        }
-    }
-    false
-}
-
-// Rows 7 to 11: the trapezoids of the first layer, then those of the second, numbered on.
-fn layers_checked(a: &[i32], b: &[i32]) -> Checked
-    requires { ⌜ length (now a) ≤ 12288 ⌝ }
-    ensures { λ r. ⌜ r ≡ layersChecked (now (a .entry)) (now (b .entry)) ⌝ }
-{
-    let first = geometry::first_refused(a, LIMIT, 0);
-    match first {
-        Checked::Passed => {
-            return geometry::first_refused(b, LIMIT, a.len() / records::MEMORY_WIDTH);
-        }
+    let checked = rows_code::components_checked(a, numbers.len());
+    match checked {
         Checked::Refused { number, place } => {
-            return Checked::Refused { number, place };
+            return Connected::Refused { number, place };
         }
+        Checked::Passed => {}
+    }
+    let n = connectivity_code::components_into(a, numbers);
+    Connected::Done { components: n }
+}
+
+// The words of a layer file, written to `out`, which has any length.
+pub fn read_layers(file: &[u8], out: &mut [i32]) -> LayersRead
+    ensures { λ r. ⌜ ReadKept (now (file .entry)) (now (out .entry)) r (now (out .exit)) ⌝ }
+    ensures small { λ r. ⌜ SmallFile (readAnswer r) ⌝ }
+{
+    let c = files_code::check_layer_file(file);
+    match c {
+        Checked::Passed => {}
+        Checked::Refused { number, place } => {
+            return LayersRead::Refused { number, place };
+        }
+    }
+    records_code::clear(out);
+    if out.len() < file.len() / 4 {
+        return LayersRead::Refused {
+            number: 12,
+            place: 0,
+        };
+    }
+    files_code::decode(file, out);
+    let pieces = files_code::file_trapezoids(file);
+    LayersRead::Done {
+        pieces,
+        overlays: 0,
+    }
+}
+
+// The layer file with these words, written to `out`, which has any length.
+pub fn write_layers(words: &[i32], out: &mut [u8]) -> LayersWritten
+    ensures { λ r. ⌜ WriteKept (now (words .entry)) (now (out .entry)) r (now (out .exit)) ⌝ }
+    ensures small { λ r. ⌜ SmallFile (writtenAnswer r) ⌝ }
+{
+    let c = files_code::check_layer_words(words);
+    match c {
+        Checked::Passed => {}
+        Checked::Refused { number, place } => {
+            return LayersWritten::Refused { number, place };
+        }
+    }
+    records_code::clear_bytes(out);
+    if out.len() / 4 < words.len() {
+        return LayersWritten::Refused {
+            number: 12,
+            place: 0,
+        };
+    }
+    files_code::encode(words, out);
+    let pieces = files_code::words_trapezoids(words);
+    LayersWritten::Done {
+        pieces,
+        overlays: 0,
     }
 }
 
@@ -160,91 +96,8 @@ fn layers_checked(a: &[i32], b: &[i32]) -> Checked
 fn clear_both(out: &mut [i32], scratch: &mut [i32])
     ensures { λ _. ⌜ (now (out .exit) ≡ zeros (length (now (out .entry)))) × (now (scratch .exit) ≡ zeros (length (now (scratch .entry)))) ⌝ }
 {
-    records::clear(out);
-    records::clear(scratch);
-}
-
-// The rows of `combine`, with an output and a scratch area of so many words.
-fn combine_checked(code: u32, a: &[i32], b: &[i32], out: usize, scratch: usize) -> Checked
-    ensures { λ r. ⌜ r ≡ combineChecked code (now (a .entry)) (now (b .entry)) out scratch ⌝ }
-{
-    if both_sized(a.len(), b.len(), out, scratch) {
-        if code < CODES {
-            return layers_checked(a, b);
-        }
-        return Checked::Refused {
-            number: 2,
-            place: 0,
-        };
-    }
-    Checked::Refused {
-        number: 1,
-        place: 0,
-    }
-}
-
-// The rows of `fracture`.
-fn fracture_checked(file: &[u8], out: usize, scratch: usize) -> Checked
-    ensures { λ r. ⌜ r ≡ fractureChecked (now (file .entry)) out scratch ⌝ }
-{
-    if buffers_sized(out, scratch) {
-        return files::check_polygon_file(file, LIMIT);
-    }
-    Checked::Refused {
-        number: 1,
-        place: 0,
-    }
-}
-
-// The rows of `deoverlap`.
-fn deoverlap_checked(a: &[i32], out: usize, scratch: usize) -> Checked
-    ensures { λ r. ⌜ r ≡ deoverlapChecked (now (a .entry)) out scratch ⌝ }
-{
-    if one_sized(a.len(), out, scratch) {
-        return geometry::first_refused(a, LIMIT, 0);
-    }
-    Checked::Refused {
-        number: 1,
-        place: 0,
-    }
-}
-
-// The rows of `equal`.
-fn equal_checked(a: &[i32], b: &[i32], out: usize, scratch: usize) -> Checked
-    ensures { λ r. ⌜ r ≡ equalChecked (now (a .entry)) (now (b .entry)) out scratch ⌝ }
-{
-    if both_sized(a.len(), b.len(), out, scratch) {
-        return layers_checked(a, b);
-    }
-    Checked::Refused {
-        number: 1,
-        place: 0,
-    }
-}
-
-// The rows of `contains`.
-fn contains_checked(x: Int, y: Int, d: Int, a: &[i32], b: &[i32], code: u32) -> Checked
-    ensures { λ r. ⌜ r ≡ containsChecked (pointOf x y d) (now (a .entry)) (now (b .entry)) code ⌝ }
-{
-    if layers_sized(a.len(), b.len()) {
-        if code < CODES {
-            if point_passes(x, y, d) {
-                return layers_checked(a, b);
-            }
-            return Checked::Refused {
-                number: 3,
-                place: 0,
-            };
-        }
-        return Checked::Refused {
-            number: 2,
-            place: 0,
-        };
-    }
-    Checked::Refused {
-        number: 1,
-        place: 0,
-    }
+    records_code::clear(out);
+    records_code::clear(scratch);
 }
 
 // The point question, of numbers.
@@ -252,16 +105,16 @@ fn contains_at(x: Int, y: Int, d: Int, a: &[i32], b: &[i32], code: u32) -> Conta
     ensures { λ r. ⌜ pointAnswer r ≡ containsAnswer (pointOf x y d) (now (a .entry)) (now (b .entry)) code ⌝ }
     ensures small { λ r. ⌜ SmallPoint (pointAnswer r) ⌝ }
 {
-    let checked = contains_checked(x, y, d, a, b, code);
+    let checked = rows_code::contains_checked(x, y, d, a, b, code);
     match checked {
         Checked::Refused { number, place } => {
             return Containment::Refused { number, place };
         }
         Checked::Passed => {}
     }
-    let first = boolean::lies_in(a, x, y, d);
-    let second = boolean::lies_in(b, x, y, d);
-    if boolean::says(code, first, second) {
+    let first = boolean_code::lies_in(a, x, y, d);
+    let second = boolean_code::lies_in(b, x, y, d);
+    if boolean_code::says(code, first, second) {
         return Containment::Yes;
     }
     Containment::No
@@ -272,9 +125,9 @@ pub fn contains(x: i32, y: i32, d: i32, a: &[i32], b: &[i32], code: u32) -> Cont
     ensures { λ r. ⌜ ContainsKept x y d (now (a .entry)) (now (b .entry)) code r ⌝ }
     ensures small { λ r. ⌜ SmallPoint (pointAnswer r) ⌝ }
 {
-    let p = integer::widen(x);
-    let q = integer::widen(y);
-    let e = integer::widen(d);
+    let p = integer_code::widen(x);
+    let q = integer_code::widen(y);
+    let e = integer_code::widen(d);
     contains_at(p, q, e, a, b, code)
 }
 
@@ -283,7 +136,7 @@ pub fn combine(code: u32, a: &[i32], b: &[i32], out: &mut [i32], scratch: &mut [
     ensures { λ r. ⌜ CombineKept code (now (a .entry)) (now (b .entry)) (now (out .entry)) (now (scratch .entry)) r (now (out .exit)) (now (scratch .exit)) ⌝ }
     ensures small { λ r. ⌜ Small (combinedAnswer r) ⌝ }
 {
-    let checked = combine_checked(code, a, b, out.len(), scratch.len());
+    let checked = rows_code::combine_checked(code, a, b, out.len(), scratch.len());
     match checked {
         Checked::Refused { number, place } => {
             return Combined::Refused { number, place };
@@ -292,7 +145,7 @@ pub fn combine(code: u32, a: &[i32], b: &[i32], out: &mut [i32], scratch: &mut [
     }
     let room = out.len() / records::MEMORY_WIDTH;
     clear_both(out, scratch);
-    let f = boolean::combine_into(code, a, b, out, scratch, room);
+    let f = boolean_code::combine_into(code, a, b, out, scratch, room);
     match f {
         Folded::Short(_) => {
             return Combined::Refused {
@@ -317,7 +170,7 @@ pub fn fracture(file: &[u8], out: &mut [i32], scratch: &mut [i32]) -> Fractured
     ensures { λ r. ⌜ FractureKept (now (file .entry)) (now (out .entry)) (now (scratch .entry)) r (now (out .exit)) (now (scratch .exit)) ⌝ }
     ensures small { λ r. ⌜ Small (fracturedAnswer r) ⌝ }
 {
-    let checked = fracture_checked(file, out.len(), scratch.len());
+    let checked = rows_code::fracture_checked(file, out.len(), scratch.len());
     match checked {
         Checked::Refused { number, place } => {
             return Fractured::Refused { number, place };
@@ -326,7 +179,7 @@ pub fn fracture(file: &[u8], out: &mut [i32], scratch: &mut [i32]) -> Fractured
     }
     let room = out.len() / records::MEMORY_WIDTH;
     clear_both(out, scratch);
-    let f = fracture::fracture_file(file, LIMIT, out, room);
+    let f = polygons_code::fracture_file(file, geometry::COORDINATE_LIMIT, out, room);
     match f {
         Fill::NoRoom => {
             return Fractured::Refused {
@@ -348,7 +201,7 @@ pub fn deoverlap(a: &[i32], out: &mut [i32], scratch: &mut [i32]) -> Deoverlappe
     ensures { λ r. ⌜ DeoverlapKept (now (a .entry)) (now (out .entry)) (now (scratch .entry)) r (now (out .exit)) (now (scratch .exit)) ⌝ }
     ensures small { λ r. ⌜ Small (deoverlappedAnswer r) ⌝ }
 {
-    let checked = deoverlap_checked(a, out.len(), scratch.len());
+    let checked = rows_code::deoverlap_checked(a, out.len(), scratch.len());
     match checked {
         Checked::Refused { number, place } => {
             return Deoverlapped::Refused { number, place };
@@ -357,7 +210,7 @@ pub fn deoverlap(a: &[i32], out: &mut [i32], scratch: &mut [i32]) -> Deoverlappe
     }
     let room = out.len() / records::MEMORY_WIDTH;
     clear_both(out, scratch);
-    let f = boolean::deoverlap_into(a, out, scratch, room);
+    let f = deoverlap_code::deoverlap_into(a, out, scratch, room);
     match f {
         Folded::Short(_) => {
             return Deoverlapped::Refused {
@@ -382,7 +235,7 @@ pub fn equal(a: &[i32], b: &[i32], out: &mut [i32], scratch: &mut [i32]) -> Equa
     ensures { λ r. ⌜ EqualKept (now (a .entry)) (now (b .entry)) (now (out .entry)) (now (scratch .entry)) r (now (out .exit)) (now (scratch .exit)) ⌝ }
     ensures small { λ r. ⌜ SmallEquality (equalityAnswer r) ⌝ }
 {
-    let checked = equal_checked(a, b, out.len(), scratch.len());
+    let checked = rows_code::equal_checked(a, b, out.len(), scratch.len());
     match checked {
         Checked::Refused { number, place } => {
             return Equality::Refused { number, place };
@@ -391,7 +244,7 @@ pub fn equal(a: &[i32], b: &[i32], out: &mut [i32], scratch: &mut [i32]) -> Equa
     }
     let room = out.len() / records::MEMORY_WIDTH;
     clear_both(out, scratch);
-    let f = boolean::equal_into(a, b, out, scratch, room);
+    let f = boolean_code::equal_into(a, b, out, scratch, room);
     match f {
         Compared::TooShort(_) => {
             return Equality::Refused {
@@ -406,28 +259,4 @@ pub fn equal(a: &[i32], b: &[i32], out: &mut [i32], scratch: &mut [i32]) -> Equa
             return Equality::Differs { side, overlays };
         }
     }
-}
-
-// The words of a layer file, written to `out`, which has any length.
-pub fn read_layers(file: &[u8], out: &mut [i32]) -> LayersRead
-    ensures { λ r. ⌜ ReadKept (now (file .entry)) (now (out .entry)) r (now (out .exit)) ⌝ }
-    ensures small { λ r. ⌜ SmallFile (readAnswer r) ⌝ }
-{
-    files::read_layers(file, out)
-}
-
-// The layer file with these words, written to `out`, which has any length.
-pub fn write_layers(words: &[i32], out: &mut [u8]) -> LayersWritten
-    ensures { λ r. ⌜ WriteKept (now (words .entry)) (now (out .entry)) r (now (out .exit)) ⌝ }
-    ensures small { λ r. ⌜ SmallFile (writtenAnswer r) ⌝ }
-{
-    files::write_layers(words, out)
-}
-
-// Each trapezoid's component number, the lowest of its component, written to `numbers`, which has an entry for each trapezoid.
-pub fn components(a: &[i32], numbers: &mut [u32]) -> Connected
-    ensures { λ r. ⌜ ComponentsKept (now (a .entry)) (now (numbers .entry)) r (now (numbers .exit)) ⌝ }
-    ensures small { λ r. ⌜ SmallConnected (connectedAnswer r) ⌝ }
-{
-    connectivity::components(a, numbers)
 }

@@ -1,19 +1,19 @@
 // The functions that C calls: each answers one 64-bit number. include/loxurfa.h says what its bits mean.
-use connectivity::Connected;
+use calls::Combined;
+use calls::Connected;
+use calls::Containment;
+use calls::Deoverlapped;
+use calls::Equality;
+use calls::Fractured;
 use files::LayersRead;
 use files::LayersWritten;
-use loxurfa::Combined;
-use loxurfa::Containment;
-use loxurfa::Deoverlapped;
-use loxurfa::Equality;
-use loxurfa::Fractured;
 ghost use mathlib.Core.Path.{_≡_};
 ghost use Prim.Native.Nat.{_<_, _≤_};
-ghost use Rattle.connectivity.specs.Outcome.{componentsOutcome};
 ghost use Rattle.files.specs.Outcomes.{readLayers, writeLayers};
-ghost use Rattle.loxurfa.specs.Rows.{pointAt};
-ghost use Rattle.loxurfa.specs.Outcomes.{fractureOutcome, combined, deoverlapOutcome, equalOutcome, containsAnswer};
-ghost use Rattle.loxurfa_c.specs.Packed.{refusal as refusalOf, success as successOf, packed, packedEquality, packedPoint, packedFile, packedCount};
+ghost use Rattle.calls.specs.Components.{componentsOutcome};
+ghost use Rattle.calls.specs.Rows.{pointAt};
+ghost use Rattle.calls.specs.Outcomes.{fractureOutcome, combined, deoverlapOutcome, equalOutcome, containsAnswer};
+ghost use Rattle.calls.specs.Packed.{refusal as refusalOf, success as successOf, packed, packedEquality, packedPoint, packedFile, packedCount};
 
 fn refusal(number: u32, place: usize) -> u64
     requires { ⌜ (number ≤ 12) × (place < 1024) ⌝ }

@@ -7,11 +7,14 @@ use Prim.Native.Nat.{ℕ, _+_}
 use native.Mathlib.Nat.{zero-add, add-zero}
 use lib.Dec.{T, T-not, not-T}
 use mir.Facts.{yes-and}
+use Rattle.lists.specs.Lists.{All}
+use Rattle.lists.specs.Tests.{always, bit, count}
+use Rattle.lists.proofs.Tests.{true-is, false-is, is-true, cond-cases}
+use Rattle.lists.proofs.Neighbours.{neighbours-every}
+use Rattle.lists.proofs.Kept.{keep-each}
+use Rattle.lists.proofs.Counts.{count-none}
 use Rattle.integer.specs.Fraction.{Fraction, before}
-use Rattle.integer.proofs.Tests.{true-is, false-is, is-true}
-use Rattle.records.specs.Lists.{All}
 use Rattle.levels.specs.Levels.{AtMost, Ordered, levels}
-use Rattle.levels.proofs.Tests.{cond-cases}
 use Rattle.geometry.specs.declared.Line.{Line}
 use Rattle.geometry.specs.declared.Base.{Base}
 use Rattle.geometry.specs.declared.Trapezoid.{Trapezoid}
@@ -20,16 +23,15 @@ use Rattle.geometry.specs.Points.{Point, IsPoint, at, under}
 use Rattle.geometry.specs.Trapezoids.{liesIn, Apart}
 use Rattle.geometry.specs.Fitness.{FitFor}
 use Rattle.geometry.proofs.Meet.{proper-crosses}
-use Rattle.sweep.specs.Lists.{always, bit, count}
+use Rattle.geometry.proofs.Ranges.{fit-based}
 use Rattle.sweep.specs.Segments.{Segment, spans}
 use Rattle.sweep.specs.Columns.{lower}
-use Rattle.sweep.proofs.Lists.{keep-each, count-none, neighbours-every}
 use Rattle.sweep.proofs.Prefix.{value, prefix, Decided, decided, nothing, up-to}
 use Rattle.sweep.proofs.Column.{Good, goods, ordered, groups-good, groups-rising, under-lower}
 use Rattle.sweep.proofs.Sweep.{sweep-count}
 use Rattle.overlay.specs.Overlaps.{overlaps}
 use Rattle.overlay.specs.Overlay.{Part, tagOf, inRange, sides, events, lineOf, fills, tagAbove, part, parts, subdivision, overlay}
-use Rattle.overlay.proofs.Ranges.{from-lies, lies-is, fit-based}
+use Rattle.overlay.proofs.Ranges.{from-lies, lies-is}
 use Rattle.overlay.proofs.Overlaps.{apart-exact}
 use Rattle.overlay.proofs.Events.{Cell, dividers, groups, complete}
 use Rattle.overlay.proofs.Stack.{stack-all, stack-count}

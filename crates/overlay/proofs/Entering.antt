@@ -5,6 +5,7 @@ use mathlib.Core.Logic.{inl, inr}
 use lib.Dec.{T, T-not}
 use lib.IntN.{ℤ, pos}
 use lib.Signed.{_≤ℤ_, _<ℤ_, clashℤ}
+use Rattle.lists.proofs.Tests.{yes-or-no}
 use Rattle.integer.specs.Integer.{_⊕_, _⊗_}
 use Rattle.integer.specs.Fraction.{Fraction, Proper, before}
 use Rattle.integer.proofs.Laws.{mul-comm}
@@ -12,7 +13,6 @@ use Rattle.integer.proofs.Order.{lt→le, lt-or-le, antisymm, weighted-le, weig
 use Rattle.integer.proofs.Linear.{zarith, neg-le, neg-lt, neg-ge, neg-gt, neg-zero}
 use Rattle.integer.proofs.Tests.{yes-lt, no-lt}
 use Rattle.integer.proofs.Fraction.{cross, cross-turn, cross→before, at-most→cross, at-most-refl, before→at-most, before-at-most-trans, at-most-before-trans, before-trans}
-use Rattle.levels.proofs.Tests.{yes-or-no}
 use Rattle.geometry.specs.declared.Line.{Line}
 use Rattle.geometry.specs.Lines.{det}
 use Rattle.geometry.specs.Positions.{gap, crosses, root, meet, below}

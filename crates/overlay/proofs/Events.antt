@@ -6,26 +6,28 @@ use mathlib.Core.Logic.{inl, inr}
 use Prim.Native.Nat.{ℕ}
 use lib.Dec.{T}
 use mir.Facts.{and-yes}
+use Rattle.lists.specs.Lists.{All, Any}
+use Rattle.lists.specs.Tests.{keep}
+use Rattle.lists.proofs.Lists.{any-map, all-of}
+use Rattle.lists.proofs.Kept.{keep-all, keep-any}
 use Rattle.integer.specs.Fraction.{Proper, before}
 use Rattle.integer.proofs.Linear.{zarith}
-use Rattle.records.specs.Lists.{All, Any}
-use Rattle.records.proofs.Lists.{any-map, all-of}
 use Rattle.levels.specs.Levels.{levels}
 use Rattle.geometry.specs.declared.Line.{Line}
 use Rattle.geometry.specs.declared.Base.{Base}
 use Rattle.geometry.specs.declared.Trapezoid.{Trapezoid}
 use Rattle.geometry.specs.Positions.{crosses, meet, position}
 use Rattle.geometry.specs.Fitness.{FitFor}
+use Rattle.geometry.specs.Ranges.{crossing}
 use Rattle.geometry.proofs.Meet.{meet-proper, meet-gap}
 use Rattle.geometry.proofs.Fitness.{left-proper, right-proper, bottom-line, top-line}
-use Rattle.sweep.specs.Lists.{keep}
+use Rattle.geometry.proofs.Ranges.{after-left, to-right}
 use Rattle.sweep.specs.Segments.{Segment, inside, crossInside, spanning}
 use Rattle.sweep.specs.Columns.{lower}
 use Rattle.sweep.specs.Sweep.{Complete, Column}
-use Rattle.sweep.proofs.Lists.{keep-all, keep-any}
-use Rattle.overlay.specs.Overlaps.{crossing, crossesInCommon}
+use Rattle.overlay.specs.Overlaps.{crossesInCommon}
 use Rattle.overlay.specs.Overlay.{along, sides, crossings, events, lineOf}
-use Rattle.overlay.proofs.Ranges.{to-crossing, crossing-proper, after-left, to-right}
+use Rattle.overlay.proofs.Ranges.{to-crossing, crossing-proper}
 
 -- what is known of the column from p to q of the subdivision of A and B
 abbrev pub Cell : Trapezoid → Trapezoid → Base → Base → Type 0

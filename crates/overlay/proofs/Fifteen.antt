@@ -10,35 +10,36 @@ use native.Mathlib.Omega.{arith}
 use lib.Dec.{T, T-not, not-T}
 use lib.ListN.{length}
 use mir.Facts.{and-yes, yes-and, and-no, or-yes}
+use Rattle.lists.specs.Lists.{All, Any}
+use Rattle.lists.specs.Tests.{keep, total}
+use Rattle.lists.proofs.Tests.{false-is, is-true, yes-or-no, cond-cases, same-test, or-left, or-right}
+use Rattle.lists.proofs.Lists.{any-with}
+use Rattle.lists.proofs.Neighbours.{neighbours-map, neighbours-of}
+use Rattle.lists.proofs.Counts.{keep-total}
 use Rattle.integer.specs.Fraction.{Fraction, Proper, before}
-use Rattle.integer.proofs.Tests.{false-is, is-true}
 use Rattle.integer.proofs.Fraction.{at-most-refl, before→at-most, at-most-before-trans, before-at-most-trans}
-use Rattle.records.specs.Lists.{All, Any}
 use Rattle.levels.specs.Levels.{Level, levels}
-use Rattle.levels.proofs.Tests.{yes-or-no, cond-cases}
-use Rattle.levels.proofs.Lists.{any-with}
 use Rattle.levels.proofs.Order.{level-trans}
 use Rattle.levels.proofs.Laws.{levels-all, levels-length, levels-cover}
 use Rattle.geometry.specs.declared.Base.{Base}
 use Rattle.geometry.specs.declared.Trapezoid.{Trapezoid}
 use Rattle.geometry.specs.Positions.{position}
 use Rattle.geometry.specs.Fitness.{FitFor}
+use Rattle.geometry.specs.Ranges.{commonLeft, crossing}
 use Rattle.geometry.proofs.Fitness.{left-proper, right-proper}
-use Rattle.sweep.specs.Lists.{keep}
+use Rattle.geometry.proofs.Ranges.{righter-first, righter-second, common-left-proper}
 use Rattle.sweep.specs.Segments.{Segment, spans}
 use Rattle.sweep.specs.Columns.{lower}
 use Rattle.sweep.specs.Sweep.{earlier, sweep}
-use Rattle.sweep.proofs.Lists.{same-test, neighbours-map, neighbours-of}
 use Rattle.sweep.proofs.Sweep.{Placed, placed-order}
-use Rattle.overlay.specs.Overlaps.{commonLeft, crossing, crossesInCommon, overlapRight}
+use Rattle.overlay.specs.Overlaps.{crossesInCommon, overlapRight}
 use Rattle.overlay.specs.Overlay.{Part, inRange, sides, crossings, events, lineOf, parts, subdivision}
 use Rattle.overlay.specs.Statements.{AtMostFifteen}
-use Rattle.overlay.proofs.Tests.{or-left, or-right}
-use Rattle.overlay.proofs.Ranges.{righter-first, righter-second, crossing-proper, common-left-proper}
+use Rattle.overlay.proofs.Ranges.{crossing-proper}
 use Rattle.overlay.proofs.Events.{dividers, groups, complete}
 use Rattle.overlay.proofs.Stack.{stack-length}
 use Rattle.overlay.proofs.Count.{overlay-cases}
-use Rattle.overlay.proofs.Sums.{total, keep-total, levels-step, levels-total, levels-same, columns-length}
+use Rattle.overlay.proofs.Sums.{levels-step, levels-total, levels-same, columns-length}
 use Rattle.overlay.proofs.Opposite.{apart-left, apart-after}
 use Rattle.overlay.proofs.Two.{two-parts}
 
@@ -279,7 +280,7 @@ module _ {L : ℕ} {A B : Trapezoid} (ha : FitFor L A) (hb : FitFor L B) where
       rest-proper = events-proper .1
 
       rest-total : total c (levels (earlier position) rest) ≤ c (A .right) + (c (B .left) + (c (B .right) + total c inner))
-      rest-total = unfold total in levels-total c (earlier position) rest
+      rest-total = levels-total c (earlier position) rest
 
       one : (k : Base) → T (not (inA k)) ⊎ T (not (inB k)) → c k ≤ 1
       one k h = unfold c in cost-one (apartAt (position k)) (inA k) (inB k) h
@@ -332,7 +333,7 @@ module _ {L : ℕ} {A B : Trapezoid} (ha : FitFor L A) (hb : FitFor L B) where
           ]
 
   inner-total : total c inner ≤ cond crossed 5 3 + 6
-  unfolding crossings total
+  unfolding crossings
   inner-total =
       let i = opposite-total in
       let j = paid-three (crossing (A .bottom) (B .bottom)) in

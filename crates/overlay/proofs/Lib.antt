@@ -1,4 +1,3 @@
-pub mod Tests
 pub mod Ranges
 pub mod Entering
 pub mod Overlaps
@@ -13,14 +12,3 @@ pub mod Two
 pub mod Fifteen
 pub mod Tagged
 mod Examples
-pub mod NumberOrder
-pub mod Exchanges
-pub mod Network
-pub mod Strips
-pub mod Window
-pub mod EventArray
-pub mod NextEvent
-pub mod SideOrder
-pub mod Writing
-pub mod Stacking
-pub mod Filling

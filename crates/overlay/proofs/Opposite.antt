@@ -7,26 +7,28 @@ use lib.Dec.{T, not-T}
 use lib.IntN.{ℤ, pos}
 use lib.Signed.{_<ℤ_, clashℤ}
 use mir.Facts.{and-yes}
+use Rattle.lists.proofs.Tests.{yes-or-no}
 use Rattle.integer.specs.Integer.{_⊕_, _⊗_}
 use Rattle.integer.specs.Fraction.{Fraction, Proper, before, mediant}
 use Rattle.integer.proofs.Ring.{ring, _⊞_, _⊟_, _⊠_, con, _≗_}
 use Rattle.integer.proofs.Order.{lt→le, lt-or-le, antisymm, lt→positive, positive-mul, positive-is, positive-cancel, nonneg-mul, nonneg-is, nonneg-cancel}
 use Rattle.integer.proofs.Linear.{neg-lt, neg-ge, neg-gt, neg-zero}
 use Rattle.integer.proofs.Fraction.{cross, cross-turn, before→cross, at-most→cross, at-most-before-trans, before-at-most-trans, before-trans, mediant-proper, mediant-after, mediant-before}
-use Rattle.levels.proofs.Tests.{yes-or-no}
 use Rattle.geometry.specs.declared.Line.{Line}
 use Rattle.geometry.specs.declared.Trapezoid.{Trapezoid}
 use Rattle.geometry.specs.Lines.{det}
 use Rattle.geometry.specs.Positions.{gap, meet, below}
 use Rattle.geometry.specs.Fitness.{FitFor}
+use Rattle.geometry.specs.Ranges.{commonLeft, commonRight, crossing}
 use Rattle.geometry.proofs.Identities.{gap-moves, gap-turn, det-turn}
 use Rattle.geometry.proofs.Heights.{Lower, below→lower, height-trans}
 use Rattle.geometry.proofs.Between.{ahead}
 use Rattle.geometry.proofs.Meet.{crosses→det, meet-proper, meet-gap}
 use Rattle.geometry.proofs.Fitness.{bottom-line, top-line}
-use Rattle.overlay.specs.Overlaps.{commonLeft, commonRight, crossing, crossesInCommon, overlapRight}
+use Rattle.geometry.proofs.Ranges.{common-left-proper, common-right-proper, left-after, right-to}
+use Rattle.overlay.specs.Overlaps.{crossesInCommon, overlapRight}
 use Rattle.overlay.proofs.Entering.{not-above}
-use Rattle.overlay.proofs.Ranges.{Crossing, from-crossing, common-left-proper, common-right-proper, left-after, right-to}
+use Rattle.overlay.proofs.Ranges.{Crossing, from-crossing}
 
 -- ---- a position between two and one, and between one and two
 between-right : (r s q : Fraction) → Proper r → Proper s → Proper q → T (before r q) → T (before s q) → (x : Fraction) × Proper x × T (before r x) × T (before s x) × T (before x q)

@@ -1,19 +1,17 @@
 -- The test `overlaps` says yes exactly if some rational point lies in both trapezoids.
 use mathlib.Core.Bool.{Bool, not, _||_}
-use mathlib.Core.List.{List, [], _∷_}
 use mathlib.Core.Logic.{_⊎_, inl, inr, _↔_}
 use Prim.Native.Nat.{ℕ}
 use lib.Dec.{T, T-not, not-T}
 use lib.IntN.{pos}
 use lib.Signed.{_≤ℤ_, _<ℤ_}
 use mir.Facts.{and-yes, yes-and, or-yes}
+use Rattle.lists.proofs.Tests.{yes-or-no, or-left, or-right}
+use Rattle.lists.proofs.Lists.{pairs-with}
 use Rattle.integer.specs.Fraction.{Fraction, Proper, before, mediant}
 use Rattle.integer.proofs.Order.{lt-or-le}
 use Rattle.integer.proofs.Linear.{zarith, neg-le, neg-ge}
 use Rattle.integer.proofs.Fraction.{at-most-refl, before→at-most, at-most-before-trans, before-at-most-trans, before-trans, mediant-proper, mediant-after, mediant-before}
-use Rattle.records.specs.Lists.{All, Pairs}
-use Rattle.levels.proofs.Tests.{yes-or-no}
-use Rattle.levels.proofs.Lists.{all-with}
 use Rattle.geometry.specs.declared.Line.{Line}
 use Rattle.geometry.specs.declared.Base.{Base}
 use Rattle.geometry.specs.declared.Trapezoid.{Trapezoid}
@@ -22,15 +20,16 @@ use Rattle.geometry.specs.Positions.{gap, crosses, meet, position, below}
 use Rattle.geometry.specs.Points.{Point, at, under}
 use Rattle.geometry.specs.Trapezoids.{liesIn, Apart}
 use Rattle.geometry.specs.Fitness.{FitFor}
+use Rattle.geometry.specs.Ranges.{commonLeft, commonRight, crossing}
 use Rattle.geometry.proofs.Identities.{gap-turn, height-refl}
 use Rattle.geometry.proofs.Heights.{height-total}
 use Rattle.geometry.proofs.Meet.{meet-proper}
 use Rattle.geometry.proofs.Orders.{under-chain}
 use Rattle.geometry.proofs.Points.{on, on-point, on-other, on-after, on-before, on-below}
 use Rattle.geometry.proofs.Fitness.{bottom-line, top-line}
-use Rattle.overlay.specs.Overlaps.{Common, commonLeft, commonRight, crossing, crossesInCommon, overlapRight, overlapFrom, overlaps, OverlapsExact, DisjointExact}
-use Rattle.overlay.proofs.Tests.{or-left, or-right}
-use Rattle.overlay.proofs.Ranges.{from-lies, to-lies, fit-based, from-crossing, to-crossing, crossing-proper, common-left-proper, common-right-proper, from-left, to-right, left-after, right-to}
+use Rattle.geometry.proofs.Ranges.{fit-based, common-left-proper, common-right-proper, from-left, to-right, left-after, right-to}
+use Rattle.overlay.specs.Overlaps.{Common, crossesInCommon, overlapRight, overlapFrom, overlaps, OverlapsExact, DisjointExact}
+use Rattle.overlay.proofs.Ranges.{from-lies, to-lies, from-crossing, to-crossing, crossing-proper}
 use Rattle.overlay.proofs.Entering.{Until, until, enters, enters-turned, persists}
 
 -- at or above l and below m: l is below m there
@@ -210,11 +209,6 @@ apart-exact L A B ha hb = (
 )
 
 -- ---- lists
--- what holds of each pair, from what else holds of it and of each of the two
-pairs-with : {A : Type 0} {G : A → Type 0} {R S : A → A → Type 0} → ((x y : A) → G x → G y → R x y → S x y) → (xs : List A) → All G xs → Pairs R xs → Pairs S xs
-pairs-with f [] g h = tt
-pairs-with f (x ∷ xs) g h = (all-with (λ y k r. f x y (g .0) k r) xs (g .1) (h .0), pairs-with f xs (g .1) (h .1))
-
 pub disjoint-exact : DisjointExact
 disjoint-exact L ts h = (
   pairs-with (λ t u ht hu. apart-exact L t u ht hu .1) ts h,

@@ -4,9 +4,11 @@ use mathlib.Core.Bool.{not}
 use mathlib.Core.List.{List, _++_}
 use Prim.Native.Nat.{ℕ}
 use lib.Dec.{T, eqb}
-use Rattle.records.specs.Lists.{All}
-use Rattle.records.proofs.Lists.{all-append, all-map, any-left, any-right}
-use Rattle.levels.proofs.Lists.{Member, all-member, members}
+use Rattle.lists.specs.Lists.{All, Member}
+use Rattle.lists.proofs.Lists.{all-append, all-map, any-left, any-right}
+use Rattle.lists.proofs.Members.{all-member, members}
+use Rattle.lists.proofs.Neighbours.{neighbours-map, pairs-neighbours}
+use Rattle.lists.proofs.Kept.{keep-all}
 use Rattle.geometry.specs.declared.Line.{Line}
 use Rattle.geometry.specs.declared.Base.{Base}
 use Rattle.geometry.specs.declared.Trapezoid.{Trapezoid}
@@ -19,7 +21,6 @@ use Rattle.geometry.proofs.Meet.{proper-crosses}
 use Rattle.geometry.proofs.Fitness.{base-exact, bases-exact}
 use Rattle.sweep.specs.Segments.{Segment, spans}
 use Rattle.sweep.specs.Columns.{Below}
-use Rattle.sweep.proofs.Lists.{keep-all, neighbours-map, pairs-neighbours}
 use Rattle.sweep.proofs.Column.{groups-below}
 use Rattle.sweep.proofs.Sweep.{sweep-all}
 use Rattle.overlay.specs.Overlaps.{crossesInCommon}

@@ -8,16 +8,15 @@ use native.Mathlib.Nat.{zero-add, add-zero}
 use native.Mathlib.Omega.{arith}
 use lib.Dec.{T, eqb, eqb→eq}
 use lib.ListN.{length}
-use Rattle.integer.proofs.Tests.{true-is, false-is}
-use Rattle.records.specs.Lists.{All}
-use Rattle.levels.specs.Levels.{Neighbours}
-use Rattle.levels.proofs.Tests.{yes-or-no, cond-cases}
+use Rattle.lists.specs.Lists.{All, Neighbours}
+use Rattle.lists.specs.Tests.{always, bit, count}
+use Rattle.lists.proofs.Tests.{true-is, false-is, yes-or-no, cond-cases}
+use Rattle.lists.proofs.Neighbours.{neighbours-map, neighbours-of}
+use Rattle.lists.proofs.Counts.{count-none}
 use Rattle.geometry.specs.declared.Base.{Base}
 use Rattle.geometry.specs.declared.Trapezoid.{Trapezoid}
 use Rattle.geometry.specs.Positions.{position}
-use Rattle.sweep.specs.Lists.{always, bit, count}
 use Rattle.sweep.specs.Segments.{Segment}
-use Rattle.sweep.proofs.Lists.{count-none, neighbours-map, neighbours-of}
 use Rattle.sweep.proofs.Prefix.{Prefix, value}
 use Rattle.overlay.specs.Overlay.{Part, tagAbove, part, stack}
 

@@ -1,44 +1,27 @@
--- Sums of costs over the levels of a list, over those kept, and over the columns of a sweep.
-use mathlib.Core.Path.{_≡_, refl, sym, _∙_}
-use mathlib.Core.Bool.{Bool, true, false, cond}
+-- Sums of costs over the levels of a list and over the columns of a sweep.
+use mathlib.Core.Path.{_≡_}
+use mathlib.Core.Bool.{Bool}
 use mathlib.Core.List.{List, [], _∷_}
 use mathlib.Core.Logic.{_⊎_, inl, inr}
 use Prim.Native.Nat.{ℕ, _+_, _≤_, zero-le}
-use native.Mathlib.Nat.{zero-add, le-refl}
+use native.Mathlib.Nat.{le-refl}
 use native.Mathlib.Omega.{arith}
 use lib.Dec.{T, T-not}
 use lib.ListN.{length, length-append}
+use Rattle.lists.specs.Lists.{All, Any, Neighbours}
+use Rattle.lists.specs.Tests.{total}
+use Rattle.lists.proofs.Lists.{any-elim, all-both}
 use Rattle.integer.specs.Fraction.{Fraction}
-use Rattle.integer.proofs.Tests.{true-is, false-is}
-use Rattle.records.specs.Lists.{All, Any}
-use Rattle.levels.specs.Levels.{Neighbours, Level, Ordered, insert, levels, Rising}
-use Rattle.levels.proofs.Tests.{yes-or-no}
-use Rattle.levels.proofs.Lists.{any-elim, all-both}
+use Rattle.levels.specs.Levels.{Level, Ordered, insert, levels, Rising}
 use Rattle.levels.proofs.Order.{less-at-most}
 use Rattle.levels.proofs.Laws.{insert-cases, levels-all, levels-rising}
-use Rattle.sweep.specs.Lists.{keep}
 use Rattle.sweep.specs.Segments.{Segment, spanning}
 use Rattle.sweep.specs.Sweep.{columns}
 
-unfoldable pub total : {A : Type 0} → (A → ℕ) → List A → ℕ
-total c [] = 0
-total c (x ∷ xs) = c x + total c xs
-
 module _ {A : Type 0} (c : A → ℕ) where
-  -- those kept cost what all do, if the others cost nothing
-  pub keep-total : (f : A → Bool) (xs : List A) → total c (keep f xs) ≡ total (λ (x : A). cond (f x) (c x) 0) xs
-  unfolding keep total
-  keep-total f [] = refl
-  keep-total f (x ∷ xs) =
-      let k = keep-total f xs in
-      elim (yes-or-no (f x)) [
-        | inl t ↦ (let e : f x ≡ true = true-is t in rw (e, k))
-        | inr t ↦ (let e : f x ≡ false = false-is t in rw e (k ∙ sym (zero-add (total (λ (x : A). cond (f x) (c x) 0) xs))))
-      ]
-
   module _ (less : A → A → Bool) where
     insert-total : (x : A) (ys : List A) → total c (insert less x ys) ≤ c x + total c ys
-    unfolding insert total
+    unfolding insert
     insert-total x [] = le-refl (c x + 0)
     insert-total x (y ∷ ys) =
         let h = insert-total x ys in
@@ -49,14 +32,14 @@ module _ {A : Type 0} (c : A → ℕ) where
     levels-step x xs = insert-total x (levels less xs)
 
     pub levels-total : (xs : List A) → total c (levels less xs) ≤ total c xs
-    unfolding levels total
+    unfolding levels
     levels-total [] = le-refl 0
     levels-total (x ∷ xs) = let h = insert-total x (levels less xs) in let k = levels-total xs in omega arith
 
     -- where level elements cost the same, an element that is level with another costs nothing
     module _ {Good : A → Type 0} (o : Ordered less Good) (same : (x y : A) → Good x → Good y → Level less x y → c x ≡ c y) where
       insert-same : (x : A) (ys : List A) → Good x → All Good ys → Rising less ys → Any (Level less x) ys → total c (insert less x ys) ≤ total c ys
-      unfolding insert total
+      unfolding insert
       insert-same x [] gx g r a = absurd a
       insert-same x (y ∷ ys) gx g r a =
           insert-cases less (λ (zs : List A). total c zs ≤ c y + total c ys) x y ys
@@ -83,7 +66,7 @@ module _ {A : Type 0} (c : A → ℕ) where
 -- what a sweep yields is at most the sum of what its columns may yield
 module _ {A K X : Type 0} (segment : A → Segment) (position : K → Fraction) (yields : K → K → List A → List X) (c : K → ℕ) (es : List A) where
   pub columns-length : (ss : List K) → Neighbours (λ (p q : K). length (yields p q (spanning segment (position p) es)) ≤ c p) ss → length (columns segment position yields es ss) ≤ total c ss
-  unfolding columns total
+  unfolding columns
   columns-length [] n = zero-le
   columns-length (p ∷ []) n = zero-le
   columns-length (p ∷ q ∷ qs) n =

@@ -5,8 +5,8 @@ use Prim.Native.Nat.{ℕ, suc, _≤_, zero-le}
 use native.Mathlib.Omega.{arith}
 use lib.Dec.{eqb}
 use lib.ListN.{length}
-use Rattle.records.specs.Lists.{All, Any, Pairs}
-use Rattle.levels.proofs.Tests.{cond-cases}
+use Rattle.lists.specs.Lists.{All, Any, Pairs}
+use Rattle.lists.proofs.Tests.{cond-cases}
 use Rattle.geometry.specs.declared.Line.{Line}
 use Rattle.geometry.specs.declared.Trapezoid.{Trapezoid}
 use Rattle.geometry.specs.Trapezoids.{linesOf, Apart, Disjoint}

@@ -7,15 +7,16 @@ use Prim.Native.Nat.{ℕ, _+_, _≤_, _<_}
 use native.Mathlib.Omega.{arith}
 use lib.Dec.{T, T-not, eqb}
 use mir.Facts.{yes-and}
-use Rattle.integer.proofs.Tests.{true-is, is-true, is-false}
-use Rattle.records.specs.Lists.{All, Pairs}
-use Rattle.levels.proofs.Lists.{Member, all-with, all-member, members}
+use Rattle.lists.specs.Lists.{All, Pairs, Member}
+use Rattle.lists.specs.Tests.{bit, count}
+use Rattle.lists.proofs.Tests.{true-is, is-true, is-false}
+use Rattle.lists.proofs.Lists.{all-with}
+use Rattle.lists.proofs.Members.{all-member, members}
+use Rattle.lists.proofs.Counts.{count-some, bit-most}
 use Rattle.geometry.specs.declared.Trapezoid.{Trapezoid}
 use Rattle.geometry.specs.Points.{Point, IsPoint}
 use Rattle.geometry.specs.Trapezoids.{liesIn, LiesInLayer, Apart}
 use Rattle.geometry.specs.Fitness.{FitFor}
-use Rattle.sweep.specs.Lists.{bit, count}
-use Rattle.sweep.proofs.Lists.{count-some}
 use Rattle.overlay.specs.Overlay.{Part, tagOf, overlay, tagged}
 use Rattle.overlay.specs.Statements.{TagOne, TagTwo, TagThree, PartsApart}
 use Rattle.overlay.proofs.Count.{hit, overlay-count}
@@ -96,9 +97,5 @@ counted-apart (s ∷ ss) h k = (all-with later ss (members ss) (h .1), counted-a
 pub parts-apart : PartsApart
 parts-apart L A B ha hb = counted-apart (overlay A B) (overlay-tags ha hb) once
   where
-    at-most : (b : Bool) → bit b ≤ 1
-    at-most true = omega arith
-    at-most false = omega arith
-
     once : (P : Point) → IsPoint P → count (hit P (λ (m : ℕ). not (eqb m 0))) (overlay A B) ≤ 1
-    once P hP = let e = overlay-count ha hb P hP (λ (m : ℕ). not (eqb m 0)) refl in rw e (at-most (not (eqb (tagOf (liesIn P A) (liesIn P B)) 0)))
+    once P hP = let e = overlay-count ha hb P hP (λ (m : ℕ). not (eqb m 0)) refl in rw e (bit-most (not (eqb (tagOf (liesIn P A) (liesIn P B)) 0)))

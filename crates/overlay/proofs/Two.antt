@@ -9,12 +9,12 @@ use lib.Dec.{T, T-not, eqb}
 use lib.IntN.{pos}
 use lib.ListN.{length}
 use mir.Facts.{and-yes, and-no, yes-eqb}
+use Rattle.lists.specs.Tests.{keep}
+use Rattle.lists.proofs.Tests.{true-is, false-is, yes-or-no, cond-cases}
 use Rattle.integer.specs.Fraction.{Fraction, Proper, before, mediant}
 use Rattle.integer.proofs.Linear.{zarith}
-use Rattle.integer.proofs.Tests.{true-is, false-is}
 use Rattle.integer.proofs.Fraction.{at-most-before-trans, mediant-proper, mediant-after, mediant-before}
 use Rattle.levels.specs.Levels.{Ordered, insert, levels}
-use Rattle.levels.proofs.Tests.{yes-or-no, cond-cases}
 use Rattle.levels.proofs.Order.{at-most-refl, less-at-most, at-most-less, less-trans}
 use Rattle.geometry.specs.declared.Line.{Line}
 use Rattle.geometry.specs.declared.Base.{Base}
@@ -25,7 +25,6 @@ use Rattle.geometry.specs.Fitness.{FitFor, BelowBetween}
 use Rattle.geometry.proofs.Heights.{coincide, coincide-everywhere}
 use Rattle.geometry.proofs.Between.{order-from}
 use Rattle.geometry.proofs.Fitness.{left-proper, right-proper, bottom-line, top-line}
-use Rattle.sweep.specs.Lists.{keep}
 use Rattle.sweep.specs.Segments.{Segment, spans}
 use Rattle.sweep.specs.Columns.{lower}
 use Rattle.sweep.proofs.Column.{lower-order}

@@ -2,5 +2,3 @@
 pub mod Overlaps
 pub mod Overlay
 pub mod Statements
-pub mod Order
-pub mod Code

@@ -1,41 +1,22 @@
 -- Whether a rational point lies in both of two trapezoids A and B: the meaning, and the test that computes it.
-use mathlib.Core.Bool.{Bool, not, cond, _&&_, _||_}
+use mathlib.Core.Bool.{Bool, not, _&&_, _||_}
 use mathlib.Core.List.{List}
 use mathlib.Core.Logic.{_↔_}
 use Prim.Native.Nat.{ℕ}
 use lib.Dec.{T}
+use Rattle.lists.specs.Lists.{All, Pairs}
 use Rattle.integer.specs.Fraction.{Fraction, before}
-use Rattle.records.specs.Lists.{All, Pairs}
-use Rattle.geometry.specs.declared.Line.{Line}
 use Rattle.geometry.specs.declared.Base.{Base}
 use Rattle.geometry.specs.declared.Trapezoid.{Trapezoid}
 use Rattle.geometry.specs.Positions.{crosses, position, below}
 use Rattle.geometry.specs.Points.{Point, IsPoint}
 use Rattle.geometry.specs.Trapezoids.{liesIn, Disjoint}
 use Rattle.geometry.specs.Fitness.{FitFor}
+use Rattle.geometry.specs.Ranges.{commonLeft, commonRight, crossing}
 
 -- the meaning: "no rational point in both" denies it
 abbrev pub Common : Trapezoid → Trapezoid → Type 0
 Common A B = (P : Point) × IsPoint P × T (liesIn P A) × T (liesIn P B)
-
--- ---- the common range
--- the lefter and the righter of two positions
-abbrev pub lefter : Fraction → Fraction → Fraction
-lefter p q = cond (before p q) p q
-
-abbrev pub righter : Fraction → Fraction → Fraction
-righter p q = cond (before p q) q p
-
--- from the righter of the left bases to the lefter of the right bases
-unfoldable pub commonLeft : Trapezoid → Trapezoid → Fraction
-commonLeft A B = righter (position (A .left)) (position (B .left))
-
-unfoldable pub commonRight : Trapezoid → Trapezoid → Fraction
-commonRight A B = lefter (position (A .right)) (position (B .right))
-
--- a side of A with a side of B, A's first
-abbrev pub crossing : Line → Line → Base
-crossing l m = record { first = l; second = m }
 
 -- the two lines cross strictly inside the common range
 unfoldable pub crossesInCommon : Trapezoid → Trapezoid → Base → Bool

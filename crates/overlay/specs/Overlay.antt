@@ -3,17 +3,18 @@ use mathlib.Core.Bool.{Bool, true, false, not, cond, _&&_}
 use mathlib.Core.List.{List, [], _∷_}
 use Prim.Native.Nat.{ℕ}
 use lib.Dec.{eqb}
+use Rattle.lists.specs.Tests.{keep}
 use Rattle.integer.specs.Fraction.{Fraction}
 use Rattle.levels.specs.Levels.{levels}
 use Rattle.geometry.specs.declared.Line.{Line}
 use Rattle.geometry.specs.declared.Base.{Base}
 use Rattle.geometry.specs.declared.Trapezoid.{Trapezoid}
 use Rattle.geometry.specs.Positions.{position, below}
-use Rattle.sweep.specs.Lists.{keep}
+use Rattle.geometry.specs.Ranges.{crossing}
 use Rattle.sweep.specs.Segments.{Segment, spans}
 use Rattle.sweep.specs.Columns.{lower}
 use Rattle.sweep.specs.Sweep.{sweep}
-use Rattle.overlay.specs.Overlaps.{crossing, crossesInCommon, overlaps}
+use Rattle.overlay.specs.Overlaps.{crossesInCommon, overlaps}
 
 -- a trapezoid of the overlay
 pub record Part : Type 0 where

@@ -1,31 +1,21 @@
 -- A buffer of n words that holds records and is blank past them: read, borrowed from a record on, and taken back.
-use mathlib.Core.Path.{_≡_, refl, sym, ap, _∙_}
+use mathlib.Core.Path.{_≡_, sym, ap, _∙_}
 use mathlib.Core.List.{List, [], _∷_, _++_, append-assoc}
-use Prim.Native.Nat.{ℕ, zero, suc, _+_, _*_, _-_, _≤_}
+use Prim.Native.Nat.{ℕ, _+_, _*_, _-_, _≤_}
 use native.Mathlib.Nat as NatL
 use native.Mathlib.Omega.{arith}
 use lib.ListN.{length, take, drop, replicate, length-append, length-replicate, replicate-append-replicate}
 use lib.Seq.{take-at, drop-at, drop-drop}
 use borrow.Rule.Slice.PartMut.{putMid, midOf}
-use Rattle.records.specs.Lists.{All}
+use Rattle.lists.specs.Lists.{All}
+use Rattle.lists.proofs.Parts.{put-mid, put-tail, mid-tail, drop-replicate, take-replicate}
 use Rattle.records.specs.Records.{Codec, Faithful, recordsFrom, wordsOf, image, Holds, Blank}
-use Rattle.records.proofs.Parts.{put-mid, put-tail, mid-tail}
 use Rattle.records.proofs.Records.{words-append, words-one, length-words, from-words}
 
 -- ---- blank words
 module _ {W : Type 0} (z : W) where
   pub blank-of : (d : List W) (n : ℕ) → d ≡ replicate n z → Blank z d
   blank-of d n e = let l : length d ≡ n = ap length e ∙ length-replicate n z in rw l e
-
-  pub drop-blank : (k m : ℕ) → drop k (replicate m z) ≡ replicate (m - k) z
-  drop-blank zero m = let e : m ≡ m - 0 = omega arith in ap (λ (k : ℕ). replicate k z) e
-  drop-blank (suc k) zero = let e : 0 ≡ 0 - suc k = omega arith in ap (λ (k : ℕ). replicate k z) e
-  drop-blank (suc k) (suc m) = let e : m - k ≡ suc m - suc k = omega arith in drop-blank k m ∙ ap (λ (k : ℕ). replicate k z) e
-
-  pub take-blank : (k m : ℕ) → k ≤ m → take k (replicate m z) ≡ replicate k z
-  take-blank zero m h = refl
-  take-blank (suc k) zero h = absurd (NatL.not-suc-le-zero h)
-  take-blank (suc k) (suc m) h = ap (λ (t : List W). z ∷ t) (take-blank k m (omega arith))
 
 module _ {W A : Type 0} (C : Codec W A) {Good : A → Type 0} {Legal : W → Type 0} (F : Faithful C Good Legal) where
   abbrev size : List A → ℕ
@@ -62,7 +52,7 @@ module _ {W A : Type 0} (C : Codec W A) {Good : A → Type 0} {Legal : W → Typ
 
   pub image-one : (r : A) (d : List W) → Blank (C .blank) d → C .encode r ++ drop (C .width) d ≡ image C (length d) (r ∷ [])
   image-one r d z =
-      let e : drop (C .width) d ≡ blanks (length d - C .width) = ap (drop (C .width)) z ∙ drop-blank (C .blank) (C .width) (length d) in
+      let e : drop (C .width) d ≡ blanks (length d - C .width) = ap (drop (C .width)) z ∙ drop-replicate (C .blank) (C .width) (length d) in
       let f : length d - C .width ≡ length d - size (r ∷ []) = ap (λ (n : ℕ). length d - n) (sym (NatL.mul-one (C .width))) in
       rw (e, words-one C r, f)
 
@@ -96,7 +86,7 @@ module _ {W A : Type 0} (C : Codec W A) {Good : A → Type 0} {Legal : W → Typ
     -- the part up to word e
     module _ (e : ℕ) (from : C .width * k ≤ e) (upto : e ≤ n) where
       pub mid-is : midOf (C .width * k) (e - C .width * k) d ≡ blanks (e - C .width * k)
-      mid-is = ap (take (e - C .width * k)) rest ∙ take-blank (C .blank) (e - C .width * k) (n - C .width * k) (omega arith)
+      mid-is = ap (take (e - C .width * k)) rest ∙ take-replicate (C .blank) (e - C .width * k) (n - C .width * k) (omega arith)
 
       pub mid-length : length (midOf (C .width * k) (e - C .width * k) d) ≡ e - C .width * k
       mid-length = ap length mid-is ∙ length-replicate (e - C .width * k) (C .blank)
@@ -108,7 +98,7 @@ module _ {W A : Type 0} (C : Codec W A) {Good : A → Type 0} {Legal : W → Typ
       past =
           let q : C .width * k + (e - C .width * k) ≡ e = omega arith in
           let r : n - C .width * k - (e - C .width * k) ≡ n - e = omega arith in
-          (rw q at (sym (drop-drop (e - C .width * k) (C .width * k) d))) ∙ ap (drop (e - C .width * k)) rest ∙ drop-blank (C .blank) (e - C .width * k) (n - C .width * k) ∙ ap blanks r
+          (rw q at (sym (drop-drop (e - C .width * k) (C .width * k) d))) ∙ ap (drop (e - C .width * k)) rest ∙ drop-replicate (C .blank) (e - C .width * k) (n - C .width * k) ∙ ap blanks r
 
       pub mid-back : (t : List W) (b : List A) → size b ≤ e - C .width * k → t ≡ image C (e - C .width * k) b → putMid (C .width * k) (e - C .width * k) d t ≡ image C n (a ++ b)
       mid-back t b f g =

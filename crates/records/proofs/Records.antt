@@ -6,9 +6,9 @@ use native.Mathlib.Nat as NatL
 use native.Mathlib.Omega.{arith}
 use lib.ListN.{length, take, drop, length-append, length-drop}
 use lib.Seq.{take-at, drop-append-add, drop-drop, take-add, length-take-le, take-all}
-use Rattle.records.specs.Lists.{All}
+use Rattle.lists.specs.Lists.{All}
+use Rattle.lists.proofs.Lists.{all-take, all-drop}
 use Rattle.records.specs.Records.{Codec, Faithful, recordAt, recordsFrom, records, wordsOf}
-use Rattle.records.proofs.Lists.{all-take, all-drop}
 
 -- ---- products with a width that is not known
 pub times-more : (w i : ℕ) → w * (i + 1) ≡ w * i + w

@@ -2,18 +2,18 @@
 use mathlib.Core.Path.{_≡_, refl, sym, ap, _∙_}
 use mathlib.Core.List.{List, [], _∷_, append-assoc}
 use mathlib.Core.Bool.{Bool, true, false}
+use mathlib.Core.Logic.{_⊎_, inl, inr}
 use Prim.Native.Nat.{ℕ, zero, suc, _+_, _*_, _-_, _/_, _%_, _<_, _≤_}
 use native.Mathlib.Omega.{arith}
 use native.Mathlib.Numerals.{add-one, add-two, add-three}
+use native.Mathlib.Nat.{zero-add, div-div-eq-div-mul, div-add-mod'}
 use lib.ListN.{length, getD, set, take, drop}
 use lib.Seq.{getD-take, getD-drop, sets-eq}
 use lib.IntN.{ℤ, pos, negsuc, _-ℤ_}
-use mathlib.Core.Logic.{_⊎_, inl, inr}
-use native.Mathlib.Nat.{zero-add, div-div-eq-div-mul, div-add-mod'}
 use lib.Dec.{ltb}
 use borrow.Author.Tests.{lt-ltb, le-ltb, ltb-true, ltb-false}
-use Rattle.records.specs.Lists.{All}
-use Rattle.records.specs.Records.{Faithful, recordAt, putRecord}
+use Rattle.lists.specs.Lists.{All}
+use Rattle.records.specs.Records.{recordAt, putRecord}
 use Rattle.records.specs.Words.{Byte, Word, unsigned, signed, pattern, wordOf, bytesOf, wordCodec, WordsFaithful}
 
 -- ---- −1 − z, by which a word's bits are turned over

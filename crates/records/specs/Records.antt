@@ -3,7 +3,7 @@ use mathlib.Core.Path.{_≡_}
 use mathlib.Core.List.{List, [], _∷_, _++_}
 use Prim.Native.Nat.{ℕ, zero, suc, _+_, _*_, _-_, _/_, _<_, _≤_}
 use lib.ListN.{length, take, drop, replicate}
-use Rattle.records.specs.Lists.{All}
+use Rattle.lists.specs.Lists.{All}
 
 -- How values of A are kept in words W: the number of words of a record, the word that stands past the last record, and the way there and back.
 pub record Codec (W A : Type 0) : Type 0 where

@@ -6,13 +6,13 @@ use mathlib.Core.Logic.{_⊎_, inl, inr}
 use lib.Dec.{T, T-not}
 use lib.IntN.{pos}
 use mir.Facts.{and-yes, yes-and}
+use Rattle.lists.specs.Lists.{All}
+use Rattle.lists.proofs.Tests.{yes-or-no, same-test}
+use Rattle.lists.proofs.Lists.{all-map, all-with, any-elim, all-both, all-pairs}
+use Rattle.lists.proofs.Kept.{keep-all}
 use Rattle.integer.specs.Fraction.{Fraction, Proper, before}
 use Rattle.integer.proofs.Linear.{zarith, neg-zero}
 use Rattle.integer.proofs.Fraction.{cross-turn, cross→at-most, before-at-most-trans, at-most-before-trans}
-use Rattle.records.specs.Lists.{All}
-use Rattle.records.proofs.Lists.{all-map}
-use Rattle.levels.proofs.Tests.{yes-or-no}
-use Rattle.levels.proofs.Lists.{all-with, any-elim, all-both}
 use Rattle.geometry.specs.declared.Line.{Line}
 use Rattle.geometry.specs.Positions.{gap, crosses, meet}
 use Rattle.geometry.specs.Orders.{Uncrossed}
@@ -22,7 +22,6 @@ use Rattle.geometry.proofs.Meet.{not-crosses→det, meet-proper, meet-only}
 use Rattle.sweep.specs.Segments.{Segment, spans, inside, crossInside, spanning}
 use Rattle.sweep.specs.Columns.{Clear}
 use Rattle.sweep.specs.Sweep.{IsEvent, Complete}
-use Rattle.sweep.proofs.Lists.{same-test, keep-all, all-pairs}
 
 -- a position where two lines meet is level with their crossing
 pub meet-level : (l m : Line) (x : Fraction) → gap l m x ≡ pos 0 → T (not (before (meet l m) x)) × T (not (before x (meet l m)))

@@ -5,12 +5,13 @@ use mathlib.Core.List.{List, [], _∷_}
 use mathlib.Core.Option.{none}
 use lib.Dec.{T}
 use lib.IntN.{ℤ, pos}
+use Rattle.lists.specs.Lists.{All, Pairs, Member}
+use Rattle.lists.specs.Tests.{always, bit}
+use Rattle.lists.proofs.Tests.{false-is}
+use Rattle.lists.proofs.Lists.{all-map, all-with, all-both}
+use Rattle.lists.proofs.Members.{all-member, members}
 use Rattle.integer.specs.Fraction.{Fraction, before}
-use Rattle.integer.proofs.Tests.{false-is}
-use Rattle.records.specs.Lists.{All, Pairs}
-use Rattle.records.proofs.Lists.{all-map}
 use Rattle.levels.specs.Levels.{AtMost, Ordered, levels, Rising}
-use Rattle.levels.proofs.Lists.{Member, all-with, all-both, all-member, members}
 use Rattle.levels.proofs.Laws.{levels-all, levels-rising}
 use Rattle.geometry.specs.declared.Line.{Line}
 use Rattle.geometry.specs.Lines.{IsLine}
@@ -19,9 +20,9 @@ use Rattle.geometry.specs.Orders.{Uncrossed}
 use Rattle.geometry.proofs.Heights.{below→not-below, right-trans}
 use Rattle.geometry.proofs.Between.{stays}
 use Rattle.geometry.proofs.Points.{under-down}
-use Rattle.sweep.specs.Lists.{always, bit, sum}
+use Rattle.sweep.specs.Sums.{sum}
 use Rattle.sweep.specs.Columns.{isZero, lower, Clear, Below, upTo, column, winding, ColumnWinding, ColumnOpen}
-use Rattle.sweep.proofs.Lists.{sum-same, sum-none}
+use Rattle.sweep.proofs.Sums.{sum-same, sum-none}
 use Rattle.sweep.proofs.Prefix.{value, prefix, Decided, decided, nothing, up-to}
 use Rattle.sweep.proofs.Slabs.{slabs-count, slabs-all}
 

@@ -4,6 +4,7 @@ use mathlib.Core.Bool.{true, false}
 use mathlib.Core.List.{List, [], _∷_}
 use Prim.Native.Nat.{ℕ, zero, suc}
 use lib.IntN.{ℤ, pos, negsuc}
+use Rattle.lists.specs.Tests.{keep}
 use Rattle.integer.specs.Integer.{_⊕_, _⊖_, _⊗_, ⊝_}
 use Rattle.integer.specs.Compare.{orderOf}
 use Rattle.integer.specs.Fraction.{Fraction, before}
@@ -11,7 +12,7 @@ use Rattle.levels.specs.Levels.{insert, levels}
 use Rattle.geometry.specs.declared.Line.{Line}
 use Rattle.geometry.specs.Lines.{dx, dy, offset, det, numer}
 use Rattle.geometry.specs.Positions.{heights, rightOf, below}
-use Rattle.sweep.specs.Lists.{keep, sum}
+use Rattle.sweep.specs.Sums.{sum}
 use Rattle.sweep.specs.Segments.{Segment, spans}
 use Rattle.sweep.specs.Columns.{Slab, slabs, upTo, column}
 use Rattle.sweep.specs.Sweep.{columns, sweep}

@@ -1,4 +1,4 @@
-pub mod Lists
+pub mod Sums
 pub mod Prefix
 pub mod Slabs
 pub mod Column

@@ -4,8 +4,8 @@ use mathlib.Core.Bool.{Bool, cond}
 use mathlib.Core.List.{List, [], _∷_, _++_}
 use mathlib.Core.Option.{Option, none, some}
 use lib.IntN.{ℤ}
+use Rattle.lists.specs.Lists.{All}
 use Rattle.integer.specs.Fraction.{Fraction, Proper}
-use Rattle.records.specs.Lists.{All}
 use Rattle.levels.specs.Levels.{IfSome, Ordered, levels, next}
 use Rattle.levels.proofs.Next.{beyond}
 use Rattle.levels.proofs.Walk.{beyond-none, next-some, next-none}

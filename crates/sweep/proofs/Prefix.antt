@@ -4,14 +4,13 @@ use mathlib.Core.Bool.{Bool, not, cond}
 use mathlib.Core.List.{List, [], _∷_}
 use mathlib.Core.Logic.{inl, inr}
 use lib.Dec.{T, T-not, not-T}
-use Rattle.records.specs.Lists.{All, Any}
-use Rattle.records.proofs.Lists.{all-map}
+use Rattle.lists.specs.Lists.{All, Any, Member}
+use Rattle.lists.proofs.Tests.{yes-or-no, cond-yes, cond-no, same-test}
+use Rattle.lists.proofs.Lists.{all-map, all-with, any-elim, all-both}
+use Rattle.lists.proofs.Members.{all-member}
 use Rattle.levels.specs.Levels.{AtMost, Level, Ordered, levels, Rising}
-use Rattle.levels.proofs.Tests.{yes-or-no, cond-yes, cond-no}
-use Rattle.levels.proofs.Lists.{Member, all-with, any-elim, all-both, all-member}
 use Rattle.levels.proofs.Order.{at-most-refl}
 use Rattle.levels.proofs.Laws.{levels-all, levels-rising, levels-cover}
-use Rattle.sweep.proofs.Lists.{same-test}
 
 module _ {A : Type 0} (f : A → Bool) where
   abbrev pub Prefix : List A → Type 0

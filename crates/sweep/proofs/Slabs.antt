@@ -8,10 +8,9 @@ use Prim.Native.Nat.{ℕ, zero, suc}
 use native.Mathlib.Nat.{zero-add}
 use lib.Dec.{T}
 use lib.IntN.{ℤ, pos, negsuc}
-use Rattle.integer.proofs.Tests.{true-is, false-is}
-use Rattle.records.specs.Lists.{All, Pairs}
-use Rattle.levels.proofs.Tests.{yes-or-no, cond-cases, cond-no}
-use Rattle.sweep.specs.Lists.{always, bit, count}
+use Rattle.lists.specs.Lists.{All, Pairs}
+use Rattle.lists.specs.Tests.{always, bit, count}
+use Rattle.lists.proofs.Tests.{true-is, false-is, yes-or-no, cond-cases, cond-no}
 use Rattle.sweep.specs.Columns.{isZero, Slab, holds, slabs}
 use Rattle.sweep.proofs.Prefix.{Prefix, value}
 

@@ -7,18 +7,18 @@ use Prim.Native.Nat.{ℕ, _+_}
 use native.Mathlib.Nat.{zero-add, add-zero}
 use lib.Dec.{T, T-not, not-T}
 use mir.Facts.{and-yes}
+use Rattle.lists.specs.Lists.{All, Neighbours, Member}
+use Rattle.lists.specs.Tests.{count}
+use Rattle.lists.proofs.Tests.{yes-or-no}
+use Rattle.lists.proofs.Lists.{all-append, all-map, all-with, any-elim, all-both}
+use Rattle.lists.proofs.Neighbours.{neighbours-all, neighbours-map, neighbours-of, neighbours-both, pairs-neighbours}
+use Rattle.lists.proofs.Counts.{count-append}
 use Rattle.integer.specs.Fraction.{Fraction, Proper, before}
 use Rattle.integer.proofs.Fraction.{before→at-most, at-most-trans, before-at-most-trans}
-use Rattle.records.specs.Lists.{All}
-use Rattle.records.proofs.Lists.{all-append, all-map}
-use Rattle.levels.specs.Levels.{Neighbours, Level, Ordered, levels, Rising}
-use Rattle.levels.proofs.Tests.{yes-or-no}
-use Rattle.levels.proofs.Lists.{Member, all-with, any-elim, all-both}
+use Rattle.levels.specs.Levels.{Level, Ordered, levels, Rising}
 use Rattle.levels.proofs.Laws.{levels-all, levels-members, levels-rising, levels-cover, none-between}
-use Rattle.sweep.specs.Lists.{count}
 use Rattle.sweep.specs.Segments.{Segment, spans, spanning}
 use Rattle.sweep.specs.Sweep.{earlier, columns, sweep, IsEvent, Complete, Column, SweepAll, SweepCount}
-use Rattle.sweep.proofs.Lists.{count-append, neighbours-all, neighbours-map, neighbours-of, neighbours-both, pairs-neighbours}
 use Rattle.sweep.proofs.Between.{Outside, clear-column, same-spanning}
 
 -- events by their positions

@@ -8,8 +8,9 @@ use mathlib.Core.Option.{Option, none, some}
 use Prim.Native.Nat.{zero, suc}
 use lib.Dec.{T}
 use lib.IntN.{ℤ, pos, negsuc}
+use Rattle.lists.specs.Lists.{All, Any}
+use Rattle.lists.specs.Tests.{always, bit, count}
 use Rattle.integer.specs.Fraction.{Fraction, Proper, before}
-use Rattle.records.specs.Lists.{All, Any}
 use Rattle.levels.specs.Levels.{levels}
 use Rattle.geometry.specs.declared.Line.{Line}
 use Rattle.geometry.specs.Lines.{IsLine}
@@ -17,7 +18,7 @@ use Rattle.geometry.specs.Positions.{below}
 use Rattle.geometry.specs.Points.{Point, IsPoint, at, under}
 use Rattle.geometry.specs.Orders.{Uncrossed}
 use Rattle.geometry.specs.Fitness.{BelowBetween}
-use Rattle.sweep.specs.Lists.{always, bit, count, sum}
+use Rattle.sweep.specs.Sums.{sum}
 
 abbrev pub isZero : ℤ → Bool
 isZero (pos zero) = true

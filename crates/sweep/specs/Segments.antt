@@ -1,10 +1,10 @@
 -- What is swept: a segment is a line over the positions from one, included, to another, excluded.
 use mathlib.Core.Bool.{Bool, not, _&&_}
 use mathlib.Core.List.{List}
+use Rattle.lists.specs.Tests.{keep}
 use Rattle.integer.specs.Fraction.{Fraction, before}
 use Rattle.geometry.specs.declared.Line.{Line}
 use Rattle.geometry.specs.Positions.{crosses, meet}
-use Rattle.sweep.specs.Lists.{keep}
 
 pub record Segment : Type 0 where
   pub line : Line

@@ -6,12 +6,12 @@ use mathlib.Core.List.{List, [], _∷_, _++_}
 use mathlib.Core.Logic.{_⊎_}
 use Prim.Native.Nat.{ℕ}
 use lib.Dec.{T}
+use Rattle.lists.specs.Lists.{All, Any, Pairs}
+use Rattle.lists.specs.Tests.{count}
 use Rattle.integer.specs.Fraction.{Fraction, Proper, before}
-use Rattle.records.specs.Lists.{All, Any, Pairs}
 use Rattle.levels.specs.Levels.{levels}
 use Rattle.geometry.specs.Lines.{IsLine}
 use Rattle.geometry.specs.Positions.{meet}
-use Rattle.sweep.specs.Lists.{count}
 use Rattle.sweep.specs.Segments.{Segment, spans, crossInside, spanning}
 use Rattle.sweep.specs.Columns.{Clear}
 

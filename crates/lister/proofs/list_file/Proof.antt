@@ -3,11 +3,11 @@ use Prim.Native.Nat.{_*_, _≤_}
 use native.Mathlib.Omega.{arith}
 use lib.ListN.{length}
 use lib.Seq.{length-take-le}
-use Rattle.records.specs.Limits.{memoryWidth, maxRecords}
-use Rattle.loxurfa.specs.declared.Fractured.{Fractured}
-use Rattle.loxurfa.specs.Answers.{fracturedAnswer, Small}
-use Rattle.lister.proofs.Printing.{put-as, file-refused, file-done}
 use borrow.Author.Needs.{needs}
+use Rattle.records.specs.Limits.{memoryWidth, maxRecords}
+use Rattle.calls.specs.declared.Fractured.{Fractured}
+use Rattle.calls.specs.Answers.{fracturedAnswer, Small}
+use Rattle.lister.proofs.Printing.{put-as, file-refused, file-done}
 use Rattle.lister.proofs.list_file.Statement.{statement}
 use Rattle.lister.proofs.list_file.Tie as tie
 

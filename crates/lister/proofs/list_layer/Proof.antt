@@ -1,9 +1,9 @@
 use mathlib.Core.Path.{subst}
 use native.Mathlib.Omega.{arith}
-use Rattle.loxurfa.specs.declared.Deoverlapped.{Deoverlapped}
-use Rattle.loxurfa.specs.Answers.{deoverlappedAnswer, Small}
-use Rattle.lister.proofs.Printing.{put-as, layer-refused, layer-done}
 use borrow.Author.Needs.{needs}
+use Rattle.calls.specs.declared.Deoverlapped.{Deoverlapped}
+use Rattle.calls.specs.Answers.{deoverlappedAnswer, Small}
+use Rattle.lister.proofs.Printing.{put-as, layer-refused, layer-done}
 use Rattle.lister.proofs.list_layer.Statement.{statement}
 use Rattle.lister.proofs.list_layer.Tie as tie
 

@@ -2,9 +2,9 @@ use mathlib.Core.Path.{sym}
 use Prim.Native.Nat.{_≤_}
 use lib.ListN.{length}
 use lib.Seq.{length-take-le}
-use Rattle.lister.specs.Lister.{listed}
-use Rattle.lister.proofs.Printing.{put-within}
 use borrow.Author.Needs.{needs}
+use Rattle.listing.specs.Lister.{listed}
+use Rattle.lister.proofs.Printing.{put-within}
 use Rattle.lister.proofs.print_listing.Statement.{statement}
 use Rattle.lister.proofs.print_listing.Tie as tie
 

@@ -1,17 +1,17 @@
 use mathlib.Core.Path.{_≡_, sym, _∙_}
+use native.Mathlib.Omega.{arith}
 use lib.ListN.{length}
 use lib.IntN.{pos}
-use native.Mathlib.Omega.{arith}
+use borrow.Author.Needs.{needs}
 use Rattle.records.proofs.Buffer.{blank-of}
 use Rattle.geometry.specs.declared.Checked.the-variants.{Passed}
 use Rattle.geometry.specs.Trapezoids.{layerOf}
 use Rattle.boolean.specs.Operations.{codeAt, result}
 use Rattle.boolean.specs.Space.{marks}
-use Rattle.loxurfa.specs.Rows.{combineChecked}
-use Rattle.loxurfa.specs.Outcomes.{zeros, roomOf}
-use Rattle.loxurfa.proofs.Checks.{CombineReady, combine-ready, combine-refused}
+use Rattle.calls.specs.Rows.{combineChecked}
+use Rattle.calls.specs.Outcomes.{zeros, roomOf}
+use Rattle.calls.proofs.Checks.{CombineReady, combine-ready, combine-refused}
 use Rattle.loxurfa.proofs.Outcomes.{small-refused, cleared-length, cleared-borrowed, blank-zeros, combine-refuses, combine-short, combine-done, small-done}
-use borrow.Author.Needs.{needs}
 use Rattle.loxurfa.proofs.combine.Statement.{statement}
 use Rattle.loxurfa.proofs.combine.Tie as tie
 

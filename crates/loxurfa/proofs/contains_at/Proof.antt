@@ -1,16 +1,17 @@
 use mathlib.Core.Path.{_≡_, sym, _∙_, ap}
 use mathlib.Core.Bool.{Bool}
+use borrow.Author.Needs.{needs}
 use Rattle.geometry.specs.declared.Checked.the-variants.{Passed}
 use Rattle.geometry.specs.Limit.{coordinateLimit}
 use Rattle.geometry.specs.Trapezoids.{layerOf, liesInLayer}
-use Rattle.geometry.specs.Code.{pointOf}
 use Rattle.boolean.specs.Operations.{codeAt, result, says}
-use Rattle.boolean.proofs.Containing.{result-says}
-use Rattle.loxurfa.specs.Rows.{containsChecked}
-use Rattle.loxurfa.proofs.Bounds.{point-small, point-real}
-use Rattle.loxurfa.proofs.Checks.{ContainsReady, contains-ready, contains-refused}
+use Rattle.calls.specs.Rows.{containsChecked}
+use Rattle.calls.proofs.Bounds.{point-real}
+use Rattle.calls.proofs.Checks.{ContainsReady, contains-ready, contains-refused}
+use Rattle.geometry_code.specs.Code.{pointOf}
+use Rattle.boolean_code.proofs.Containing.{result-says}
+use Rattle.rows_code.proofs.Bounds.{point-small}
 use Rattle.loxurfa.proofs.Outcomes.{small-refused, contains-refuses, contains-yes, contains-no}
-use borrow.Author.Needs.{needs}
 use Rattle.loxurfa.proofs.contains_at.Statement.{statement}
 use Rattle.loxurfa.proofs.contains_at.Tie as tie
 

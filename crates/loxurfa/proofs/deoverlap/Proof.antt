@@ -1,18 +1,18 @@
 use mathlib.Core.Path.{_≡_, sym, _∙_}
 use mathlib.Core.List.{[]}
+use native.Mathlib.Omega.{arith}
 use lib.ListN.{length}
 use lib.IntN.{pos}
-use native.Mathlib.Omega.{arith}
+use borrow.Author.Needs.{needs}
 use Rattle.records.proofs.Buffer.{blank-of}
 use Rattle.geometry.specs.declared.Checked.the-variants.{Passed}
 use Rattle.geometry.specs.Trapezoids.{layerOf}
 use Rattle.boolean.specs.Operations.{deoverlapped}
 use Rattle.boolean.specs.Space.{deoverlappedMarks}
-use Rattle.loxurfa.specs.Rows.{deoverlapChecked}
-use Rattle.loxurfa.specs.Outcomes.{zeros, roomOf}
-use Rattle.loxurfa.proofs.Checks.{DeoverlapReady, deoverlap-ready, deoverlap-refused}
+use Rattle.calls.specs.Rows.{deoverlapChecked}
+use Rattle.calls.specs.Outcomes.{zeros, roomOf}
+use Rattle.calls.proofs.Checks.{DeoverlapReady, deoverlap-ready, deoverlap-refused}
 use Rattle.loxurfa.proofs.Outcomes.{small-refused, cleared-length, cleared-borrowed, blank-zeros, deoverlap-refuses, deoverlap-short, deoverlap-done, small-done}
-use borrow.Author.Needs.{needs}
 use Rattle.loxurfa.proofs.deoverlap.Statement.{statement}
 use Rattle.loxurfa.proofs.deoverlap.Tie as tie
 

@@ -1,15 +1,15 @@
 use mathlib.Core.Path.{_≡_, sym, _∙_}
+use native.Mathlib.Omega.{arith}
 use lib.ListN.{length}
 use lib.IntN.{pos}
-use native.Mathlib.Omega.{arith}
+use borrow.Author.Needs.{needs}
 use Rattle.records.proofs.Buffer.{blank-of}
 use Rattle.geometry.specs.declared.Checked.the-variants.{Passed}
 use Rattle.geometry.specs.Trapezoids.{layerOf}
-use Rattle.loxurfa.specs.Rows.{equalChecked}
-use Rattle.loxurfa.specs.Outcomes.{zeros, roomOf}
-use Rattle.loxurfa.proofs.Checks.{EqualReady, equal-ready, equal-refused}
+use Rattle.calls.specs.Rows.{equalChecked}
+use Rattle.calls.specs.Outcomes.{zeros, roomOf}
+use Rattle.calls.proofs.Checks.{EqualReady, equal-ready, equal-refused}
 use Rattle.loxurfa.proofs.Outcomes.{small-refused, cleared-length, cleared-borrowed, blank-zeros, equal-refuses, equal-short, equal-same, equal-different, small-same, small-different}
-use borrow.Author.Needs.{needs}
 use Rattle.loxurfa.proofs.equal.Statement.{statement}
 use Rattle.loxurfa.proofs.equal.Tie as tie
 

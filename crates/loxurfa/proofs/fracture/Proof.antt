@@ -3,10 +3,11 @@ use native.Mathlib.Omega.{arith}
 use lib.ListN.{length}
 use borrow.Author.Needs.{needs}
 use Rattle.geometry.specs.declared.Checked.the-variants.{Passed}
-use Rattle.loxurfa.specs.Rows.{fractureChecked}
-use Rattle.loxurfa.specs.Outcomes.{zeros}
+use Rattle.calls.specs.Rows.{fractureChecked}
+use Rattle.calls.specs.Outcomes.{zeros}
+use Rattle.calls.proofs.Fracturing.{FractureReady, fracture-ready, fracture-refused}
 use Rattle.loxurfa.proofs.Outcomes.{small-refused, cleared-length, cleared-borrowed}
-use Rattle.loxurfa.proofs.Fracturing.{FractureReady, fracture-ready, fracture-refused, fracture-refuses, fracture-short, fracture-done, fracture-small}
+use Rattle.loxurfa.proofs.Fracturing.{fracture-refuses, fracture-short, fracture-done, fracture-small}
 use Rattle.loxurfa.proofs.fracture.Statement.{statement}
 use Rattle.loxurfa.proofs.fracture.Tie as tie
 

@@ -1,9 +1,9 @@
 use mathlib.Core.Path.{sym, _∙_, ap, subst}
-use Rattle.loxurfa.specs.declared.Combined.{Combined}
-use Rattle.loxurfa.specs.Answers.{Answer, combinedAnswer, Small}
-use Rattle.loxurfa.specs.Outcomes.{Outcome}
-use Rattle.loxurfa_c.specs.Packed.{packed}
 use borrow.Author.Needs.{needs}
+use Rattle.calls.specs.declared.Combined.{Combined}
+use Rattle.calls.specs.Answers.{Answer, combinedAnswer, Small}
+use Rattle.calls.specs.Outcomes.{Outcome}
+use Rattle.calls.specs.Packed.{packed}
 use Rattle.loxurfa_c.proofs.loxurfa_combine.Statement.{statement}
 use Rattle.loxurfa_c.proofs.loxurfa_combine.Tie as tie
 

@@ -1,9 +1,9 @@
 use mathlib.Core.Path.{sym, _∙_, ap, subst}
 use native.Mathlib.Omega.{arith}
-use Rattle.connectivity.specs.declared.Connected.{Connected}
-use Rattle.connectivity.specs.Outcome.{connectedAnswer, Small, Outcome}
-use Rattle.loxurfa_c.specs.Packed.{packedCount}
 use borrow.Author.Needs.{needs}
+use Rattle.calls.specs.declared.Connected.{Connected}
+use Rattle.calls.specs.Components.{connectedAnswer, Small, Outcome}
+use Rattle.calls.specs.Packed.{packedCount}
 use Rattle.loxurfa_c.proofs.loxurfa_components.Statement.{statement}
 use Rattle.loxurfa_c.proofs.loxurfa_components.Tie as tie
 

@@ -3,12 +3,12 @@ use mathlib.Core.List.{List}
 use Prim.Native.Nat.{ℕ}
 use lib.IntN.{ℤ}
 use mir.Facts.{toZ-ofZ}
-use Rattle.loxurfa.specs.declared.Containment.{Containment}
-use Rattle.loxurfa.specs.Answers.{pointAnswer, SmallPoint}
-use Rattle.loxurfa.specs.Rows.{pointAt}
-use Rattle.loxurfa.specs.Outcomes.{containsAnswer}
-use Rattle.loxurfa_c.specs.Packed.{packedPoint}
 use borrow.Author.Needs.{needs}
+use Rattle.calls.specs.declared.Containment.{Containment}
+use Rattle.calls.specs.Answers.{pointAnswer, SmallPoint}
+use Rattle.calls.specs.Rows.{pointAt}
+use Rattle.calls.specs.Outcomes.{containsAnswer}
+use Rattle.calls.specs.Packed.{packedPoint}
 use Rattle.loxurfa_c.proofs.loxurfa_contains.Statement.{statement}
 use Rattle.loxurfa_c.proofs.loxurfa_contains.Tie as tie
 

@@ -1,9 +1,9 @@
 use mathlib.Core.Path.{sym, _∙_, ap, subst}
-use Rattle.loxurfa.specs.declared.Deoverlapped.{Deoverlapped}
-use Rattle.loxurfa.specs.Answers.{Answer, deoverlappedAnswer, Small}
-use Rattle.loxurfa.specs.Outcomes.{Outcome}
-use Rattle.loxurfa_c.specs.Packed.{packed}
 use borrow.Author.Needs.{needs}
+use Rattle.calls.specs.declared.Deoverlapped.{Deoverlapped}
+use Rattle.calls.specs.Answers.{Answer, deoverlappedAnswer, Small}
+use Rattle.calls.specs.Outcomes.{Outcome}
+use Rattle.calls.specs.Packed.{packed}
 use Rattle.loxurfa_c.proofs.loxurfa_deoverlap.Statement.{statement}
 use Rattle.loxurfa_c.proofs.loxurfa_deoverlap.Tie as tie
 

@@ -1,10 +1,10 @@
 use mathlib.Core.Path.{sym, _∙_, ap, subst}
 use native.Mathlib.Omega.{arith}
-use Rattle.loxurfa.specs.declared.Equality.{Equality}
-use Rattle.loxurfa.specs.Answers.{EqualityAnswer, equalityAnswer, SmallEquality}
-use Rattle.loxurfa.specs.Outcomes.{Outcome}
-use Rattle.loxurfa_c.specs.Packed.{packedEquality}
 use borrow.Author.Needs.{needs}
+use Rattle.calls.specs.declared.Equality.{Equality}
+use Rattle.calls.specs.Answers.{EqualityAnswer, equalityAnswer, SmallEquality}
+use Rattle.calls.specs.Outcomes.{Outcome}
+use Rattle.calls.specs.Packed.{packedEquality}
 use Rattle.loxurfa_c.proofs.loxurfa_equal.Statement.{statement}
 use Rattle.loxurfa_c.proofs.loxurfa_equal.Tie as tie
 

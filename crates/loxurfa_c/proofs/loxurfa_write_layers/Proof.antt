@@ -1,10 +1,9 @@
 use mathlib.Core.Path.{sym, _∙_, ap, subst}
-use native.Mathlib.Omega.{arith}
 use Prim.Native.Nat.{ℕ}
+use borrow.Author.Needs.{needs}
 use Rattle.files.specs.declared.LayersWritten.{LayersWritten}
 use Rattle.files.specs.Outcomes.{writtenAnswer, Small, Outcome}
-use Rattle.loxurfa_c.specs.Packed.{packedFile}
-use borrow.Author.Needs.{needs}
+use Rattle.calls.specs.Packed.{packedFile}
 use Rattle.loxurfa_c.proofs.loxurfa_write_layers.Statement.{statement}
 use Rattle.loxurfa_c.proofs.loxurfa_write_layers.Tie as tie
 

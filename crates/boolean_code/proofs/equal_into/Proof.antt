@@ -1,0 +1,122 @@
+use mathlib.Core.Path.{_≡_, sym, _∙_}
+use native.Mathlib.Omega.{arith}
+use lib.ListN.{length}
+use lib.IntN.{pos}
+use borrow.Author.Needs.{needs}
+use Rattle.records.proofs.Buffer.{blank-of}
+use Rattle.geometry.specs.Trapezoids.{layerOf}
+use Rattle.boolean.specs.Operations.{difference}
+use Rattle.boolean.specs.declared.Folded.the-variants.{Short, Done}
+use Rattle.boolean.specs.Space.{differenceMarks}
+use Rattle.remainder_code.specs.Code.{overlaysOfLayer}
+use Rattle.remainder_code.proofs.Answers.{within-short, within-done}
+use Rattle.boolean_code.proofs.Combining.{holding-none, folded-none}
+use Rattle.boolean_code.proofs.Comparing.{folded-known, none-left, compared-short, compared-first}
+use Rattle.boolean_code.proofs.equal_into.Statement.{statement}
+use Rattle.boolean_code.proofs.equal_into.Tie as tie
+
+difference-into-requires : tie.Need-difference-into-requires
+difference-into-requires c κs =
+    let s = c .before .before in
+    let a = s .args in
+    ((s .pre .0 .0, s .pre .0 .1, holding-none (a .out .now) (a .room) (s .pre .1 .0 .0), s .pre .1 .0 .1), s .pre .1 .1)
+
+enum-known-f : tie.Need-enum-known-f
+enum-known-f c = search needs
+
+enum-known-f-2 : tie.Need-enum-known-f-2
+enum-known-f-2 c = search needs
+
+clear-requires : tie.Need-clear-requires
+clear-requires c κs = search needs
+
+second-side-requires : tie.Need-second-side-requires
+second-side-requires c κs =
+    let s = c .before .before .before .before .before .before .before .before .before .before .before .before .before .before in
+    let a = s .args in
+    let A = layerOf (a .first .now) in
+    let B = layerOf (a .second .now) in
+    let d = c .before .before .before .before .before .before .before .before .before .before .before .difference-into in
+    let t = d .last .1 .1 .1 .0 in
+    let g = folded-none (a .out .now) (a .room) (s .pre .1 .0 .0) (difference A B) (differenceMarks 0 A B) (d .result) t (d .ensures .0) in
+    let n = length (a .out .now) in
+    let e = c .before .before .before .before .before .before .before .f2 .given .1 in
+    let u = within-done overlaysOfLayer _ _ (d .result) e (d .ensures .1 .0) in
+    let k = folded-known n (a .room) (difference A B) (differenceMarks 0 A B) (d .result) (Done _ _) t e g in
+    let w = c .before .before .before .before .clear in
+    let z = blank-of (pos 0) (w .last .0) (length t) (w .ensures) in
+    let l : length (w .last .0) ≡ n = w .kept .0 ∙ d .kept .1 .1 .1 .0 in (
+      (s .pre .0 .0, s .pre .0 .1, record { blank = z; wide = omega (arith, l, s .pre .1 .0 .0 .wide) }, s .pre .1 .0 .1),
+      ((d .ensures .1 .1, d .kept .1 .1 .1 .1 .0 ∙ s .pre .1 .1 .1 ∙ sym l), (none-left (difference A B) (sym (k .1 .0) ∙ c .before .before .if1 .taken), k .0, u)),
+    )
+
+same-length : tie.Need-same-length
+same-length c = search needs
+
+same-length-2 : tie.Need-same-length-2
+same-length-2 c = search needs
+
+returns : tie.Need-returns
+returns c = search needs
+
+same-length-3 : tie.Need-same-length-3
+same-length-3 c = search needs
+
+same-length-4 : tie.Need-same-length-4
+same-length-4 c = search needs
+
+returns-2 : tie.Need-returns-2
+returns-2 c =
+    let s = c .before .before .before .before .before .before .before .before in
+    let a = s .args in
+    let A = layerOf (a .first .now) in
+    let B = layerOf (a .second .now) in
+    let d = c .before .before .before .before .before .difference-into in
+    let t = d .last .1 .1 .1 .0 in
+    let g = folded-none (a .out .now) (a .room) (s .pre .1 .0 .0) (difference A B) (differenceMarks 0 A B) (d .result) t (d .ensures .0) in
+    let n = length (a .out .now) in
+    let e = c .before .f .given .1 in
+    let u = within-short overlaysOfLayer _ (d .result) e (d .ensures .1 .0) in
+    let k = folded-known n (a .room) (difference A B) (differenceMarks 0 A B) (d .result) (Short _) t e g in
+    (compared-short (a .room) A B n t _ k, (omega (arith, u), (blank-of (pos 0) t n (k .1), d .ensures .1 .1)))
+
+same-length-5 : tie.Need-same-length-5
+same-length-5 c = search needs
+
+same-length-6 : tie.Need-same-length-6
+same-length-6 c = search needs
+
+returns-3 : tie.Need-returns-3
+returns-3 c =
+    let s = c .before .before .before .before .before .before .before .before .before .before .before .before in
+    let a = s .args in
+    let A = layerOf (a .first .now) in
+    let B = layerOf (a .second .now) in
+    let d = c .before .before .before .before .before .before .before .before .before .difference-into in
+    let t = d .last .1 .1 .1 .0 in
+    let g = folded-none (a .out .now) (a .room) (s .pre .1 .0 .0) (difference A B) (differenceMarks 0 A B) (d .result) t (d .ensures .0) in
+    let n = length (a .out .now) in
+    let e = c .before .before .before .before .before .f2 .given .1 in
+    let u = within-done overlaysOfLayer _ _ (d .result) e (d .ensures .1 .0) in
+    let k = folded-known n (a .room) (difference A B) (differenceMarks 0 A B) (d .result) (Done _ _) t e g in
+    let z = blank-of (pos 0) (c .before .before .clear .last .0) (length t) (c .before .before .clear .ensures) in
+    (compared-first (a .room) A B n t _ _ (omega (arith, c .if1 .left)) k, (omega (arith, u), (z, d .ensures .1 .1)))
+
+pub equal-into-spec : {M : Type 1} → statement M
+equal-into-spec =
+    tie.close
+    (tie.spec
+    difference-into-requires
+    enum-known-f
+    enum-known-f-2
+    clear-requires
+    second-side-requires
+    same-length
+    same-length-2
+    returns
+    same-length-3
+    same-length-4
+    returns-2
+    same-length-5
+    same-length-6
+    returns-3)

@@ -1,0 +1,66 @@
+use mathlib.Core.Path.{sym, _∙_, ap, subst}
+use Prim.Native.Nat.{_-_}
+use native.Mathlib.Omega.{arith}
+use borrow.Author.Needs.{needs}
+use Rattle.lists.specs.Lists.{All}
+use Rattle.geometry.specs.declared.Trapezoid.{Trapezoid}
+use Rattle.geometry.specs.Limit.{coordinateLimit, OnGrid}
+use Rattle.geometry.specs.Fitness.{FitFor}
+use Rattle.geometry.specs.Trapezoids.{linesOf, liesIn}
+use Rattle.geometry.proofs.Layers.{all-record}
+use Rattle.geometry_code.specs.Code.{pointOf}
+use Rattle.boolean_code.proofs.Containing.{Containing, contain-start, contain-found, contain-turn, contain-stop}
+use Rattle.boolean_code.proofs.lies_in.Statement.{statement}
+use Rattle.boolean_code.proofs.lies_in.Tie as tie
+
+abbrev Inv-loop : tie.InvT-loop
+Inv-loop layer x y d n i₀ i = Containing (pointOf x y d) layer i
+
+abbrev μ-loop : tie.MeasureT-loop
+μ-loop layer x y d n i₀ i = n - i
+
+loop-holds : tie.Need-loop-holds Inv-loop μ-loop
+loop-holds c = contain-start (pointOf (c .args .x) (c .args .y) (c .args .d)) (c .args .layer .now)
+
+load-requires : tie.Need-load-requires Inv-loop μ-loop
+load-requires c κs = omega (arith, c .loop-test .taken)
+
+contains-requires : tie.Need-contains-requires Inv-loop μ-loop
+contains-requires c κs =
+    let s = c .before .before .before in
+    let f = all-record (FitFor coordinateLimit) (s .args .layer .now) (c .before .before .loop .i) (s .pre .0) (c .before .loop-test .taken) in
+    (subst (λ (t : Trapezoid). All (OnGrid coordinateLimit) (linesOf t)) (sym (c .load .ensures)) (f .grid), s .pre .1)
+
+returns : tie.Need-returns Inv-loop μ-loop
+returns c =
+    let k = c .before .before in
+    contain-found (k .before .before .loop .inv) (k .before .loop-test .taken) (ap (liesIn _) (sym (k .load .ensures)) ∙ sym (c .before .contains .ensures) ∙ c .if1 .taken)
+
+add-i : tie.Need-add-i Inv-loop μ-loop
+add-i c = search needs
+
+loop-less : tie.Need-loop-less Inv-loop μ-loop
+loop-less c = search needs
+
+loop-again : tie.Need-loop-again Inv-loop μ-loop
+loop-again c =
+    let k = c .before .before in
+    contain-turn (k .before .before .loop .inv) (k .before .loop-test .taken) (ap (liesIn _) (sym (k .load .ensures)) ∙ sym (c .before .contains .ensures) ∙ c .if1 .left)
+
+returns-2 : tie.Need-returns-2 Inv-loop μ-loop
+returns-2 c = contain-stop (c .before .loop .inv) (c .loop-test .left)
+
+pub lies-in-spec : {M : Type 1} → statement M
+lies-in-spec =
+    tie.close
+    (tie.spec
+    Inv-loop
+    μ-loop
+    loop-holds
+    load-requires
+    contains-requires
+    returns
+    add-i
+    loop-less
+    loop-again
+    returns-2)

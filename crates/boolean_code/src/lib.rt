@@ -1,0 +1,237 @@
+// The set operations by code, the equality test and the point question, for layers of fit trapezoids.
+use boolean::Compared;
+use boolean::Folded;
+use integer::Int;
+ghost use mathlib.Core.Path.{_≡_};
+ghost use mathlib.Core.Bool.{not, _&&_, _||_};
+ghost use mathlib.Core.List.{[]};
+ghost use Prim.Native.Nat.{_<_, _≤_};
+ghost use lib.ListN.{length};
+ghost use lib.IntN.{pos};
+ghost use Rattle.lists.specs.Lists.{All};
+ghost use Rattle.records.specs.Limits.{maxRecords};
+ghost use Rattle.records.specs.Records.{Blank};
+ghost use Rattle.geometry.specs.Limit.{coordinateLimit};
+ghost use Rattle.geometry.specs.Fitness.{FitFor, Layer};
+ghost use Rattle.geometry.specs.Trapezoids.{layerOf, liesInLayer};
+ghost use Rattle.boolean.specs.Operations.{union, either-not-both, codeAt, result, difference, says as saysOf};
+ghost use Rattle.boolean.specs.Space.{enough, space, marks, differenceMarks};
+ghost use Rattle.geometry_code.specs.Code.{pointOf, SmallPoint};
+ghost use Rattle.trapezoids_code.specs.Tails.{Borrowed};
+ghost use Rattle.remainder_code.specs.Code.{overlaysOfLayer, maxOverlays, OverlaysWithin, FoldedAs};
+ghost use Rattle.boolean_code.specs.Code.{ComparedAs, ComparedWithin};
+
+// The first layer, and then the second less the first.
+fn union_into(
+    first: &[i32],
+    second: &[i32],
+    out: &mut [i32],
+    scratch: &mut [i32],
+    room: usize,
+) -> Folded
+    requires { ⌜ Layer (now first) × Layer (now second) × Borrowed (now out) room × (room ≤ maxRecords) ⌝ }
+    requires { ⌜ Blank (pos 0) (now scratch) × (length (now scratch) ≡ length (now out)) ⌝ }
+    ensures { λ r. ⌜ FoldedAs (length (now (out .entry))) room (result union (layerOf (now (first .entry))) (layerOf (now (second .entry)))) (marks union (layerOf (now (first .entry))) (layerOf (now (second .entry)))) r (now (out .exit)) ⌝ }
+    ensures { λ r. ⌜ OverlaysWithin overlaysOfLayer r ⌝ }
+    ensures { λ _. ⌜ Blank (pos 0) (now (scratch .exit)) ⌝ }
+{
+    let n = first.len() / records::MEMORY_WIDTH;
+    if room < n {
+        return Folded::Short(0);
+    }
+    let end = records::MEMORY_WIDTH * n;
+    records_code::copy(&first[..end], &mut out[..end]);
+    difference_code::difference_into(n, second, first, out, scratch, room)
+}
+
+// The first layer less the second, and then the second less the first.
+fn either_into(
+    first: &[i32],
+    second: &[i32],
+    out: &mut [i32],
+    scratch: &mut [i32],
+    room: usize,
+) -> Folded
+    requires { ⌜ Layer (now first) × Layer (now second) × Borrowed (now out) room × (room ≤ maxRecords) ⌝ }
+    requires { ⌜ Blank (pos 0) (now scratch) × (length (now scratch) ≡ length (now out)) ⌝ }
+    ensures { λ r. ⌜ FoldedAs (length (now (out .entry))) room (result either-not-both (layerOf (now (first .entry))) (layerOf (now (second .entry)))) (marks either-not-both (layerOf (now (first .entry))) (layerOf (now (second .entry)))) r (now (out .exit)) ⌝ }
+    ensures { λ r. ⌜ OverlaysWithin maxOverlays r ⌝ }
+    ensures { λ _. ⌜ Blank (pos 0) (now (scratch .exit)) ⌝ }
+{
+    let f = difference_code::difference_into(0, first, second, out, scratch, room);
+    let Folded::Done {
+        trapezoids: n,
+        overlays: made,
+    } = f
+    else {
+        return f;
+    };
+    let g = difference_code::difference_into(n, second, first, out, scratch, room);
+    remainder_code::more_overlays(made, g)
+}
+
+// The set operation with the code's number.
+pub fn combine_into(
+    code: u32,
+    first: &[i32],
+    second: &[i32],
+    out: &mut [i32],
+    scratch: &mut [i32],
+    room: usize,
+) -> Folded
+    requires { ⌜ (code < 5) × Layer (now first) × Layer (now second) ⌝ }
+    requires { ⌜ Borrowed (now out) room × (room ≤ maxRecords) ⌝ }
+    requires { ⌜ Blank (pos 0) (now scratch) × (length (now scratch) ≡ length (now out)) ⌝ }
+    ensures { λ r. ⌜ FoldedAs (length (now (out .entry))) room (result (codeAt code) (layerOf (now (first .entry))) (layerOf (now (second .entry)))) (marks (codeAt code) (layerOf (now (first .entry))) (layerOf (now (second .entry)))) r (now (out .exit)) ⌝ }
+    ensures { λ r. ⌜ OverlaysWithin maxOverlays r ⌝ }
+    ensures { λ _. ⌜ Blank (pos 0) (now (scratch .exit)) ⌝ }
+{
+    if code == 0 {
+        return union_into(first, second, out, scratch, room);
+    }
+    if code == 1 {
+        return intersection_code::intersection_into(first, second, out, room);
+    }
+    if code == 2 {
+        return difference_code::difference_into(0, first, second, out, scratch, room);
+    }
+    if code == 3 {
+        return difference_code::difference_into(0, second, first, out, scratch, room);
+    }
+    either_into(first, second, out, scratch, room)
+}
+
+// The equality test where nothing is left of the first layer less the second, which took `made` overlays.
+fn second_side(
+    made: usize,
+    first: &[i32],
+    second: &[i32],
+    out: &mut [i32],
+    scratch: &mut [i32],
+    room: usize,
+) -> Compared
+    requires { ⌜ Layer (now first) × Layer (now second) × Borrowed (now out) room × (room ≤ maxRecords) ⌝ }
+    requires { ⌜ Blank (pos 0) (now scratch) × (length (now scratch) ≡ length (now out)) ⌝ }
+    requires { ⌜ (difference (layerOf (now first)) (layerOf (now second)) ≡ []) × (space room (differenceMarks 0 (layerOf (now first)) (layerOf (now second))) ≡ enough made) × (made ≤ overlaysOfLayer) ⌝ }
+    ensures { λ r. ⌜ ComparedAs room (layerOf (now (first .entry))) (layerOf (now (second .entry))) r ⌝ }
+    ensures { λ r. ⌜ ComparedWithin maxOverlays r ⌝ }
+    ensures { λ _. ⌜ Blank (pos 0) (now (out .exit)) × Blank (pos 0) (now (scratch .exit)) ⌝ }
+{
+    let f = difference_code::difference_into(0, second, first, out, scratch, room);
+    match f {
+        Folded::Short(overlays) => Compared::TooShort(made + overlays),
+        Folded::Done {
+            trapezoids,
+            overlays,
+        } => {
+            records_code::clear(out);
+            if trapezoids == 0 {
+                return Compared::Same(made + overlays);
+            }
+            Compared::Differs {
+                side: 1,
+                overlays: made + overlays,
+            }
+        }
+    }
+}
+
+// Whether no point lies in one of the layers and not in the other.
+pub fn equal_into(
+    first: &[i32],
+    second: &[i32],
+    out: &mut [i32],
+    scratch: &mut [i32],
+    room: usize,
+) -> Compared
+    requires { ⌜ Layer (now first) × Layer (now second) ⌝ }
+    requires { ⌜ Borrowed (now out) room × (room ≤ maxRecords) ⌝ }
+    requires { ⌜ Blank (pos 0) (now scratch) × (length (now scratch) ≡ length (now out)) ⌝ }
+    ensures { λ r. ⌜ ComparedAs room (layerOf (now (first .entry))) (layerOf (now (second .entry))) r ⌝ }
+    ensures { λ r. ⌜ ComparedWithin maxOverlays r ⌝ }
+    ensures { λ _. ⌜ Blank (pos 0) (now (out .exit)) × Blank (pos 0) (now (scratch .exit)) ⌝ }
+{
+    let f = difference_code::difference_into(0, first, second, out, scratch, room);
+    match f {
+        Folded::Short(overlays) => Compared::TooShort(overlays),
+        Folded::Done {
+            trapezoids,
+            overlays,
+        } => {
+            records_code::clear(out);
+            if trapezoids == 0 {
+                return second_side(overlays, first, second, out, scratch, room);
+            }
+            Compared::Differs { side: 0, overlays }
+        }
+    }
+}
+
+fn either(a: bool, b: bool) -> bool
+    ensures { λ r. ⌜ r ≡ a || b ⌝ }
+{
+    if a {
+        return true;
+    }
+    b
+}
+
+fn both(a: bool, b: bool) -> bool
+    ensures { λ r. ⌜ r ≡ a && b ⌝ }
+{
+    if a {
+        return b;
+    }
+    false
+}
+
+fn but_not(a: bool, b: bool) -> bool
+    ensures { λ r. ⌜ r ≡ a && not b ⌝ }
+{
+    if a {
+        if b {
+            return false;
+        }
+        return true;
+    }
+    false
+}
+
+// Whether the point (x/d, y/d) lies in a layer.
+pub fn lies_in(layer: &[i32], x: Int, y: Int, d: Int) -> bool
+    requires { ⌜ All (FitFor coordinateLimit) (layerOf (now layer)) × SmallPoint x y d ⌝ }
+    ensures { λ r. ⌜ r ≡ liesInLayer (pointOf x y d) (layerOf (now (layer .entry))) ⌝ }
+{
+    let n = layer.len() / records::MEMORY_WIDTH;
+    let mut i = 0;
+    while i < n {
+        let t = trapezoids_code::load(layer, i);
+        if trapezoids_code::contains(t, x, y, d) {
+            return true;
+        }
+        i += 1;
+    }
+    false
+}
+
+// Whether a point lies in the result with this code, by whether it lies in the first layer and in the second.
+pub fn says(code: u32, first: bool, second: bool) -> bool
+    requires { ⌜ code < 5 ⌝ }
+    ensures { λ r. ⌜ r ≡ saysOf (codeAt code) first second ⌝ }
+{
+    if code == 0 {
+        return either(first, second);
+    }
+    if code == 1 {
+        return both(first, second);
+    }
+    if code == 2 {
+        return but_not(first, second);
+    }
+    if code == 3 {
+        return but_not(second, first);
+    }
+    let a = but_not(first, second);
+    let b = but_not(second, first);
+    either(a, b)
+}

@@ -1,0 +1,137 @@
+-- The definitions compute, where no theorem can see a mistake: the order of the rows, and of the bytes of a word.
+use mathlib.Core.Path.{_≡_, refl}
+use mathlib.Core.List.{List, [], _∷_}
+use Prim.Native.Nat.{ℕ}
+use lib.IntN.{ℤ, pos, negsuc}
+use Rattle.lists.specs.Lists.{cut}
+use Rattle.lists.specs.Tests.{keep}
+use Rattle.integer.specs.Integer.{_⊕_, _⊖_, _⊗_, ⊝_}
+use Rattle.integer.specs.Compare.{orderOf}
+use Rattle.integer.specs.Fraction.{before}
+use Rattle.records.specs.Limits.{sized}
+use Rattle.records.specs.Records.{recordAt, recordsFrom, wordsOf}
+use Rattle.records.specs.Words.{unsigned, signed, wordOf, bytesOf, wordCodec}
+use Rattle.levels.specs.Levels.{insert, levels}
+use Rattle.geometry.specs.declared.Trapezoid.{Trapezoid}
+use Rattle.geometry.specs.Limit.{onGrid}
+use Rattle.geometry.specs.Lines.{dx, dy, offset, det, numer}
+use Rattle.geometry.specs.Positions.{crosses, root, meet, heights, rightOf, below}
+use Rattle.geometry.specs.Trapezoids.{trapezoidOf, trapezoidWords}
+use Rattle.geometry.specs.Fitness.{lineOnGrid, isLine, belowBetween, shapeVerdict, verdict, firstRefusal}
+use Rattle.geometry.specs.Polygons.{vertexOnGrid}
+use Rattle.sweep.specs.Sums.{sum}
+use Rattle.sweep.specs.Segments.{spans, inside, crossInside}
+use Rattle.sweep.specs.Columns.{slabs, upTo, column}
+use Rattle.sweep.specs.Sweep.{columns, sweep}
+use Rattle.boolean.specs.Space.{space}
+use Rattle.fracture.specs.Polygons.{edge, edgesFrom, edges}
+use Rattle.fracture.specs.Fracture as fractures
+use Rattle.files.specs.Formats.{fileSized}
+use Rattle.files.specs.Directory.{numberFrom, countOf, pairLength, endOf, pairsFrom, directoryOf}
+use Rattle.files.specs.Contents.{lengthsFrom, vertexOf, vertexWords}
+use Rattle.files.specs.Rows.{firstOffGrid, polygonFileChecked, layersChecked, layerFileChecked}
+use Rattle.files.specs.Outcomes as files
+use Rattle.calls.specs.Components as connectivity
+use Rattle.calls.specs.Answers.{refused, refused-equality, refused-point}
+use Rattle.calls.specs.Rows.{pointPasses, fractureChecked, combineChecked, deoverlapChecked, equalChecked, containsChecked}
+use Rattle.calls.specs.Outcomes.{fractureOutcome, combined, deoverlapOutcome, equalOutcome, containsAnswer}
+use Rattle.calls.specs.Table.{box, Q, layer, q, vertex, fileOf, point}
+
+-- ---- "Rows are checked downward": each input below breaks two rows or more
+-- no height (row 11), and beyond the grid (row 7)
+abbrev flat : Trapezoid
+flat = box 0 1 4 1
+
+abbrev far : Trapezoid
+far = box 0 0 2049 4
+
+-- a number of words that is no multiple of 24
+abbrev odd : List ℤ
+odd = pos 1 ∷ []
+
+-- row 1, then 2, then 7 to 11, then 12 (Q and no room)
+abbrev Combined : Type 0
+Combined =
+    (combined 5 odd (layer (far ∷ [])) [] [] .answer ≡ refused 1 0)
+    × (combined 5 (layer (far ∷ [])) q [] [] .answer ≡ refused 2 0)
+    × (combined 0 (layer (far ∷ [])) q [] [] .answer ≡ refused 7 0)
+    × (combined 0 q q [] [] .answer ≡ refused 12 0)
+
+-- "7 to 11 are completed for one piece before the next, A's pieces before B's, numbered on from A"
+abbrev Places : Type 0
+Places =
+    (combined 0 (layer (Q ∷ flat ∷ far ∷ [])) (layer (far ∷ [])) [] [] .answer ≡ refused 11 1)
+    × (combined 0 q (layer (Q ∷ far ∷ flat ∷ [])) [] [] .answer ≡ refused 7 2)
+    × (equalOutcome (layer (flat ∷ [])) (layer (far ∷ [])) [] [] .answer ≡ refused-equality 11 0)
+
+-- row 1, then 2, then 3, then 7 to 11
+abbrev Asked : Type 0
+Asked =
+    (containsAnswer (point 0 0 0) odd [] 5 ≡ refused-point 1 0)
+    × (containsAnswer (point 0 0 0) (layer (far ∷ [])) [] 5 ≡ refused-point 2 0)
+    × (containsAnswer (point 0 0 0) (layer (far ∷ [])) [] 0 ≡ refused-point 3 0)
+    × (containsAnswer (point 0 0 1) (layer (far ∷ [])) [] 0 ≡ refused-point 7 0)
+
+-- row 1, then 7 to 11, of the other calls
+abbrev Others : Type 0
+Others =
+    (deoverlapOutcome (layer (far ∷ [])) odd odd .answer ≡ refused 1 0)
+    × (deoverlapOutcome (layer (far ∷ [])) [] [] .answer ≡ refused 7 0)
+    × (equalOutcome (layer (far ∷ [])) [] odd odd .answer ≡ refused-equality 1 0)
+    × (connectivity.componentsOutcome (layer (far ∷ [])) [] .answer ≡ connectivity.refused 1 0)
+    × (connectivity.componentsOutcome (layer (far ∷ [])) (0 ∷ []) .answer ≡ connectivity.refused 7 0)
+
+-- ---- files: row 1, then 4, 5, 6, 7, then 12
+abbrev bytes : List ℤ → List ℕ
+bytes ws = wordsOf wordCodec ws
+
+-- three bytes; 65 polygons; a length of 2; a vertex beyond the grid
+abbrev Polygons : Type 0
+Polygons =
+    (fractureOutcome (1 ∷ 2 ∷ 3 ∷ []) odd odd .answer ≡ refused 1 0)
+    × (fractureOutcome (1 ∷ 2 ∷ 3 ∷ []) [] [] .answer ≡ refused 4 0)
+    × (fractureOutcome (bytes (pos 65 ∷ pos 1 ∷ [])) [] [] .answer ≡ refused 5 0)
+    × (fractureOutcome (bytes (pos 1 ∷ pos 0 ∷ pos 2 ∷ pos 2049 ∷ pos 0 ∷ [])) [] [] .answer ≡ refused 6 0)
+    × (fractureOutcome (fileOf (vertex 2049 0 ∷ vertex 2 0 ∷ vertex 0 2 ∷ [])) [] [] .answer ≡ refused 7 0)
+    × (fractureOutcome (fileOf (vertex 0 0 ∷ vertex 2 0 ∷ vertex 0 2 ∷ [])) [] [] .answer ≡ refused 12 0)
+
+-- 17 layers; an offset of 1; a trapezoid beyond the grid; and an output that is too short for any of them. "in a book they are numbered through all
+-- layers": the second layer's first trapezoid is number 1.
+abbrev Layers : Type 0
+Layers =
+    (files.readLayers (1 ∷ 2 ∷ 3 ∷ []) [] .answer ≡ files.refused 4 0)
+    × (files.readLayers (bytes (pos 17 ∷ pos 1 ∷ [])) [] .answer ≡ files.refused 5 0)
+    × (files.readLayers (bytes (pos 1 ∷ pos 1 ∷ pos 1 ∷ layer (far ∷ []))) [] .answer ≡ files.refused 6 0)
+    × (files.readLayers (bytes (pos 1 ∷ pos 0 ∷ pos 1 ∷ layer (far ∷ []))) [] .answer ≡ files.refused 7 0)
+    × (files.readLayers (bytes (pos 1 ∷ pos 0 ∷ pos 1 ∷ q)) [] .answer ≡ files.refused 12 0)
+    × (files.writeLayers (pos 17 ∷ pos 1 ∷ []) [] .answer ≡ files.refused 5 0)
+    × (files.writeLayers (pos 2 ∷ pos 0 ∷ pos 1 ∷ pos 1 ∷ pos 1 ∷ layer (Q ∷ far ∷ [])) [] .answer ≡ files.refused 7 1)
+    × (files.writeLayers (pos 1 ∷ pos 0 ∷ pos 1 ∷ q) [] .answer ≡ files.refused 12 0)
+
+-- ---- "Files are signed 32-bit words, low byte first."
+abbrev Bytes : Type 0
+Bytes =
+    (bytesOf (pos 258) ≡ 2 ∷ 1 ∷ 0 ∷ 0 ∷ [])
+    × (bytesOf (negsuc 2047) ≡ 0 ∷ 248 ∷ 255 ∷ 255 ∷ [])
+    × (wordOf (2 ∷ 1 ∷ 0 ∷ 0 ∷ []) ≡ pos 258)
+    × (wordOf (0 ∷ 248 ∷ 255 ∷ 255 ∷ []) ≡ negsuc 2047)
+
+examples : Combined × Places × Asked × Others × Polygons × Layers × Bytes
+unfolding _⊕_ _⊖_ _⊗_ ⊝_ orderOf before sized recordAt recordsFrom wordsOf unsigned signed wordOf bytesOf insert levels
+    onGrid dx dy offset det numer crosses root meet heights rightOf below trapezoidOf trapezoidWords
+    lineOnGrid isLine belowBetween shapeVerdict verdict firstRefusal keep sum spans inside crossInside slabs upTo column columns sweep space
+    fileSized numberFrom countOf pairLength endOf pairsFrom directoryOf lengthsFrom cut vertexOf vertexWords vertexOnGrid firstOffGrid polygonFileChecked
+    layersChecked layerFileChecked files.readLayers files.writeLayers
+    edge edgesFrom edges fractures.mark fractures.marks fractures.crossingsWith fractures.crossings fractures.events
+    fractures.trapezoids fractures.fracture fractures.fractureAll
+    connectivity.listsSized connectivity.componentsChecked connectivity.componentsOutcome
+    pointPasses fractureChecked combineChecked deoverlapChecked equalChecked containsChecked fractureOutcome combined deoverlapOutcome equalOutcome containsAnswer
+examples = (
+  (refl, refl, refl, refl),
+  (refl, refl, refl),
+  (refl, refl, refl, refl),
+  (refl, refl, refl, refl, refl),
+  (refl, refl, refl, refl, refl, refl),
+  (refl, refl, refl, refl, refl, refl, refl, refl),
+  (refl, refl, refl, refl),
+)

@@ -1,0 +1,12 @@
+pub mod PackedApart
+pub mod Rows
+pub mod Bounds
+pub mod Checks
+pub mod Room
+pub mod Success
+pub mod Same
+pub mod Components
+pub mod Fracturing
+pub mod Exact
+pub mod Table
+mod Examples

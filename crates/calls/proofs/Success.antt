@@ -1,0 +1,119 @@
+-- What a success gives: the layers that it was lent are fit, and its records are the words of the result, which is fit too.
+use mathlib.Core.Path.{_≡_, refl, sym, _∙_, ap, subst}
+use mathlib.Core.List.{List, []}
+use Prim.Native.Nat.{ℕ, _*_, _%_, _≤_}
+use native.Mathlib.Nat.{mul-mod-right}
+use native.Mathlib.Omega.{arith}
+use lib.Dec.{T, leb, eqb, le→leb, eqb-refl}
+use lib.IntN.{ℤ}
+use lib.ListN.{length}
+use mir.Facts.{yes-and}
+use Rattle.lists.specs.Lists.{All}
+use Rattle.lists.proofs.Lists.{all-of}
+use Rattle.records.specs.Limits.{memoryWidth, maxRecords, sized}
+use Rattle.records.specs.Records.{wordsOf}
+use Rattle.records.proofs.Records.{length-words, records-words}
+use Rattle.records.proofs.Buffer.{image-take}
+use Rattle.geometry.specs.declared.Trapezoid.{Trapezoid}
+use Rattle.geometry.specs.declared.Checked.{Checked}
+use Rattle.geometry.specs.declared.Checked.the-variants.{Passed, Refused}
+use Rattle.geometry.specs.Limit.{coordinateLimit}
+use Rattle.geometry.specs.Trapezoids.{trapezoidCodec, layerOf}
+use Rattle.geometry.specs.Fitness.{FitFor, firstRefusal}
+use Rattle.geometry.proofs.Fitness.{layer-exact}
+use Rattle.geometry.proofs.Trapezoids.{trapezoid-faithful}
+use Rattle.boolean.specs.Operations.{Code, codeAt, result, deoverlapped}
+use Rattle.boolean.specs.Space.{Mark, Space, enough, short, space, marks, deoverlappedMarks}
+use Rattle.boolean.proofs.Kept.{result-fit, deoverlapped-fit}
+use Rattle.calls.specs.Rows.{combineChecked, deoverlapChecked}
+use Rattle.calls.specs.Outcomes.{roomOf, recordsOf, written, outcome, combined, deoverlapOutcome}
+use Rattle.calls.specs.Answers.{isDone}
+use Rattle.calls.specs.Statements.{FitLayer}
+use Rattle.calls.proofs.Room.{isEnough, result-room, deoverlapped-room}
+use Rattle.calls.proofs.Checks.{combine-ready, deoverlap-ready}
+
+abbrev pub FitTrapezoids : List Trapezoid → Type 0
+FitTrapezoids ts = All (FitFor coordinateLimit) ts
+
+-- ---- what a success wrote
+pub record Wrote (s : Space) (ts : List Trapezoid) (records : List ℤ) : Type 0 where
+  pub room : T (isEnough s)
+  pub is : records ≡ wordsOf trapezoidCodec ts
+
+wrote : (n : ℕ) (ts : List Trapezoid) (s : Space) → T (isDone (written n ts s .answer)) → Wrote s ts (recordsOf (written n ts s .answer) (written n ts s .out))
+wrote n ts (enough cuts) h = record { room = tt; is = image-take trapezoidCodec trapezoid-faithful n ts }
+wrote n ts (short cuts) h = absurd h
+
+pub passed : (c : Checked) (out scratch : List ℤ) (ts : List Trapezoid) (ms : List Mark) → T (isDone (outcome c out scratch ts ms .answer)) → c ≡ Passed
+passed Passed out scratch ts ms h = refl
+passed (Refused number place) out scratch ts ms h = absurd h
+
+pub outcome-wrote : (c : Checked) (out scratch : List ℤ) (ts : List Trapezoid) (ms : List Mark) → T (isDone (outcome c out scratch ts ms .answer))
+    → Wrote (space (roomOf out) ms) ts (recordsOf (outcome c out scratch ts ms .answer) (outcome c out scratch ts ms .out))
+outcome-wrote Passed out scratch ts ms h = wrote (length out) ts (space (roomOf out) ms) h
+outcome-wrote (Refused number place) out scratch ts ms h = absurd h
+
+-- ---- the words of a list of trapezoids
+pub layer-words : (ts : List Trapezoid) → layerOf (wordsOf trapezoidCodec ts) ≡ ts
+layer-words ts = records-words trapezoidCodec trapezoid-faithful ts (all-of (λ (t : Trapezoid). Unit {0}) (λ t. tt) ts)
+
+few-sized : (n : ℕ) → n ≤ maxRecords → T (sized (memoryWidth * n))
+unfolding sized
+few-sized n h =
+    yes-and (eqb (memoryWidth * n % memoryWidth) 0) (leb (memoryWidth * n) (memoryWidth * maxRecords))
+    (subst (λ (k : ℕ). T (eqb k 0)) (sym (mul-mod-right memoryWidth n)) (eqb-refl 0))
+    (le→leb (memoryWidth * n) (memoryWidth * maxRecords) (omega arith))
+
+pub words-fit : (ts : List Trapezoid) → FitTrapezoids ts → length ts ≤ maxRecords → FitLayer (wordsOf trapezoidCodec ts)
+words-fit ts h l =
+    record {
+      size = subst (λ (n : ℕ). T (sized n)) (sym (length-words trapezoidCodec trapezoid-faithful ts)) (few-sized (length ts) l);
+      rows = ap (firstRefusal coordinateLimit 0) (layer-words ts) ∙ layer-exact coordinateLimit 0 ts .1 h;
+    }
+
+-- ---- a call of code c on A and B with the records R
+pub record Accepted (c : Code) (A B R : List ℤ) : Type 0 where
+  pub first : FitTrapezoids (layerOf A)
+  pub second : FitTrapezoids (layerOf B)
+  pub is : layerOf R ≡ result c (layerOf A) (layerOf B)
+  pub fit : FitLayer R
+
+pub combined-accepted : (code : ℕ) (A B out scratch : List ℤ) → T (isDone (combined code A B out scratch .answer))
+    → Accepted (codeAt code) A B (recordsOf (combined code A B out scratch .answer) (combined code A B out scratch .out))
+unfolding combined
+combined-accepted code A B out scratch h =
+    let c = codeAt code in
+    let ts = result c (layerOf A) (layerOf B) in
+    let ms = marks c (layerOf A) (layerOf B) in
+    let checked = combineChecked code A B (length out) (length scratch) in
+    let r = combine-ready code A B (length out) (length scratch) (passed checked out scratch ts ms h) in
+    let w = outcome-wrote checked out scratch ts ms h in
+    let l : length ts ≤ maxRecords = omega (arith, result-room (roomOf out) c (layerOf A) (layerOf B) (w .room), r .buffers .few) in
+    record {
+      first = r .first .fit;
+      second = r .second .fit;
+      is = ap layerOf (w .is) ∙ layer-words ts;
+      fit = subst FitLayer (sym (w .is)) (words-fit ts (result-fit coordinateLimit (layerOf A) (layerOf B) (r .first .fit) (r .second .fit) c) l);
+    }
+
+-- ---- a call that deoverlaps A, with the records R
+pub record Deoverlaps (A R : List ℤ) : Type 0 where
+  pub layer : FitTrapezoids (layerOf A)
+  pub is : layerOf R ≡ deoverlapped (layerOf A)
+  pub fit : FitLayer R
+
+pub deoverlap-accepted : (A out scratch : List ℤ) → T (isDone (deoverlapOutcome A out scratch .answer))
+    → Deoverlaps A (recordsOf (deoverlapOutcome A out scratch .answer) (deoverlapOutcome A out scratch .out))
+unfolding deoverlapOutcome
+deoverlap-accepted A out scratch h =
+    let ts = deoverlapped (layerOf A) in
+    let ms = deoverlappedMarks [] (layerOf A) in
+    let checked = deoverlapChecked A (length out) (length scratch) in
+    let r = deoverlap-ready A (length out) (length scratch) (passed checked out scratch ts ms h) in
+    let w = outcome-wrote checked out scratch ts ms h in
+    let l : length ts ≤ maxRecords = omega (arith, deoverlapped-room (roomOf out) (layerOf A) (w .room), r .buffers .few) in
+    record {
+      layer = r .layer .fit;
+      is = ap layerOf (w .is) ∙ layer-words ts;
+      fit = subst FitLayer (sym (w .is)) (words-fit ts (deoverlapped-fit coordinateLimit (layerOf A) (r .layer .fit)) l);
+    }

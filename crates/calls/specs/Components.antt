@@ -1,0 +1,63 @@
+-- What `components` answers, in the paper's numbers, and what the list of numbers holds then.
+use mathlib.Core.Path.{_≡_}
+use mathlib.Core.Bool.{Bool, _&&_}
+use mathlib.Core.List.{List}
+use Prim.Native.Nat.{ℕ, _<_, _≤_}
+use lib.Dec.{eqb}
+use lib.ListN.{length}
+use lib.IntN.{ℤ}
+use Rattle.records.specs.Limits.{maxRecords, sized}
+use Rattle.records.specs.Records.{count}
+use Rattle.geometry.specs.declared.Checked.{Checked}
+use Rattle.geometry.specs.declared.Checked.the-variants.{Passed, Refused}
+use Rattle.geometry.specs.Limit.{coordinateLimit}
+use Rattle.geometry.specs.Trapezoids.{trapezoidCodec, layerOf}
+use Rattle.geometry.specs.Fitness.{firstRefusal}
+use Rattle.connectivity.specs.Components.{componentNumbers, componentCount, ComponentsOf}
+use Rattle.calls.specs.declared.Connected.{Connected}
+use Rattle.calls.specs.declared.Connected.the-variants as connected
+use Rattle.calls.specs.Rows.{row}
+
+-- ---- the rows
+-- row 1: "layer, output or work area for pieces not a multiple of 24 words or above 12,288; work area unlike output; component list not one entry per piece"
+unfoldable pub listsSized : List ℤ → ℕ → Bool
+listsSized a n = sized (length a) && eqb n (count trapezoidCodec a)
+
+-- row 1, of a list of n numbers, then rows 7 to 11
+unfoldable pub componentsChecked : List ℤ → ℕ → Checked
+componentsChecked a n = row 1 (listsSized a n) (firstRefusal coordinateLimit 0 (layerOf a))
+
+-- ---- the answer
+-- "A refusal answers its number and place, a success its pieces and cuts."; of components: "Each gets the lowest piece number of its component; the answer counts components."
+pub data Answer : Type 0 where
+  refused : (number place : ℕ) → Answer
+  counted : (components : ℕ) → Answer
+
+abbrev pub connectedAnswer : Connected → Answer
+connectedAnswer (connected.Refused number place) = refused number place
+connectedAnswer (connected.Done components) = counted components
+
+-- the sizes of the numbers in it
+abbrev pub Small : Answer → Type 0
+Small (refused number place) = (number ≤ 11) × (place < maxRecords)
+Small (counted components) = components ≤ maxRecords
+
+-- ---- the answer, and the list of numbers
+pub record Outcome : Type 0 where
+  pub answer : Answer
+  pub numbers : List ℕ
+
+abbrev pub observed : Answer → List ℕ → Outcome
+observed answer numbers = record { answer = answer; numbers = numbers }
+
+-- "1 to 11 change nothing."
+abbrev pub outcome : Checked → Outcome → List ℕ → Outcome
+outcome (Refused number place) done numbers = observed (refused number place) numbers
+outcome Passed done numbers = done
+
+unfoldable pub componentsOutcome : List ℤ → List ℕ → Outcome
+componentsOutcome a numbers = outcome (componentsChecked a (length numbers)) (observed (counted (componentCount (layerOf a))) (componentNumbers (layerOf a))) numbers
+
+-- ---- what a success means, for words of any number and content (proofs/Components.antt: `outcome-exact`)
+abbrev pub OutcomeExact : Type 0
+OutcomeExact = (a : List ℤ) (numbers : List ℕ) (n : ℕ) → componentsOutcome a numbers .answer ≡ counted n → ComponentsOf (layerOf a) (componentsOutcome a numbers .numbers) n

@@ -1,0 +1,101 @@
+-- What each call answers, and what its output and scratch area (paper 01: work area) hold then.
+use mathlib.Core.Bool.{Bool, true, false}
+use mathlib.Core.List.{List, [], _∷_}
+use Prim.Native.Nat.{ℕ, _*_, _/_}
+use lib.ListN.{length, take, replicate}
+use lib.IntN.{ℤ, pos}
+use Rattle.records.specs.Limits.{memoryWidth}
+use Rattle.records.specs.Records.{image}
+use Rattle.geometry.specs.declared.Trapezoid.{Trapezoid}
+use Rattle.geometry.specs.declared.Checked.{Checked}
+use Rattle.geometry.specs.declared.Checked.the-variants.{Passed, Refused}
+use Rattle.geometry.specs.Limit.{coordinateLimit}
+use Rattle.geometry.specs.Points.{Point}
+use Rattle.geometry.specs.Trapezoids.{trapezoidCodec, layerOf, liesInLayer}
+use Rattle.boolean.specs.Operations.{codeAt, result, difference, deoverlapped}
+use Rattle.boolean.specs.Space.{Mark, addition, Space, enough, short, space, marks, deoverlappedMarks, equalityMarks}
+use Rattle.fracture.specs.Fracture.{fractureAll}
+use Rattle.files.specs.Formats.{fileWords}
+use Rattle.files.specs.Contents.{polygonsOf}
+use Rattle.calls.specs.Answers.{Answer, refused, done, EqualityAnswer, refused-equality, same, differs, PointAnswer, refused-point, yes, no}
+use Rattle.calls.specs.Rows.{fractureChecked, combineChecked, deoverlapChecked, equalChecked, containsChecked}
+
+pub record Outcome (A : Type 0) : Type 0 where
+  pub answer : A
+  pub out : List ℤ
+  pub scratch : List ℤ
+
+-- what was seen of a call: its answer, and the words left in its output and scratch area
+abbrev pub observed : {A : Type 0} → A → List ℤ → List ℤ → Outcome A
+observed answer out scratch = record { answer = answer; out = out; scratch = scratch }
+
+abbrev pub zeros : ℕ → List ℤ
+zeros n = replicate n (pos 0)
+
+-- the trapezoids that an output takes
+abbrev pub roomOf : List ℤ → ℕ
+roomOf out = length out / memoryWidth
+
+-- the records that a success wrote: the first ones, as many as its answer counts pieces
+abbrev pub recordsOf : Answer → List ℤ → List ℤ
+recordsOf (refused number place) out = []
+recordsOf (done pieces overlays) out = take (memoryWidth * pieces) out
+
+-- ---- operations that write trapezoids
+-- "Pieces go to the output from its first free record on; the rest is zero, and so is the work area." "12 occurs if, and only if, after some cut or
+-- addition of the definition, the result so far plus the pieces in hand exceed the output; output and work area are then zero."
+abbrev pub written : ℕ → List Trapezoid → Space → Outcome Answer
+written n ts (enough overlays) = record { answer = done (length ts) overlays; out = image trapezoidCodec n ts; scratch = zeros n }
+written n ts (short overlays) = record { answer = refused 12 0; out = zeros n; scratch = zeros n }
+
+-- "1 to 11 change nothing."
+abbrev pub outcome : Checked → List ℤ → List ℤ → List Trapezoid → List Mark → Outcome Answer
+outcome (Refused number place) out scratch ts ms = record { answer = refused number place; out = out; scratch = scratch }
+outcome Passed out scratch ts ms = written (length out) ts (space (roomOf out) ms)
+
+-- fracturing the polygons of a polygon file: "Cutting reports 0 cuts."
+abbrev pub fracturedOf : List ℕ → List Trapezoid
+fracturedOf file = fractureAll coordinateLimit (polygonsOf (fileWords file))
+
+unfoldable pub fractureOutcome : List ℕ → List ℤ → List ℤ → Outcome Answer
+fractureOutcome file out scratch = outcome (fractureChecked file (length out) (length scratch)) out scratch (fracturedOf file) (addition (length (fracturedOf file)) ∷ [])
+
+-- the five set operations, by the code's number
+unfoldable pub combined : ℕ → List ℤ → List ℤ → List ℤ → List ℤ → Outcome Answer
+combined code a b out scratch =
+    outcome (combineChecked code a b (length out) (length scratch)) out scratch (result (codeAt code) (layerOf a) (layerOf b)) (marks (codeAt code) (layerOf a) (layerOf b))
+
+-- deoverlapping (paper 01: disjointing)
+unfoldable pub deoverlapOutcome : List ℤ → List ℤ → List ℤ → Outcome Answer
+deoverlapOutcome a out scratch = outcome (deoverlapChecked a (length out) (length scratch)) out scratch (deoverlapped (layerOf a)) (deoverlappedMarks [] (layerOf a))
+
+-- ---- equality (paper 01: sameness)
+-- "A−B, and B−A only if that was empty. Answers same, or differs with side 0 (A−B) or 1."
+abbrev pub compared : List Trapezoid → List Trapezoid → ℕ → EqualityAnswer
+compared [] [] overlays = same overlays
+compared [] (t ∷ ts) overlays = differs 1 overlays
+compared (t ∷ ts) us overlays = differs 0 overlays
+
+abbrev pub comparedIn : List Trapezoid → List Trapezoid → Space → EqualityAnswer
+comparedIn ts us (enough overlays) = compared ts us overlays
+comparedIn ts us (short overlays) = refused-equality 12 0
+
+-- "Sameness leaves both zero."
+abbrev pub equalityOutcome : Checked → List ℤ → List ℤ → EqualityAnswer → Outcome EqualityAnswer
+equalityOutcome (Refused number place) out scratch answer = record { answer = refused-equality number place; out = out; scratch = scratch }
+equalityOutcome Passed out scratch answer = record { answer = answer; out = zeros (length out); scratch = zeros (length scratch) }
+
+unfoldable pub equalOutcome : List ℤ → List ℤ → List ℤ → List ℤ → Outcome EqualityAnswer
+equalOutcome a b out scratch =
+    equalityOutcome (equalChecked a b (length out) (length scratch)) out scratch
+    (comparedIn (difference (layerOf a) (layerOf b)) (difference (layerOf b) (layerOf a)) (space (roomOf out) (equalityMarks (layerOf a) (layerOf b))))
+
+-- ---- whether a point lies in the result (paper 01: point question)
+abbrev pub asked : Checked → Bool → PointAnswer
+asked (Refused number place) b = refused-point number place
+asked Passed true = yes
+asked Passed false = no
+
+-- "X, Y, D, two layers and a code; yes if the point lies in the result"
+unfoldable pub containsAnswer : Point → List ℤ → List ℤ → ℕ → PointAnswer
+containsAnswer P a b code = asked (containsChecked P a b code) (liesInLayer P (result (codeAt code) (layerOf a) (layerOf b)))

@@ -1,0 +1,85 @@
+-- Demand 2, of what the calls answer and write, for words of any number and content. Each statement is proved under its name in lower case in
+-- proofs/Exact.antt.
+use mathlib.Core.Path.{_≡_}
+use mathlib.Core.Bool.{Bool, not}
+use mathlib.Core.List.{List}
+use mathlib.Core.Logic.{_↔_}
+use Prim.Native.Nat.{ℕ}
+use lib.Dec.{T}
+use lib.ListN.{length}
+use lib.IntN.{ℤ}
+use Rattle.lists.specs.Lists.{All, Any}
+use Rattle.records.specs.Limits.{sized}
+use Rattle.geometry.specs.declared.Trapezoid.{Trapezoid}
+use Rattle.geometry.specs.declared.Checked.the-variants.{Passed}
+use Rattle.geometry.specs.Limit.{coordinateLimit}
+use Rattle.geometry.specs.Points.{Point, IsPoint}
+use Rattle.geometry.specs.Trapezoids.{layerOf, LiesInLayer, Disjoint}
+use Rattle.geometry.specs.Fitness.{firstRefusal}
+use Rattle.boolean.specs.Operations.{codeAt, says}
+use Rattle.boolean.specs.Statements.{IsYes, SamePoints, Beyond}
+use Rattle.fracture.specs.Statements.{Wound, SidesOfOne}
+use Rattle.files.specs.Formats.{fileWords}
+use Rattle.files.specs.Contents.{polygonsOf}
+use Rattle.calls.specs.Answers.{EqualityAnswer, isDone, isRefused, isSame, isSide, isAnswered, isYes}
+use Rattle.calls.specs.Outcomes.{recordsOf, fractureOutcome, combined, deoverlapOutcome, equalOutcome, containsAnswer}
+
+-- "fit as input if row 1 accepts its length and rows 7 to 11 find nothing in its pieces"
+pub record FitLayer (a : List ℤ) : Type 0 where
+  pub size : T (sized (length a))
+  pub rows : firstRefusal coordinateLimit 0 (layerOf a) ≡ Passed
+
+-- the words that a success of `fracture` wrote
+abbrev pub fracturedLayer : List ℕ → List ℤ → List ℤ → List ℤ
+fracturedLayer file out scratch = recordsOf (fractureOutcome file out scratch .answer) (fractureOutcome file out scratch .out)
+
+-- they are fit, a rational point lies in them exactly if the winding number of some polygon of the file is not zero there, and every side is a line of an
+-- edge of a polygon of the file
+abbrev pub FractureFileExact : Type 0
+FractureFileExact =
+    (file : List ℕ) (out scratch : List ℤ) → T (isDone (fractureOutcome file out scratch .answer))
+    → FitLayer (fracturedLayer file out scratch)
+    × ((P : Point) → IsPoint P → LiesInLayer P (layerOf (fracturedLayer file out scratch)) ↔ Any (Wound P) (polygonsOf (fileWords file)))
+    × All (SidesOfOne (polygonsOf (fileWords file))) (layerOf (fracturedLayer file out scratch))
+
+-- the words that a success of `combine` wrote
+abbrev pub combinedLayer : ℕ → List ℤ → List ℤ → List ℤ → List ℤ → List ℤ
+combinedLayer code a b out scratch = recordsOf (combined code a b out scratch .answer) (combined code a b out scratch .out)
+
+-- they are fit, and a rational point lies in them exactly if the set words say so, whether the layers are disjoint or not
+abbrev pub CombineExact : Type 0
+CombineExact =
+    (code : ℕ) (a b out scratch : List ℤ) → T (isDone (combined code a b out scratch .answer))
+    → FitLayer (combinedLayer code a b out scratch)
+    × ((P : Point) → IsPoint P → (x y : Bool) → IsYes x (LiesInLayer P (layerOf a)) → IsYes y (LiesInLayer P (layerOf b))
+    → IsYes (says (codeAt code) x y) (LiesInLayer P (layerOf (combinedLayer code a b out scratch))))
+
+-- the words that a success of `deoverlap` wrote
+abbrev pub deoverlappedLayer : List ℤ → List ℤ → List ℤ → List ℤ
+deoverlappedLayer a out scratch = recordsOf (deoverlapOutcome a out scratch .answer) (deoverlapOutcome a out scratch .out)
+
+-- they are fit and disjoint, and hold the same points
+abbrev pub DeoverlapExact : Type 0
+DeoverlapExact =
+    (a out scratch : List ℤ) → T (isDone (deoverlapOutcome a out scratch .answer))
+    → FitLayer (deoverlappedLayer a out scratch) × Disjoint (layerOf (deoverlappedLayer a out scratch)) × SamePoints (layerOf (deoverlappedLayer a out scratch)) (layerOf a)
+
+-- what an answer of the equality test says of two layers
+pub record Compares (answer : EqualityAnswer) (A B : List Trapezoid) : Type 0 where
+  -- same exactly if no rational point lies in one and not in the other
+  pub same : IsYes (isSame answer) (SamePoints A B)
+  -- "differs with side 0 (A−B)" exactly if some rational point lies in A and not in B
+  pub side-0 : IsYes (isSide 0 answer) (Beyond A B)
+  -- "or 1" exactly if none does, and some lies in B and not in A
+  pub side-1 : IsYes (isSide 1 answer) ((Beyond A B → ⊥) × Beyond B A)
+
+-- `equal`, where it is not refused, says that of the layers that it is lent, in this order
+abbrev pub EqualExact : Type 0
+EqualExact =
+    (a b out scratch : List ℤ) → T (not (isRefused (equalOutcome a b out scratch .answer))) → Compares (equalOutcome a b out scratch .answer) (layerOf a) (layerOf b)
+
+-- `contains`, where it is not refused, says yes exactly if the set words say that the point lies in the result
+abbrev pub ContainsExact : Type 0
+ContainsExact =
+    (P : Point) (a b : List ℤ) (code : ℕ) → T (isAnswered (containsAnswer P a b code))
+    → (x y : Bool) → IsYes x (LiesInLayer P (layerOf a)) → IsYes y (LiesInLayer P (layerOf b)) → T (isYes (containsAnswer P a b code)) ↔ T (says (codeAt code) x y)

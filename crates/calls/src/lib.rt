@@ -1,0 +1,39 @@
+// What the public functions answer.
+
+// What `components` answers: the refusal's number and place, or the number of components.
+pub enum Connected {
+    Refused { number: u32, place: usize },
+    Done { components: usize },
+}
+
+// What `fracture` answers: the refusal's number and place, or the trapezoids written and the overlays made, which are none.
+pub enum Fractured {
+    Refused { number: u32, place: usize },
+    Done { pieces: usize, overlays: usize },
+}
+
+// What `combine` answers: the refusal's number and place, or the trapezoids written and the overlays made.
+pub enum Combined {
+    Refused { number: u32, place: usize },
+    Done { pieces: usize, overlays: usize },
+}
+
+// The same of `deoverlap`.
+pub enum Deoverlapped {
+    Refused { number: u32, place: usize },
+    Done { pieces: usize, overlays: usize },
+}
+
+// What `equal` answers. Side 0: the first layer has points that the second has not; side 1: only the second has.
+pub enum Equality {
+    Refused { number: u32, place: usize },
+    Same { overlays: usize },
+    Differs { side: u32, overlays: usize },
+}
+
+// What `contains` answers.
+pub enum Containment {
+    Refused { number: u32, place: usize },
+    Yes,
+    No,
+}

@@ -1,0 +1,4 @@
+pub mod NumberOrder
+pub mod Exchanges
+pub mod Network
+pub mod SideOrder

@@ -1,0 +1,220 @@
+-- The functions of a column, branch by branch as they go: the side of a number, the order of two sides, and the order of all four by five
+-- exchanges.
+use mathlib.Core.Path.{_≡_, refl, sym, _∙_, ap, ap₂, subst}
+use mathlib.Core.Bool.{Bool, true, false, cond}
+use mathlib.Core.List.{List, [], _∷_}
+use Prim.Native.Nat.{ℕ, _<_, _≤_}
+use native.Mathlib.Omega.{arith}
+use lib.Dec.{eqb, ltb}
+use lib.ListN.{length, getD, set, length-set}
+use borrow.Author.Tests.{lt-ltb, le-ltb, eq-eqb, ne-eqb, eqb-true, eqb-false}
+use Rattle.lists.proofs.Tests.{cond-cases}
+use Rattle.integer.specs.declared.Ordering.{Ordering}
+use Rattle.integer.specs.Fraction.{Fraction, before}
+use Rattle.geometry.specs.declared.Line.{Line}
+use Rattle.geometry.specs.declared.Trapezoid.{Trapezoid}
+use Rattle.geometry.specs.Limit.{coordinateLimit, OnGrid}
+use Rattle.geometry.specs.Positions.{rightOf}
+use Rattle.geometry.specs.Fitness.{FitFor}
+use Rattle.geometry.specs.declared.Placed.{Placed}
+use Rattle.geometry.proofs.Fitness.{bottom-grid, top-grid}
+use Rattle.sweep.specs.Segments.{spans}
+use Rattle.overlay.specs.declared.Column.{Column}
+use Rattle.overlay.specs.Overlay.{tagOf, inRange}
+use Rattle.geometry_code.specs.Code.{fractionOf}
+use Rattle.trapezoids_code.specs.Placed.{PlacedAs}
+use Rattle.columns_code.specs.Order.{HasSides, lineOfSide, presentBy, lessBy, numberLess, orderAt, passing}
+use Rattle.columns_code.specs.Code.{ColumnAt, FourSides, exchanged, Exchanged}
+use Rattle.columns_code.proofs.Exchanges.{Four, fourList, exchange01, exchange23, exchange02, exchange13, exchange12, sort01, sort23, sort02, sort13, sort12, network}
+use Rattle.columns_code.proofs.Network.{network-exact}
+
+-- ---- a side by its number
+module _ (A B : Trapezoid) (i : ℕ) where
+  pub side-first : i ≡ 0 → A .bottom ≡ lineOfSide A B i
+  unfolding lineOfSide
+  side-first e = rw (eq-eqb i 0 e)
+
+  pub side-second : (i ≡ 0 → ⊥) → i ≡ 1 → A .top ≡ lineOfSide A B i
+  unfolding lineOfSide
+  side-second f e = rw (ne-eqb i 0 f, eq-eqb i 1 e)
+
+  pub side-third : (i ≡ 0 → ⊥) → (i ≡ 1 → ⊥) → i ≡ 2 → B .bottom ≡ lineOfSide A B i
+  unfolding lineOfSide
+  side-third f g e = rw (ne-eqb i 0 f, ne-eqb i 1 g, eq-eqb i 2 e)
+
+  pub side-fourth : (i ≡ 0 → ⊥) → (i ≡ 1 → ⊥) → (i ≡ 2 → ⊥) → B .top ≡ lineOfSide A B i
+  unfolding lineOfSide
+  side-fourth f g h = rw (ne-eqb i 0 f, ne-eqb i 1 g, ne-eqb i 2 h)
+
+  pub side-grid : FitFor coordinateLimit A → FitFor coordinateLimit B → OnGrid coordinateLimit (lineOfSide A B i)
+  unfolding lineOfSide
+  side-grid ha hb =
+      cond-cases (OnGrid coordinateLimit) (eqb i 0) (A .bottom) (cond (eqb i 1) (A .top) (cond (eqb i 2) (B .bottom) (B .top))) (λ t. bottom-grid ha)
+      (λ t. cond-cases (OnGrid coordinateLimit) (eqb i 1) (A .top) (cond (eqb i 2) (B .bottom) (B .top)) (λ t. top-grid ha)
+      (λ t. cond-cases (OnGrid coordinateLimit) (eqb i 2) (B .bottom) (B .top) (λ t. bottom-grid hb) (λ t. top-grid hb)))
+
+module _ (fa fb : Bool) (i : ℕ) where
+  pub present-first : i < 2 → fa ≡ presentBy fa fb i
+  unfolding presentBy
+  present-first h = rw (lt-ltb i 2 h)
+
+  pub present-second : 2 ≤ i → fb ≡ presentBy fa fb i
+  unfolding presentBy
+  present-second h = rw (le-ltb i 2 h)
+
+-- ---- the order of two sides
+module _ (A B : Trapezoid) (p : Fraction) (fa fb : Bool) (i j : ℕ) where
+  pub less-both : (l m : Line) (o : Ordering) (r : Bool) → presentBy fa fb i ≡ true → presentBy fa fb j ≡ true → l ≡ lineOfSide A B i → m ≡ lineOfSide A B j → o ≡ rightOf p l m → r ≡ lessBy o (ltb i j) → r ≡ numberLess A B p fa fb i j
+  unfolding numberLess
+  less-both l m o r e f le me oe re = re ∙ ap (λ (o : Ordering). lessBy o (ltb i j)) (oe ∙ ap₂ (rightOf p) le me) ∙ rw (e, f)
+
+  pub less-first : presentBy fa fb i ≡ true → presentBy fa fb j ≡ false → true ≡ numberLess A B p fa fb i j
+  unfolding numberLess
+  less-first e f = rw (e, f)
+
+  pub less-second : presentBy fa fb i ≡ false → presentBy fa fb j ≡ true → false ≡ numberLess A B p fa fb i j
+  unfolding numberLess
+  less-second e f = rw (e, f)
+
+  pub less-neither : presentBy fa fb i ≡ false → presentBy fa fb j ≡ false → ltb i j ≡ numberLess A B p fa fb i j
+  unfolding numberLess
+  less-neither e f = rw (e, f)
+
+-- ---- past a side
+module _ (b t z : ℕ) (f : Bool) where
+  pub pass-bottom : z ≡ b → true ≡ passing b t z f
+  pass-bottom e = rw (eq-eqb z b e)
+
+  pub pass-top : (z ≡ b → ⊥) → z ≡ t → false ≡ passing b t z f
+  pass-top n e = rw (ne-eqb z b n, eq-eqb z t e)
+
+  pub pass-other : (z ≡ b → ⊥) → (z ≡ t → ⊥) → f ≡ passing b t z f
+  pass-other n m = rw (ne-eqb z b n, ne-eqb z t m)
+
+-- ---- a tag
+eqb-turn : (m n : ℕ) → eqb m n ≡ eqb n m
+eqb-turn m n = go (eqb m n) refl
+  where
+    go : (t : Bool) → eqb m n ≡ t → eqb m n ≡ eqb n m
+    go true e = e ∙ sym (eq-eqb n m (sym (eqb-true m n e)))
+    go false e = e ∙ sym (ne-eqb n m (λ q. eqb-false m n e (sym q)))
+
+pub tag-is : (n : ℕ) {fa fb ga gb : Bool} → fa ≡ ga → fb ≡ gb → eqb n (tagOf ga gb) ≡ eqb (tagOf fa fb) n
+tag-is n {fa} {fb} {ga} {gb} e f = eqb-turn n (tagOf ga gb) ∙ ap₂ (λ (g h : Bool). eqb (tagOf g h) n) (sym e) (sym f)
+
+-- ---- the range of a trapezoid
+module _ (a : Placed) (x : Fraction) (h : PlacedAs (a .shape) a) where
+  pub range-left : before x (fractionOf (a .left)) ≡ true → false ≡ inRange x (a .shape)
+  unfolding spans
+  range-left e = rw (ap (before x) (sym (h .left .is)) ∙ e)
+
+  pub range-right : {r : Bool} → before x (fractionOf (a .left)) ≡ false → r ≡ before x (fractionOf (a .right)) → r ≡ inRange x (a .shape)
+  unfolding spans
+  range-right e f = rw (ap (before x) (sym (h .left .is)) ∙ e) (f ∙ ap (before x) (h .right .is))
+
+-- ---- one exchange
+module _ (less : ℕ → ℕ → Bool) (i j : ℕ) (l : List ℕ) where
+  pub exchange-yes : (r : Bool) → r ≡ less (getD l j 0) (getD l i 0) → r ≡ true → set (set l i (getD l j 0)) j (getD l i 0) ≡ exchanged less i j l
+  exchange-yes r h e = rw (sym h ∙ e)
+
+  pub exchange-no : (r : Bool) → r ≡ less (getD l j 0) (getD l i 0) → r ≡ false → l ≡ exchanged less i j l
+  exchange-no r h e = rw (sym h ∙ e)
+
+  exchanged-length : length (exchanged less i j l) ≡ length l
+  exchanged-length =
+      let k = set l i (getD l j 0) in
+      cond-cases (λ (m : List ℕ). length m ≡ length l) (less (getD l j 0) (getD l i 0)) (set k j (getD l i 0)) l
+      (λ t. length-set k j (getD l i 0) ∙ length-set l i (getD l j 0))
+      (λ t. refl)
+
+pub exchange-long : {A B : Trapezoid} {p : Fraction} {i j : ℕ} {c r : Column} → Exchanged A B p i j c r → length (c .order) ≡ 4 → length (r .order) ≡ 4
+exchange-long {A} {B} {p} {i} {j} {c} h e = ap length (h .order) ∙ exchanged-length (numberLess A B p (c .in_a) (c .in_b)) i j (c .order) ∙ e
+
+-- ---- five exchanges
+fourOf : List ℕ → Four
+fourOf l = record { first = getD l 0 0; second = getD l 1 0; third = getD l 2 0; fourth = getD l 3 0 }
+
+four-entries : (l : List ℕ) → length l ≡ 4 → l ≡ fourList (fourOf l)
+unfolding fourOf
+four-entries [] e = absurd (omega arith)
+four-entries (a ∷ []) e = absurd (omega arith)
+four-entries (a ∷ b ∷ []) e = absurd (omega arith)
+four-entries (a ∷ b ∷ c ∷ []) e = absurd (omega arith)
+four-entries (a ∷ b ∷ c ∷ d ∷ []) e = refl
+four-entries (a ∷ b ∷ c ∷ d ∷ f ∷ l) e = absurd (omega arith)
+
+module _ (less : ℕ → ℕ → Bool) (x : Four) where
+  list01 : exchanged less 0 1 (fourList x) ≡ fourList (sort01 less x)
+  unfolding sort01
+  list01 = go (less (x .second) (x .first))
+    where
+      go : (t : Bool) → cond t (x .second ∷ x .first ∷ x .third ∷ x .fourth ∷ []) (fourList x) ≡ fourList (exchange01 t x)
+      go true = refl
+      go false = refl
+
+  list23 : exchanged less 2 3 (fourList x) ≡ fourList (sort23 less x)
+  unfolding sort23
+  list23 = go (less (x .fourth) (x .third))
+    where
+      go : (t : Bool) → cond t (x .first ∷ x .second ∷ x .fourth ∷ x .third ∷ []) (fourList x) ≡ fourList (exchange23 t x)
+      go true = refl
+      go false = refl
+
+  list02 : exchanged less 0 2 (fourList x) ≡ fourList (sort02 less x)
+  unfolding sort02
+  list02 = go (less (x .third) (x .first))
+    where
+      go : (t : Bool) → cond t (x .third ∷ x .second ∷ x .first ∷ x .fourth ∷ []) (fourList x) ≡ fourList (exchange02 t x)
+      go true = refl
+      go false = refl
+
+  list13 : exchanged less 1 3 (fourList x) ≡ fourList (sort13 less x)
+  unfolding sort13
+  list13 = go (less (x .fourth) (x .second))
+    where
+      go : (t : Bool) → cond t (x .first ∷ x .fourth ∷ x .third ∷ x .second ∷ []) (fourList x) ≡ fourList (exchange13 t x)
+      go true = refl
+      go false = refl
+
+  list12 : exchanged less 1 2 (fourList x) ≡ fourList (sort12 less x)
+  unfolding sort12
+  list12 = go (less (x .third) (x .second))
+    where
+      go : (t : Bool) → cond t (x .first ∷ x .third ∷ x .second ∷ x .fourth ∷ []) (fourList x) ≡ fourList (exchange12 t x)
+      go true = refl
+      go false = refl
+
+-- the column has the flags fa and fb, and its order is x
+record Stands (fa fb : Bool) (x : Four) (c : Column) : Type 0 where
+  in-a : c .in_a ≡ fa
+  in-b : c .in_b ≡ fb
+  order : c .order ≡ fourList x
+
+module _ (A B : Trapezoid) (p : Fraction) (fa fb : Bool) where
+  stands-next : (i j : ℕ) (x y : Four) (c r : Column) → exchanged (numberLess A B p fa fb) i j (fourList x) ≡ fourList y → Stands fa fb x c → Exchanged A B p i j c r → Stands fa fb y r
+  stands-next i j x y c r e s h = record {
+    in-a = h .in-a ∙ s .in-a;
+    in-b = h .in-b ∙ s .in-b;
+    order = h .order ∙ ap₂ (λ (f g : Bool). exchanged (numberLess A B p f g) i j (c .order)) (s .in-a) (s .in-b) ∙ ap (exchanged (numberLess A B p fa fb) i j) (s .order) ∙ e;
+  }
+
+pub column-exact : {A B : Trapezoid} → FitFor coordinateLimit A → FitFor coordinateLimit B → (p : Fraction) (d e f g h r : Column) → FourSides (d .order) → d .in_a ≡ inRange p A → d .in_b ≡ inRange p B → Exchanged A B p 0 1 d e → Exchanged A B p 2 3 e f → Exchanged A B p 0 2 f g → Exchanged A B p 1 3 g h → Exchanged A B p 1 2 h r → ColumnAt A B p r
+unfolding network
+column-exact {A} {B} ha hb p d e f g h r s ea eb de ef fg gh hr =
+    let fa = d .in_a in
+    let fb = d .in_b in
+    let less = numberLess A B p fa fb in
+    let x₀ = fourOf (d .order) in
+    let x₁ = sort01 less x₀ in
+    let x₂ = sort23 less x₁ in
+    let x₃ = sort02 less x₂ in
+    let x₄ = sort13 less x₃ in
+    let x₅ = sort12 less x₄ in
+    let e₀ : d .order ≡ fourList x₀ = four-entries (d .order) (s .long) in
+    let s₁ = stands-next A B p fa fb 0 1 x₀ x₁ d e (list01 less x₀) (record { in-a = refl; in-b = refl; order = e₀ }) de in
+    let s₂ = stands-next A B p fa fb 2 3 x₁ x₂ e f (list23 less x₁) s₁ ef in
+    let s₃ = stands-next A B p fa fb 0 2 x₂ x₃ f g (list02 less x₂) s₂ fg in
+    let s₄ = stands-next A B p fa fb 1 3 x₃ x₄ g h (list13 less x₃) s₃ gh in
+    let s₅ = stands-next A B p fa fb 1 2 x₄ x₅ h r (list12 less x₄) s₄ hr in
+    let o : fourList x₅ ≡ orderAt A B p fa fb = network-exact ha hb p fa fb x₀ (subst HasSides e₀ (s .all)) in
+    record { in-a = s₅ .in-a ∙ ea; in-b = s₅ .in-b ∙ eb; order = s₅ .order ∙ o ∙ ap₂ (orderAt A B p) (sym (s₅ .in-a)) (sym (s₅ .in-b)) }

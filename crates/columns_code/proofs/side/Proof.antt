@@ -1,0 +1,18 @@
+use Rattle.columns_code.proofs.SideOrder.{side-first, side-second, side-third, side-fourth}
+use Rattle.columns_code.proofs.side.Statement.{statement}
+use Rattle.columns_code.proofs.side.Tie as tie
+
+returns : tie.Need-returns
+returns c = let s = c .before .before .args in side-first (s .a) (s .b) (s .i) (c .before .if1 .taken)
+
+returns-2 : tie.Need-returns-2
+returns-2 c = let s = c .before .before .before .args in side-second (s .a) (s .b) (s .i) (c .before .before .if1 .left) (c .before .if2 .taken)
+
+returns-3 : tie.Need-returns-3
+returns-3 c = let s = c .before .before .before .before .args in side-third (s .a) (s .b) (s .i) (c .before .before .before .if1 .left) (c .before .before .if2 .left) (c .before .if3 .taken)
+
+returns-4 : tie.Need-returns-4
+returns-4 c = let s = c .before .before .before .before .args in side-fourth (s .a) (s .b) (s .i) (c .before .before .before .if1 .left) (c .before .before .if2 .left) (c .before .if3 .left)
+
+pub side-spec : {M : Type 1} → statement M
+side-spec = tie.close (tie.spec returns returns-2 returns-3 returns-4)

@@ -1,0 +1,52 @@
+use Prim.Native.Nat.{_-_}
+use native.Mathlib.Omega.{arith}
+use lib.ListN.{length}
+use borrow.Author.Needs.{needs}
+use Rattle.connectivity_code.proofs.Loops.{Counted, count-start, count-turn, count-stop}
+use Rattle.connectivity_code.proofs.count_own.Statement.{statement}
+use Rattle.connectivity_code.proofs.count_own.Tie as tie
+
+abbrev Inv-loop : tie.InvT-loop
+Inv-loop numbers n₀ i₀ n i = Counted numbers n i
+
+abbrev μ-loop : tie.MeasureT-loop
+μ-loop numbers n₀ i₀ n i = length numbers - i
+
+loop-holds : tie.Need-loop-holds Inv-loop μ-loop
+loop-holds c = count-start (c .before .args .numbers .now)
+
+mul-one-more : tie.Need-mul-one-more Inv-loop μ-loop
+mul-one-more c = search needs
+
+shared-slice-read-one-more : tie.Need-shared-slice-read-one-more Inv-loop μ-loop
+shared-slice-read-one-more c = search needs
+
+one-more-requires : tie.Need-one-more-requires Inv-loop μ-loop
+one-more-requires c κs = let k = c .before .before in omega (arith, k .before .before .pre, k .loop .inv .most, c .before .loop-test .taken)
+
+add-i : tie.Need-add-i Inv-loop μ-loop
+add-i c = search needs
+
+loop-less : tie.Need-loop-less Inv-loop μ-loop
+loop-less c = search needs
+
+loop-again : tie.Need-loop-again Inv-loop μ-loop
+loop-again c = let k = c .before .before in count-turn (k .before .loop .inv) (k .loop-test .taken) (c .one-more .ensures)
+
+returns : tie.Need-returns Inv-loop μ-loop
+returns c = count-stop (c .before .loop .inv) (c .loop-test .left)
+
+pub count-own-spec : {M : Type 1} → statement M
+count-own-spec =
+    tie.close
+    (tie.spec
+    Inv-loop
+    μ-loop
+    loop-holds
+    mul-one-more
+    shared-slice-read-one-more
+    one-more-requires
+    add-i
+    loop-less
+    loop-again
+    returns)

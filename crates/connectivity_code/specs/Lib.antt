@@ -1,0 +1,2 @@
+-- What the functions require of their lists.
+pub mod Code

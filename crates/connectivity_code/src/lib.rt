@@ -1,0 +1,216 @@
+// Trapezoids that touch, and the component numbers of a layer of fit trapezoids.
+use geometry::Crossing;
+use geometry::Line;
+use geometry::Placed;
+use geometry::Position;
+use geometry::Trapezoid;
+ghost use mathlib.Core.Path.{_≡_};
+ghost use mathlib.Core.Bool.{cond};
+ghost use Prim.Native.Nat.{_+_, _<_, _≤_};
+ghost use lib.Dec.{eqb};
+ghost use lib.ListN.{length};
+ghost use Rattle.lists.specs.Lists.{All};
+ghost use Rattle.records.specs.Limits.{maxRecords};
+ghost use Rattle.records.specs.Records.{recordAt, count};
+ghost use Rattle.geometry.specs.Limit.{coordinateLimit, OnGrid};
+ghost use Rattle.geometry.specs.Fitness.{FitFor};
+ghost use Rattle.geometry.specs.Trapezoids.{trapezoidCodec, layerOf};
+ghost use Rattle.geometry.specs.Ranges.{crossing};
+ghost use Rattle.connectivity.specs.Touching.{notAbove, touchesAt, touchesFrom, touches};
+ghost use Rattle.connectivity.specs.Components.{ownNumbers, relabelled, joined, joinedIf, joinedFirst, joinedAll, owners, touchingAt, componentNumbers, componentCount};
+ghost use Rattle.geometry_code.specs.Code.{fractionOf, Small};
+ghost use Rattle.trapezoids_code.specs.Placed.{Pair, PlacedAs};
+ghost use Rattle.connectivity_code.specs.Code.{Numbering};
+
+// Whether a line is at or below another at a position.
+fn not_above(l: Line, m: Line, x: Position) -> bool
+    requires { ⌜ OnGrid coordinateLimit l × OnGrid coordinateLimit m × Small x ⌝ }
+    ensures { λ r. ⌜ r ≡ notAbove (fractionOf x) l m ⌝ }
+{
+    let o = geometry_code::heights_at(m, l, x);
+    !geometry_code::is_less(o)
+}
+
+// At a position each bottom is at or below the other's top.
+fn touches_at(a: Trapezoid, b: Trapezoid, x: Position) -> bool
+    requires { ⌜ FitFor coordinateLimit a × FitFor coordinateLimit b × Small x ⌝ }
+    ensures { λ r. ⌜ r ≡ touchesAt a b (fractionOf x) ⌝ }
+{
+    if not_above(a.bottom, b.top, x) {
+        return not_above(b.bottom, a.top, x);
+    }
+    false
+}
+
+// The two lines cross at lo, at hi or between, and the trapezoids touch there.
+fn touches_from(a: Trapezoid, b: Trapezoid, l: Line, m: Line, lo: Position, hi: Position) -> bool
+    requires { ⌜ FitFor coordinateLimit a × FitFor coordinateLimit b × OnGrid coordinateLimit l × OnGrid coordinateLimit m × Small lo × Small hi ⌝ }
+    ensures { λ r. ⌜ r ≡ touchesFrom a b (fractionOf lo) (fractionOf hi) (crossing l m) ⌝ }
+{
+    let c = geometry_code::crossing_of(l, m);
+    let Crossing::At(p) = c else {
+        return false;
+    };
+    if geometry_code::is_before(p, lo) {
+        return false;
+    }
+    if geometry_code::is_before(hi, p) {
+        return false;
+    }
+    touches_at(a, b, p)
+}
+
+// Whether the closed trapezoids share a rational point.
+pub fn touching(a: Placed, b: Placed) -> bool
+    requires { ⌜ Pair a b ⌝ }
+    ensures { λ r. ⌜ r ≡ touches (a .shape) (b .shape) ⌝ }
+{
+    let lo = trapezoids_code::common_left(a, b);
+    let hi = trapezoids_code::common_right(a, b);
+    if geometry_code::is_before(hi, lo) {
+        return false;
+    }
+    let s = a.shape;
+    let t = b.shape;
+    if touches_at(s, t, lo) {
+        return true;
+    }
+    if touches_from(s, t, s.bottom, t.top, lo, hi) {
+        return true;
+    }
+    touches_from(s, t, t.bottom, s.top, lo, hi)
+}
+
+// Whether a trapezoid touches the one with number j of a layer.
+fn touching_at(layer: &[i32], a: Placed, j: usize) -> bool
+    requires { ⌜ All (FitFor coordinateLimit) (layerOf (now layer)) × (j < count trapezoidCodec (now layer)) × PlacedAs (a .shape) a ⌝ }
+    ensures { λ r. ⌜ r ≡ touches (a .shape) (recordAt trapezoidCodec (now (layer .entry)) j) ⌝ }
+{
+    let b = trapezoids_code::placed_at(layer, j);
+    touching(a, b)
+}
+
+// Each its own number: 0, 1 and so on.
+fn number_each(numbers: &mut [u32])
+    requires { ⌜ length (now numbers) ≤ maxRecords ⌝ }
+    ensures { λ _. ⌜ now (numbers .exit) ≡ ownNumbers (length (now (numbers .entry))) ⌝ }
+{
+    let mut i = 0;
+    while i < numbers.len() {
+        numbers[i] = i as u32;
+        i += 1;
+    }
+}
+
+fn renamed(n: u32, from: u32, to: u32) -> u32
+    ensures { λ r. ⌜ r ≡ cond (eqb n from) to n ⌝ }
+{
+    if n == from {
+        return to;
+    }
+    n
+}
+
+// Each `from` becomes `to`.
+fn relabel(numbers: &mut [u32], from: u32, to: u32)
+    ensures { λ _. ⌜ now (numbers .exit) ≡ relabelled from to (now (numbers .entry)) ⌝ }
+{
+    let mut i = 0;
+    while i < numbers.len() {
+        let n = numbers[i];
+        numbers[i] = renamed(n, from, to);
+        i += 1;
+    }
+}
+
+// The numbers of i and j become one: whoever has the greater gets the lesser.
+fn join(numbers: &mut [u32], i: usize, j: usize)
+    requires { ⌜ (i < length (now numbers)) × (j < length (now numbers)) ⌝ }
+    ensures { λ _. ⌜ now (numbers .exit) ≡ joined i j (now (numbers .entry)) ⌝ }
+{
+    let a = numbers[i];
+    let b = numbers[j];
+    if a < b {
+        relabel(numbers, b, a);
+        return;
+    }
+    if b < a {
+        relabel(numbers, a, b);
+        return;
+    }
+}
+
+fn join_if(numbers: &mut [u32], wanted: bool, i: usize, j: usize)
+    requires { ⌜ (i < length (now numbers)) × (j < length (now numbers)) ⌝ }
+    ensures { λ _. ⌜ now (numbers .exit) ≡ joinedIf wanted i j (now (numbers .entry)) ⌝ }
+{
+    if wanted {
+        join(numbers, i, j);
+        return;
+    }
+}
+
+// The trapezoid with number i of a layer is joined with each before it that it touches.
+fn join_earlier(layer: &[i32], a: Placed, i: usize, numbers: &mut [u32])
+    requires { ⌜ Numbering (now layer) (now numbers) ⌝ }
+    requires { ⌜ (i < count trapezoidCodec (now layer)) × PlacedAs (recordAt trapezoidCodec (now layer) i) a ⌝ }
+    ensures { λ _. ⌜ now (numbers .exit) ≡ joinedFirst (touchingAt (layerOf (now (layer .entry)))) i i (now (numbers .entry)) ⌝ }
+{
+    let mut j = 0;
+    while j < i {
+        let t = touching_at(layer, a, j);
+        join_if(numbers, t, i, j);
+        j += 1;
+    }
+}
+
+// Each trapezoid of a layer in turn is joined with those before it that it touches.
+fn join_all(layer: &[i32], numbers: &mut [u32])
+    requires { ⌜ Numbering (now layer) (now numbers) ⌝ }
+    ensures { λ _. ⌜ now (numbers .exit) ≡ joinedAll (touchingAt (layerOf (now (layer .entry)))) (count trapezoidCodec (now (layer .entry))) (now (numbers .entry)) ⌝ }
+{
+    let n = layer.len() / records::MEMORY_WIDTH;
+    let mut i = 0;
+    while i < n {
+        let a = trapezoids_code::placed_at(layer, i);
+        join_earlier(layer, a, i, numbers);
+        i += 1;
+    }
+}
+
+// One more if the number is i.
+fn one_more(n: usize, number: u32, i: usize) -> usize
+    requires { ⌜ n < 4294967296 ⌝ }
+    ensures { λ r. ⌜ r ≡ cond (eqb number i) (n + 1) n ⌝ }
+{
+    if number as usize == i {
+        return n + 1;
+    }
+    n
+}
+
+// How many have their own number.
+fn count_own(numbers: &[u32]) -> usize
+    requires { ⌜ length (now numbers) ≤ maxRecords ⌝ }
+    ensures { λ r. ⌜ r ≡ length (owners (now (numbers .entry)) (length (now (numbers .entry)))) ⌝ }
+    ensures { λ r. ⌜ r ≤ length (now (numbers .entry)) ⌝ }
+{
+    let mut n = 0;
+    let mut i = 0;
+    while i < numbers.len() {
+        n = one_more(n, numbers[i], i);
+        i += 1;
+    }
+    n
+}
+
+// The component numbers of a layer of fit trapezoids; answers the number of components.
+pub fn components_into(layer: &[i32], numbers: &mut [u32]) -> usize
+    requires { ⌜ Numbering (now layer) (now numbers) × (length (now numbers) ≤ maxRecords) ⌝ }
+    ensures { λ r. ⌜ now (numbers .exit) ≡ componentNumbers (layerOf (now (layer .entry))) ⌝ }
+    ensures { λ r. ⌜ (r ≡ componentCount (layerOf (now (layer .entry)))) × (r ≤ maxRecords) ⌝ }
+{
+    number_each(numbers);
+    join_all(layer, numbers);
+    count_own(numbers)
+}

@@ -1,0 +1,193 @@
+use mathlib.Core.Path.{sym, _∙_}
+use Prim.Native.Nat.{_*_, _-_}
+use native.Mathlib.Omega.{arith}
+use lib.ListN.{length}
+use borrow.Author.Needs.{needs}
+use borrow.Rule.Slice.PartMut.{same-len-mid}
+use Rattle.records.specs.Limits.{memoryWidth}
+use Rattle.remainder_code.proofs.Lessening.{placed}
+use Rattle.deoverlap_code.proofs.Front.{FrontReducing, front-length, front-start, front-fits, front-few, front-stop, front-none, front-fit, front-remaining, front-scratch, front-next, front-short, short-few, front-stands, scratch-blank, turn-few, front-turn}
+use Rattle.deoverlap_code.proofs.lessen_by_front.Statement.{statement}
+use Rattle.deoverlap_code.proofs.lessen_by_front.Tie as tie
+
+abbrev Inv-loop : tie.InvT-loop
+Inv-loop k start n out₀ scratch₀ room end m₀ sum₀ i₀ out scratch m sum i = FrontReducing room k start n out₀ out scratch m sum i
+
+abbrev μ-loop : tie.MeasureT-loop
+μ-loop k start n out₀ scratch₀ room end m₀ sum₀ i₀ out scratch m sum i = k - i
+
+mul-end : tie.Need-mul-end Inv-loop μ-loop
+mul-end c = search needs
+
+loop-holds : tie.Need-loop-holds Inv-loop μ-loop
+loop-holds c =
+    let a = c .args in
+    front-start (a .room) (a .k) (a .start) (a .n) (a .out .now) (a .scratch .now) (c .pre .0 .0) (c .pre .0 .1) (c .pre .0 .2) (c .pre .0 .3) (c .pre .1 .0 .0) (c .pre .1 .0 .1) (c .pre .1 .1 .0) (c .pre .1 .1 .1)
+
+same-length : tie.Need-same-length Inv-loop μ-loop
+same-length c = c .before .before .loop .inv .long
+
+same-length-2 : tie.Need-same-length-2 Inv-loop μ-loop
+same-length-2 c =
+    let l = c .before .before in
+    l .loop .inv .scratch-long ∙ sym (l .before .pre .1 .1 .1)
+
+returns : tie.Need-returns Inv-loop μ-loop
+returns c =
+    let h = c .before .before .loop .inv in
+    (front-none h (c .if1 .taken), (h .same, (front-few h, h .blank)))
+
+slice-reshare-prefix-placed-at : tie.Need-slice-reshare-prefix-placed-at Inv-loop μ-loop
+slice-reshare-prefix-placed-at c = search needs
+
+slice-aggregate-placed-at : tie.Need-slice-aggregate-placed-at Inv-loop μ-loop
+slice-aggregate-placed-at c =
+    let l = c .before .before .before in
+    sym (front-length (l .loop .out) (l .before .args .k) (front-fits (l .loop .inv)))
+
+placed-at-requires : tie.Need-placed-at-requires Inv-loop μ-loop
+placed-at-requires c κs =
+    let h = c .before .before .before .loop .inv in
+    (front-fit h, front-next h (c .before .before .loop-test .taken))
+
+mul-lessen : tie.Need-mul-lessen Inv-loop μ-loop
+mul-lessen c = search needs
+
+sub-lessen : tie.Need-sub-lessen Inv-loop μ-loop
+sub-lessen c = search needs
+
+part-lessen-start : tie.Need-part-lessen-start Inv-loop μ-loop
+part-lessen-start c = search needs
+
+part-lessen-end : tie.Need-part-lessen-end Inv-loop μ-loop
+part-lessen-end c = search needs
+
+mul-lessen-2 : tie.Need-mul-lessen-2 Inv-loop μ-loop
+mul-lessen-2 c = search needs
+
+sub-lessen-2 : tie.Need-sub-lessen-2 Inv-loop μ-loop
+sub-lessen-2 c = search needs
+
+part-lessen-start-2 : tie.Need-part-lessen-start-2 Inv-loop μ-loop
+part-lessen-start-2 c = search needs
+
+part-lessen-end-2 : tie.Need-part-lessen-end-2 Inv-loop μ-loop
+part-lessen-end-2 c = search needs
+
+sub-lessen-3 : tie.Need-sub-lessen-3 Inv-loop μ-loop
+sub-lessen-3 c = search needs
+
+lessen-requires : tie.Need-lessen-requires Inv-loop μ-loop
+lessen-requires c κs =
+    let h = c .before .before .before .before .before .before .loop .inv in
+    ((placed (c .before .before .placed-at .ensures), front-remaining h), front-scratch h)
+
+enum-known-f : tie.Need-enum-known-f Inv-loop μ-loop
+enum-known-f c = search needs
+
+add-t30 : tie.Need-add-t30 Inv-loop μ-loop
+add-t30 c =
+    let m = c .before .before .before .before .before .lessen in
+    let p = c .before .before .before .before .before .before .before .before .placed-at in
+    let q = c .before .before .before .before .before .before .before .before .before .before .before in
+    let h = q .before .loop .inv in
+    omega (arith, short-few h (q .loop-test .taken) (p .result .shape) (p .ensures .shape) (m .result) (m .last .1 .1 .0) (m .ensures .0) _ (c .before .f .given .1))
+
+same-length-3 : tie.Need-same-length-3 Inv-loop μ-loop
+same-length-3 c =
+    let m = c .before .before .before .before .before .lessen in
+    let l = c .before .before .before .before .before .before .before .before .before .before .before .before in
+    let e = memoryWidth * l .before .args .k in
+    same-len-mid e (length (l .loop .out) - e) (l .loop .out) (m .last .1 .1 .0) (m .kept .1 .1 .0) ∙ l .loop .inv .long
+
+same-length-4 : tie.Need-same-length-4 Inv-loop μ-loop
+same-length-4 c =
+    let m = c .before .before .before .before .before .lessen in
+    let l = c .before .before .before .before .before .before .before .before .before .before .before .before in
+    let e = memoryWidth * l .before .args .k in
+    same-len-mid e (length (l .loop .scratch) - e) (l .loop .scratch) (m .last .1 .1 .1 .0) (m .kept .1 .1 .1 .0) ∙ l .loop .inv .scratch-long ∙ sym (l .before .pre .1 .1 .1)
+
+returns-2 : tie.Need-returns-2 Inv-loop μ-loop
+returns-2 c =
+    let m = c .before .before .before .before .before .lessen in
+    let p = c .before .before .before .before .before .before .before .before .placed-at in
+    let q = c .before .before .before .before .before .before .before .before .before .before .before in
+    let h = q .before .loop .inv in
+    let l = q .loop-test .taken in (
+      front-short h l (p .result .shape) (p .ensures .shape) (m .result) (m .last .1 .1 .0) (m .ensures .0) _ (c .before .f .given .1),
+      (front-stands h (m .last .1 .1 .0), (short-few h l (p .result .shape) (p .ensures .shape) (m .result) (m .last .1 .1 .0) (m .ensures .0) _ (c .before .f .given .1), scratch-blank h (m .last .1 .1 .1 .0) (m .ensures .1))),
+    )
+
+enum-known-f-2 : tie.Need-enum-known-f-2 Inv-loop μ-loop
+enum-known-f-2 c = search needs
+
+add-sum : tie.Need-add-sum Inv-loop μ-loop
+add-sum c =
+    let m = c .before .before .before .before .before .lessen in
+    let p = c .before .before .before .before .before .before .before .before .placed-at in
+    let q = c .before .before .before .before .before .before .before .before .before .before .before in
+    let h = q .before .loop .inv in
+    omega (arith, turn-few h (q .loop-test .taken) (p .result .shape) (p .ensures .shape) (m .result) (m .last .1 .1 .0) (m .ensures .0) (m .last .1 .1 .1 .0) (m .ensures .1) (m .kept .1 .1 .0) (m .kept .1 .1 .1 .0) _ _ (c .before .f2 .given .1))
+
+add-i : tie.Need-add-i Inv-loop μ-loop
+add-i c = search needs
+
+loop-less : tie.Need-loop-less Inv-loop μ-loop
+loop-less c = search needs
+
+loop-again : tie.Need-loop-again Inv-loop μ-loop
+loop-again c =
+    let m = c .before .before .before .before .before .lessen in
+    let p = c .before .before .before .before .before .before .before .before .placed-at in
+    let q = c .before .before .before .before .before .before .before .before .before .before .before in
+    let h = q .before .loop .inv in
+    front-turn h (q .loop-test .taken) (p .result .shape) (p .ensures .shape) (m .result) (m .last .1 .1 .0) (m .ensures .0) (m .last .1 .1 .1 .0) (m .ensures .1) (m .kept .1 .1 .0) (m .kept .1 .1 .1 .0) _ _ (c .before .f2 .given .1)
+
+same-length-5 : tie.Need-same-length-5 Inv-loop μ-loop
+same-length-5 c = search needs
+
+same-length-6 : tie.Need-same-length-6 Inv-loop μ-loop
+same-length-6 c = search needs
+
+returns-3 : tie.Need-returns-3 Inv-loop μ-loop
+returns-3 c =
+    let h = c .before .loop .inv in
+    (front-stop h (c .loop-test .left), (h .same, (front-few h, h .blank)))
+
+pub lessen-by-front-spec : {M : Type 1} → statement M
+lessen-by-front-spec =
+    tie.close
+    (tie.spec
+    Inv-loop
+    μ-loop
+    mul-end
+    loop-holds
+    same-length
+    same-length-2
+    returns
+    slice-reshare-prefix-placed-at
+    slice-aggregate-placed-at
+    placed-at-requires
+    mul-lessen
+    sub-lessen
+    part-lessen-start
+    part-lessen-end
+    mul-lessen-2
+    sub-lessen-2
+    part-lessen-start-2
+    part-lessen-end-2
+    sub-lessen-3
+    lessen-requires
+    enum-known-f
+    add-t30
+    same-length-3
+    same-length-4
+    returns-2
+    enum-known-f-2
+    add-sum
+    add-i
+    loop-less
+    loop-again
+    same-length-5
+    same-length-6
+    returns-3)

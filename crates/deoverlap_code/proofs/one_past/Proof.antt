@@ -1,0 +1,217 @@
+use mathlib.Core.Path.{sym, _∙_, subst}
+use mathlib.Core.List.{[], _∷_}
+use Prim.Native.Nat.{_+_, _*_, _-_, _<_}
+use native.Mathlib.Omega.{arith}
+use lib.ListN.{length}
+use borrow.Author.Needs.{needs}
+use borrow.Rule.Slice.PartMut.{same-len-mid}
+use Rattle.records.specs.Limits.{memoryWidth, maxRecords}
+use Rattle.geometry.specs.Fitness.{Layer}
+use Rattle.boolean.specs.Space.{addition}
+use Rattle.trapezoids_code.proofs.Writing.{tail}
+use Rattle.remainder_code.specs.Code.{maxOverlays, OverlaysWithin}
+use Rattle.remainder_code.proofs.Lessening.{placed}
+use Rattle.remainder_code.proofs.Answers.{folded-within, within-least, within-more, within-done}
+use Rattle.remainder_code.proofs.Held.{held-fits}
+use Rattle.deoverlap_code.proofs.Front.{front-length, front-count}
+use Rattle.deoverlap_code.proofs.Past.{front-layer, past-borrowed, past-whole, past-few, past-refused, past-front, past-remaining, past-folded}
+use Rattle.deoverlap_code.proofs.one_past.Statement.{statement}
+use Rattle.deoverlap_code.proofs.one_past.Tie as tie
+
+mul-end : tie.Need-mul-end
+mul-end c = search needs
+
+mul-add-whole : tie.Need-mul-add-whole
+mul-add-whole c = search needs
+
+sub-add-whole : tie.Need-sub-add-whole
+sub-add-whole c = search needs
+
+part-add-whole-start : tie.Need-part-add-whole-start
+part-add-whole-start c = search needs
+
+part-add-whole-end : tie.Need-part-add-whole-end
+part-add-whole-end c = search needs
+
+sub-add-whole-2 : tie.Need-sub-add-whole-2
+sub-add-whole-2 c = search needs
+
+add-whole-requires : tie.Need-add-whole-requires
+add-whole-requires c κs =
+    let s = c .before .before in
+    let a = s .args in
+    past-borrowed (a .out .now) (a .k) (a .room) (s .pre .0 .1)
+
+same-length : tie.Need-same-length
+same-length c = search needs
+
+returns : tie.Need-returns
+returns c =
+    let s = c .before .before .before .before in
+    let a = s .args in
+    let d = a .out .now in
+    let w = c .before .add-whole in
+    let t = w .last .1 .0 in (
+      past-whole d (a .k) (a .room) (s .pre .0 .1) (a .a .shape) (a .j) (c .before .before .before .if1 .taken) (w .result) t (w .ensures),
+      (
+        past-front d (a .k) (a .room) (s .pre .0 .1) t,
+        (within-least 1 (maxRecords * (maxRecords - a .j) + 1) (w .result) (omega arith) (folded-within (length (tail d (a .k))) (a .room - a .k) (a .a .shape ∷ []) (addition 1 ∷ []) (w .result) t (w .ensures)), s .pre .1 .0),
+      ),
+    )
+
+slice-reshare-prefix-placed-at : tie.Need-slice-reshare-prefix-placed-at
+slice-reshare-prefix-placed-at c = search needs
+
+slice-aggregate-placed-at : tie.Need-slice-aggregate-placed-at
+slice-aggregate-placed-at c =
+    let s = c .before .before in
+    let a = s .args in
+    sym (front-length (a .out .now) (a .k) (held-fits (a .out .now) (a .k) (a .room) (s .pre .0 .1)))
+
+placed-at-requires : tie.Need-placed-at-requires
+placed-at-requires c κs =
+    let s = c .before .before in
+    let a = s .args in
+    let n = front-count (a .out .now) (a .k) (held-fits (a .out .now) (a .k) (a .room) (s .pre .0 .1)) in
+    (front-layer (a .out .now) (a .k) (a .room) (s .pre .0 .1) (s .pre .0 .2) .fit, omega (arith, n, c .before .if1 .left))
+
+mul-first-into : tie.Need-mul-first-into
+mul-first-into c = search needs
+
+sub-first-into : tie.Need-sub-first-into
+sub-first-into c = search needs
+
+part-first-into-start : tie.Need-part-first-into-start
+part-first-into-start c = search needs
+
+part-first-into-end : tie.Need-part-first-into-end
+part-first-into-end c = search needs
+
+sub-first-into-2 : tie.Need-sub-first-into-2
+sub-first-into-2 c = search needs
+
+first-into-requires : tie.Need-first-into-requires
+first-into-requires c κs =
+    let s = c .before .before .before .before in
+    let a = s .args in
+    (record { first = s .pre .0 .0; second = placed (c .before .placed-at .ensures) }, past-borrowed (a .out .now) (a .k) (a .room) (s .pre .0 .1))
+
+enum-known-f : tie.Need-enum-known-f
+enum-known-f c = search needs
+
+enum-told : tie.Need-enum-told
+enum-told c = search needs
+
+same-length-2 : tie.Need-same-length-2
+same-length-2 c = search needs
+
+returns-2 : tie.Need-returns-2
+returns-2 c =
+    let f = c .before .before .before .first-into in
+    let p = c .before .before .before .before .before .placed-at in
+    let i = c .before .before .before .before .before .before .before in
+    let s = i .before in
+    let a = s .args in
+    let d = a .out .now in
+    let t = f .last .1 .1 .0 in
+    let l : a .j < a .k = omega (arith, i .if1 .left) in (
+      past-refused d (a .k) (a .room) (s .pre .0 .1) (a .a .shape) (a .j) l (p .result .shape) (p .ensures .shape) (f .result) t (f .ensures) _ (c .enum-told .given .1),
+      (
+        past-front d (a .k) (a .room) (s .pre .0 .1) t,
+        (within-least 1 (maxRecords * (maxRecords - a .j) + 1) (f .result) (omega arith) (past-few d (a .k) (a .room) (s .pre .0 .1) (a .a .shape) (a .j) l (p .result .shape) (p .ensures .shape) (f .result) t (f .ensures)), s .pre .1 .0),
+      ),
+    )
+
+add-lessen-by-front : tie.Need-add-lessen-by-front
+add-lessen-by-front c = search needs
+
+lessen-by-front-requires : tie.Need-lessen-by-front-requires
+lessen-by-front-requires c κs =
+    let k = c .before .before in
+    let f = k .before .before .before .before .first-into in
+    let p = k .before .before .before .before .before .before .placed-at in
+    let i = k .before .before .before .before .before .before .before .before in
+    let s = i .before in
+    let a = s .args in
+    let d = a .out .now in
+    let t = f .last .1 .1 .0 in
+    let l : a .j < a .k = omega (arith, i .if1 .left) in
+    let e = past-front d (a .k) (a .room) (s .pre .0 .1) t in
+    let n = same-len-mid (memoryWidth * a .k) (length d - memoryWidth * a .k) d t (f .kept .1 .1 .0) in (
+      (subst Layer (sym e) (front-layer d (a .k) (a .room) (s .pre .0 .1) (s .pre .0 .2)), omega (arith, l), s .pre .0 .1 .within, s .pre .0 .2),
+      (
+        (omega (arith, n, s .pre .0 .1 .wide), past-remaining d (a .k) (a .room) (s .pre .0 .1) (a .a .shape) (a .j) l (p .result .shape) (p .ensures .shape) (f .result) t (f .ensures) (f .kept .1 .1 .0) _ _ (k .before .f .given .1) (s .pre .0 .0 .fit) (p .ensures .fit)),
+        (s .pre .1 .0, s .pre .1 .1 ∙ sym n),
+      ),
+    )
+
+more-overlays-requires : tie.Need-more-overlays-requires
+more-overlays-requires c κs =
+    let q = c .before .before .lessen-by-front in
+    let k = c .before .before .before .before .before in
+    let f = k .before .before .before .before .first-into in
+    let p = k .before .before .before .before .before .before .placed-at in
+    let i = k .before .before .before .before .before .before .before .before in
+    let s = i .before in
+    let a = s .args in
+    let u = past-few (a .out .now) (a .k) (a .room) (s .pre .0 .1) (a .a .shape) (a .j) (omega (arith, i .if1 .left)) (p .result .shape) (p .ensures .shape) (f .result) (f .last .1 .1 .0) (f .ensures) in
+    (omega (arith, within-done 1 _ _ (f .result) (k .before .f .given .1) u), within-least (maxRecords * (maxRecords - (a .j + 1))) maxOverlays (q .result) (omega arith) (q .ensures .1 .1 .0))
+
+same-length-3 : tie.Need-same-length-3
+same-length-3 c = search needs
+
+same-length-4 : tie.Need-same-length-4
+same-length-4 c = search needs
+
+returns-3 : tie.Need-returns-3
+returns-3 c =
+    let q = c .before .before .before .lessen-by-front in
+    let k = c .before .before .before .before .before .before in
+    let f = k .before .before .before .before .first-into in
+    let p = k .before .before .before .before .before .before .placed-at in
+    let i = k .before .before .before .before .before .before .before .before in
+    let s = i .before in
+    let a = s .args in
+    let d = a .out .now in
+    let t = f .last .1 .1 .0 in
+    let l : a .j < a .k = omega (arith, i .if1 .left) in
+    let u = past-few d (a .k) (a .room) (s .pre .0 .1) (a .a .shape) (a .j) l (p .result .shape) (p .ensures .shape) (f .result) t (f .ensures) in
+    let v = within-done 1 _ _ (f .result) (k .before .f .given .1) u in
+    let r = c .more-overlays .ensures in
+    let g = past-folded d (a .k) (a .room) (s .pre .0 .1) (a .a .shape) (a .j) l (p .result .shape) (p .ensures .shape) (f .result) t (f .ensures) (f .kept .1 .1 .0) _ _ (k .before .f .given .1) (q .result) _ (q .ensures .0) in
+    let e = past-front d (a .k) (a .room) (s .pre .0 .1) t in
+    let w = within-more (maxRecords * (maxRecords - (a .j + 1))) 1 _ (q .result) v (q .ensures .1 .1 .0) in
+    (rw r g, (q .ensures .1 .0 ∙ e, (within-least (1 + maxRecords * (maxRecords - (a .j + 1))) (maxRecords * (maxRecords - a .j) + 1) (c .more-overlays .result) (omega arith) (subst (OverlaysWithin (1 + maxRecords * (maxRecords - (a .j + 1)))) (sym r) w), q .ensures .1 .1 .1)))
+
+pub one-past-spec : {M : Type 1} → statement M
+one-past-spec =
+    tie.close
+    (tie.spec
+    mul-end
+    mul-add-whole
+    sub-add-whole
+    part-add-whole-start
+    part-add-whole-end
+    sub-add-whole-2
+    add-whole-requires
+    same-length
+    returns
+    slice-reshare-prefix-placed-at
+    slice-aggregate-placed-at
+    placed-at-requires
+    mul-first-into
+    sub-first-into
+    part-first-into-start
+    part-first-into-end
+    sub-first-into-2
+    first-into-requires
+    enum-known-f
+    enum-told
+    same-length-2
+    returns-2
+    add-lessen-by-front
+    lessen-by-front-requires
+    more-overlays-requires
+    same-length-3
+    same-length-4
+    returns-3)

@@ -1,0 +1,57 @@
+use mathlib.Core.Path.{_≡_, sym, _∙_}
+use native.Mathlib.Omega.{arith}
+use borrow.Author.Needs.{needs}
+use Rattle.files.specs.declared.Number.the-variants.{Outside}
+use Rattle.files.specs.Directory.{numberFrom}
+use Rattle.files.proofs.Numbers.{number, none-complete, incomplete, completed}
+use Rattle.directory_code.proofs.count_of.Statement.{statement}
+use Rattle.directory_code.proofs.count_of.Tie as tie
+
+number-from-requires : tie.Need-number-from-requires
+number-from-requires c κs = search needs
+
+enum-known-k : tie.Need-enum-known-k
+enum-known-k c = search needs
+
+enum-told : tie.Need-enum-told
+enum-told c = search needs
+
+returns : tie.Need-returns
+returns c =
+    let s = c .before .before .before .args in
+    none-complete (s .words) (let e : numberFrom 0 (s .f .count) (s .first .v) ≡ Outside = cc in e)
+
+mul-if1 : tie.Need-mul-if1
+mul-if1 c =
+    let k = c .before in
+    let s = k .before .before .before in
+    record { fits = omega (arith, number 0 (s .args .f .count) (s .args .first .v) (sym (k .before .before .number-from .ensures) ∙ k .k .given .1) .high, s .pre .count) }
+
+add-if1 : tie.Need-add-if1
+add-if1 c =
+    let k = c .before in
+    let s = k .before .before .before in
+    record { fits = omega (arith, number 0 (s .args .f .count) (s .args .first .v) (sym (k .before .before .number-from .ensures) ∙ k .k .given .1) .high, s .pre .count) }
+
+returns-2 : tie.Need-returns-2
+returns-2 c =
+    let k = c .before .before in
+    incomplete (k .before .before .before .args .words) (sym (k .before .before .number-from .ensures) ∙ k .k .given .1) (c .if1 .taken)
+
+returns-3 : tie.Need-returns-3
+returns-3 c =
+    let k = c .before .before in
+    completed (k .before .before .before .args .words) (sym (k .before .before .number-from .ensures) ∙ k .k .given .1) (c .if1 .left)
+
+pub count-of-spec : {M : Type 1} → statement M
+count-of-spec =
+    tie.close
+    (tie.spec
+    number-from-requires
+    enum-known-k
+    enum-told
+    returns
+    mul-if1
+    add-if1
+    returns-2
+    returns-3)

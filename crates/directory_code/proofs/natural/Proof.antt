@@ -1,0 +1,32 @@
+use mathlib.Core.Path.{_≡_}
+use mathlib.Core.Bool.{true, false}
+use lib.IntN.{pos}
+use lib.Signed.{ltZ}
+use borrow.Author.Needs.{needs}
+use Rattle.files.proofs.Numbers.{negative, kept, natural}
+use Rattle.directory_code.proofs.natural.Statement.{statement}
+use Rattle.directory_code.proofs.natural.Tie as tie
+
+of-requires : tie.Need-of-requires
+of-requires c κs = search needs
+
+less-requires : tie.Need-less-requires
+less-requires c κs = search needs
+
+returns : tie.Need-returns
+returns c =
+    let x = c .before .before .before .args .x .v in
+    negative x (let e : ltZ x (pos 0) ≡ true = cc in e)
+
+cast-t4 : tie.Need-cast-t4
+cast-t4 c =
+    let s = c .before .before .before .before .before in
+    kept (s .args .x .v) (search needs) (let e : ltZ (s .args .x .v) (pos 0) ≡ false = cc in e)
+
+returns-2 : tie.Need-returns-2
+returns-2 c =
+    let s = c .before .before .before .before .before in
+    natural (s .args .x .v) (search needs) (let e : ltZ (s .args .x .v) (pos 0) ≡ false = cc in e)
+
+pub natural-spec : {M : Type 1} → statement M
+natural-spec = tie.close (tie.spec of-requires less-requires returns cast-t4 returns-2)

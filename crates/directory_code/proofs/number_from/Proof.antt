@@ -1,0 +1,44 @@
+use mathlib.Core.Path.{_≡_, sym, _∙_}
+use borrow.Author.Needs.{needs}
+use Rattle.files.specs.declared.Number.the-variants.{Outside}
+use Rattle.files.specs.Directory.{naturalOf}
+use Rattle.files.proofs.Numbers.{no-number, too-low, too-high, in-range}
+use Rattle.directory_code.proofs.number_from.Statement.{statement}
+use Rattle.directory_code.proofs.number_from.Tie as tie
+
+natural-requires : tie.Need-natural-requires
+natural-requires c κs = search needs
+
+enum-known-k : tie.Need-enum-known-k
+enum-known-k c = search needs
+
+enum-told : tie.Need-enum-told
+enum-told c = search needs
+
+returns : tie.Need-returns
+returns c =
+    let s = c .before .before .before .args in
+    no-number (s .least) (s .most) (s .x .v) (let e : naturalOf (s .x .v) ≡ Outside = cc in e)
+
+returns-2 : tie.Need-returns-2
+returns-2 c =
+    let k = c .before .before in
+    let s = k .before .before .before .args in
+    too-low (s .least) (s .most) (s .x .v) (sym (k .before .before .natural .ensures) ∙ k .k .given .1) (c .if1 .taken)
+
+returns-3 : tie.Need-returns-3
+returns-3 c =
+    let k = c .before .before .before in
+    let s = k .before .before .before .args in
+    too-high (s .least) (s .most) (s .x .v) (sym (k .before .before .natural .ensures) ∙ k .k .given .1) (c .before .if1 .left) (c .if2 .taken)
+
+returns-4 : tie.Need-returns-4
+returns-4 c =
+    let k = c .before .before .before in
+    let s = k .before .before .before .args in
+    in-range (s .least) (s .most) (s .x .v) (sym (k .before .before .natural .ensures) ∙ k .k .given .1) (c .before .if1 .left) (c .if2 .left)
+
+pub number-from-spec : {M : Type 1} → statement M
+number-from-spec =
+    tie.close
+    (tie.spec natural-requires enum-known-k enum-told returns returns-2 returns-3 returns-4)

@@ -1,0 +1,68 @@
+use mathlib.Core.Path.{_∙_, ap}
+use mathlib.Core.List.{_++_}
+use Prim.Native.Nat.{ℕ, _-_}
+use native.Mathlib.Omega.{arith}
+use lib.ListN.{drop}
+use lib.IntN.{pos}
+use mir.Facts.{toZ-ofZ}
+use borrow.Author.Needs.{needs, sfits-of}
+use Rattle.lists.proofs.Fill.{Laid, lay-start, lay-turn, lay-stop}
+use Rattle.files.specs.Formats.{fileWords}
+use Rattle.files.proofs.Reading.{length-file}
+use Rattle.files_code.proofs.decode.Statement.{statement}
+use Rattle.files_code.proofs.decode.Tie as tie
+
+abbrev Inv-loop : tie.InvT-loop
+Inv-loop file out₀ n i₀ out i = Laid (fileWords file) out₀ out i
+
+abbrev μ-loop : tie.MeasureT-loop
+μ-loop file out₀ n i₀ out i = n - i
+
+loop-holds : tie.Need-loop-holds Inv-loop μ-loop
+loop-holds c =
+    let s = c .before in
+    lay-start (fileWords (s .args .file .now)) (s .args .out .now) (omega (arith, length-file (s .args .file .now), s .pre))
+
+load-file-word-requires : tie.Need-load-file-word-requires Inv-loop μ-loop
+load-file-word-requires c κs = search needs
+
+mul-w : tie.Need-mul-w Inv-loop μ-loop
+mul-w c = search needs
+
+slice-set-from-w : tie.Need-slice-set-from-w Inv-loop μ-loop
+slice-set-from-w c = omega (arith, c .before .before .loop .inv .long, c .before .loop-test .taken, c .before .before .before .before .pre)
+
+add-i : tie.Need-add-i Inv-loop μ-loop
+add-i c = search needs
+
+loop-less : tie.Need-loop-less Inv-loop μ-loop
+loop-less c = search needs
+
+loop-again : tie.Need-loop-again Inv-loop μ-loop
+loop-again c =
+    let s = c .before .before .before .before in
+    lay-turn (pos 0) (c .before .before .loop .inv) (omega (arith, length-file (s .args .file .now), c .before .loop-test .taken)) (toZ-ofZ (sfits-of (c .load-file-word .ok)) ∙ c .load-file-word .ensures)
+
+same-length : tie.Need-same-length Inv-loop μ-loop
+same-length c = c .before .loop .inv .long
+
+returns : tie.Need-returns Inv-loop μ-loop
+returns c =
+    let s = c .before .before .before in
+    lay-stop (c .before .loop .inv) (omega (arith, length-file (s .args .file .now), c .loop-test .left)) ∙ ap (λ (k : ℕ). fileWords (s .args .file .now) ++ drop k (s .args .out .now)) (length-file (s .args .file .now))
+
+pub decode-spec : {M : Type 1} → statement M
+decode-spec =
+    tie.close
+    (tie.spec
+    Inv-loop
+    μ-loop
+    loop-holds
+    load-file-word-requires
+    mul-w
+    slice-set-from-w
+    add-i
+    loop-less
+    loop-again
+    same-length
+    returns)

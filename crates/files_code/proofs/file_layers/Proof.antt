@@ -1,0 +1,91 @@
+use mathlib.Core.Path.{_≡_, sym, _∙_, ap}
+use Prim.Native.Nat.{_+_, _*_, _≤_, _/_}
+use native.Mathlib.Omega.{arith}
+use lib.ListN.{length}
+use borrow.Author.Needs.{needs}
+use Rattle.lists.proofs.Parts.{mid-tail}
+use Rattle.files.specs.declared.Format.{Format}
+use Rattle.files.specs.declared.Directory.the-variants.{Right}
+use Rattle.files.specs.Formats.{fileWords, layerFile}
+use Rattle.files.specs.Directory.{directoryOf}
+use Rattle.files.specs.Contents.{fileCodec}
+use Rattle.files.proofs.Layers.{layer-modest, layers-wrong, layers-right}
+use Rattle.files.proofs.Right.{IsRight, right}
+use Rattle.files.proofs.Reading.{length-file, body-words}
+use Rattle.files_code.proofs.file_layers.Statement.{statement}
+use Rattle.files_code.proofs.file_layers.Tie as tie
+
+-- the directory, as it was found
+module _ (c : tie.After-known-told2) where
+  found : directoryOf layerFile (fileWords (c .before .before .before .before .before .before .args .file .now)) ≡ Right (c .before .d2 .given .0 .0) (c .before .d2 .given .0 .1 .0)
+  found = sym (ap (λ (f : Format). directoryOf f (fileWords (c .before .before .before .before .before .before .args .file .now))) (c .before .before .before .before .layer-format .ensures)) ∙ sym (c .before .before .before .file-directory .ensures) ∙ c .before .d2 .given .1
+
+  is-right : IsRight layerFile (fileWords (c .before .before .before .before .before .before .args .file .now)) (c .before .d2 .given .0 .0) (c .before .d2 .given .0 .1 .0)
+  is-right = right layerFile (fileWords (c .before .before .before .before .before .before .args .file .now)) found
+
+  in-file : 2 * c .before .d2 .given .0 .0 + 1 ≤ length (c .before .before .before .before .before .before .args .file .now) / 4
+  in-file = omega (arith, is-right .fit, length-file (c .before .before .before .before .before .before .args .file .now))
+
+layer-format-requires : tie.Need-layer-format-requires
+layer-format-requires c κs = search needs
+
+file-directory-requires : tie.Need-file-directory-requires
+file-directory-requires c κs = rw (c .layer-format .ensures) layer-modest
+
+enum-known-d : tie.Need-enum-known-d
+enum-known-d c = search needs
+
+enum-known-d-2 : tie.Need-enum-known-d-2
+enum-known-d-2 c = search needs
+
+mul-start : tie.Need-mul-start
+mul-start c = record { fits = omega (arith, is-right c .most) }
+
+add-start : tie.Need-add-start
+add-start c = record { fits = omega (arith, is-right c .most) }
+
+mul-start-2 : tie.Need-mul-start-2
+mul-start-2 c = record { fits = omega (arith, is-right c .most) }
+
+sub-body-refused : tie.Need-sub-body-refused
+sub-body-refused c = omega (arith, in-file c)
+
+part-body-refused-start : tie.Need-part-body-refused-start
+part-body-refused-start c = omega (arith, in-file c)
+
+part-body-refused-end : tie.Need-part-body-refused-end
+part-body-refused-end c = search needs
+
+body-refused-requires : tie.Need-body-refused-requires
+body-refused-requires c κs = search needs
+
+returns : tie.Need-returns
+returns c =
+    let k = c .before in
+    let s = k .before .before .before .before .before in
+    layers-wrong layerFile fileCodec (fileWords (s .args .file .now)) (sym (ap (λ (f : Format). directoryOf f (fileWords (s .args .file .now))) (k .before .before .before .layer-format .ensures)) ∙ sym (k .before .before .file-directory .ensures) ∙ k .d .given .1)
+
+returns-2 : tie.Need-returns-2
+returns-2 c =
+    let k = c .before .before in
+    let bs = k .before .before .before .before .before .before .args .file .now in
+    let n = k .before .d2 .given .0 .0 in
+    c .body-refused .ensures ∙ layers-right layerFile fileCodec (fileWords bs) (found k) (ap fileWords (mid-tail (4 * (2 * n + 1)) bs) ∙ body-words bs (2 * n + 1))
+
+pub file-layers-spec : {M : Type 1} → statement M
+file-layers-spec =
+    tie.close
+    (tie.spec
+    layer-format-requires
+    file-directory-requires
+    enum-known-d
+    enum-known-d-2
+    mul-start
+    add-start
+    mul-start-2
+    sub-body-refused
+    part-body-refused-start
+    part-body-refused-end
+    body-refused-requires
+    returns
+    returns-2)

@@ -1,0 +1,50 @@
+use mathlib.Core.Path.{sym, _∙_, ap}
+use borrow.Author.Needs.{needs}
+use Rattle.files.specs.declared.Format.{Format}
+use Rattle.files.specs.Formats.{fileWords}
+use Rattle.files.specs.Directory.{directoryOf}
+use Rattle.files.proofs.Layers.{polygon-modest}
+use Rattle.files_code.proofs.file_polygons.Statement.{statement}
+use Rattle.files_code.proofs.file_polygons.Tie as tie
+
+polygon-format-requires : tie.Need-polygon-format-requires
+polygon-format-requires c κs = search needs
+
+file-directory-requires : tie.Need-file-directory-requires
+file-directory-requires c κs = rw (c .polygon-format .ensures) polygon-modest
+
+enum-known-d : tie.Need-enum-known-d
+enum-known-d c = search needs
+
+enum-known-d-2 : tie.Need-enum-known-d-2
+enum-known-d-2 c = search needs
+
+polygons-on-grid-requires : tie.Need-polygons-on-grid-requires
+polygons-on-grid-requires c κs =
+    let k = c .before in
+    let s = k .before .before .before .before .before in
+    record { total = k .d2 .given .0 .1 .0; is = sym (ap (λ (f : Format). directoryOf f (fileWords (s .args .file .now))) (k .before .before .before .polygon-format .ensures)) ∙ sym (k .before .before .file-directory .ensures) ∙ k .d2 .given .1 }
+
+returns : tie.Need-returns
+returns c =
+    let k = c .before in
+    let s = k .before .before .before .before .before in
+    rw (sym (ap (λ (f : Format). directoryOf f (fileWords (s .args .file .now))) (k .before .before .before .polygon-format .ensures)) ∙ sym (k .before .before .file-directory .ensures) ∙ k .d .given .1)
+
+returns-2 : tie.Need-returns-2
+returns-2 c =
+    let k = c .before .before in
+    let s = k .before .before .before .before .before in
+    c .polygons-on-grid .ensures ∙ rw (sym (ap (λ (f : Format). directoryOf f (fileWords (s .args .file .now))) (k .before .before .before .polygon-format .ensures)) ∙ sym (k .before .before .file-directory .ensures) ∙ k .d2 .given .1)
+
+pub file-polygons-spec : {M : Type 1} → statement M
+file-polygons-spec =
+    tie.close
+    (tie.spec
+    polygon-format-requires
+    file-directory-requires
+    enum-known-d
+    enum-known-d-2
+    polygons-on-grid-requires
+    returns
+    returns-2)

@@ -1,0 +1,43 @@
+use mathlib.Core.Path.{_∙_, ap}
+use native.Mathlib.Omega.{arith}
+use borrow.Author.Needs.{needs}
+use Rattle.files.specs.Contents.{amountOf, fileCodec}
+use Rattle.files.specs.Formats.{fileWords}
+use Rattle.files.proofs.Reading.{length-file}
+use Rattle.files.proofs.Bounds.{units-count}
+use Rattle.files_code.proofs.file_trapezoids.Statement.{statement}
+use Rattle.files_code.proofs.file_trapezoids.Tie as tie
+
+word-at-requires : tie.Need-word-at-requires
+word-at-requires c κs = search needs
+
+amount-of-requires : tie.Need-amount-of-requires
+amount-of-requires c κs = search needs
+
+mul-start : tie.Need-mul-start
+mul-start c =
+    let s = c .before .before .before in
+    let e = c .amount-of .ensures ∙ ap amountOf (c .before .word-at .ensures) in
+    record { fits = omega (arith, e, s .pre .0) }
+
+add-start : tie.Need-add-start
+add-start c =
+    let s = c .before .before .before in
+    let e = c .amount-of .ensures ∙ ap amountOf (c .before .word-at .ensures) in
+    record { fits = omega (arith, e, s .pre .0) }
+
+sub-result : tie.Need-sub-result
+sub-result c =
+    let s = c .before .before .before in
+    let e = c .amount-of .ensures ∙ ap amountOf (c .before .word-at .ensures) in
+    omega (arith, e, s .pre .1)
+
+returns : tie.Need-returns
+returns c =
+    let s = c .before .before .before in
+    let e = c .amount-of .ensures ∙ ap amountOf (c .before .word-at .ensures) in
+    units-count fileCodec (fileWords (s .args .file .now)) (length-file (s .args .file .now)) e
+
+pub file-trapezoids-spec : {M : Type 1} → statement M
+file-trapezoids-spec =
+    tie.close (tie.spec word-at-requires amount-of-requires mul-start add-start sub-result returns)

@@ -1,0 +1,22 @@
+use mathlib.Core.Path.{_∙_, ap}
+use native.Mathlib.Omega.{arith}
+use borrow.Author.Needs.{needs}
+use Rattle.files.specs.Contents.{amountOf}
+use Rattle.files.proofs.Pairs.{few, in-directory}
+use Rattle.files_code.proofs.polygon_count.Statement.{statement}
+use Rattle.files_code.proofs.polygon_count.Tie as tie
+
+word-at-requires : tie.Need-word-at-requires
+word-at-requires c κs = let s = c .before in omega (arith, in-directory (s .args .file .now) (s .pre))
+
+amount-of-requires : tie.Need-amount-of-requires
+amount-of-requires c κs = search needs
+
+returns : tie.Need-returns
+returns c =
+    let s = c .before .before .before in
+    let e = c .amount-of .ensures ∙ ap amountOf (c .before .word-at .ensures) in
+    (e, omega (arith, e, few (s .args .file .now) (s .pre)))
+
+pub polygon-count-spec : {M : Type 1} → statement M
+polygon-count-spec = tie.close (tie.spec word-at-requires amount-of-requires returns)

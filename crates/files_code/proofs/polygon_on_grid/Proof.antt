@@ -1,0 +1,59 @@
+use mathlib.Core.Path.{sym, _∙_}
+use Prim.Native.Nat.{_-_}
+use native.Mathlib.Omega.{arith}
+use borrow.Author.Needs.{needs}
+use borrow.Author.Tests.{not-true, not-false}
+use Rattle.geometry.specs.Polygons.{vertexOnGrid}
+use Rattle.files.specs.Formats.{fileWords}
+use Rattle.files.proofs.Polygons.{Passing, pass-start, pass-turn, pass-fail, pass-stop}
+use Rattle.files_code.proofs.polygon_on_grid.Statement.{statement}
+use Rattle.files_code.proofs.polygon_on_grid.Tie as tie
+
+abbrev Inv-loop : tie.InvT-loop
+Inv-loop body from to limit i₀ i = Passing (vertexOnGrid limit) (fileWords body) from to i
+
+abbrev μ-loop : tie.MeasureT-loop
+μ-loop body from to limit i₀ i = to - i
+
+loop-holds : tie.Need-loop-holds Inv-loop μ-loop
+loop-holds c =
+    let s = c .before in
+    pass-start (vertexOnGrid (s .args .limit)) (fileWords (s .args .body .now)) (s .args .from) (s .args .to) (s .pre .0)
+
+vertex-on-grid-requires : tie.Need-vertex-on-grid-requires Inv-loop μ-loop
+vertex-on-grid-requires c κs = omega (arith, c .loop-test .taken, c .before .before .before .pre .1)
+
+returns : tie.Need-returns Inv-loop μ-loop
+returns c =
+    let s = c .before .before .before .before .before in
+    pass-fail (vertexOnGrid (s .args .limit)) (fileWords (s .args .body .now)) (s .args .from) (s .args .to) (c .before .before .before .loop .inv) (c .before .before .loop-test .taken) (sym (c .before .vertex-on-grid .ensures) ∙ not-true (c .before .vertex-on-grid .result) (c .if1 .taken))
+
+add-i : tie.Need-add-i Inv-loop μ-loop
+add-i c = search needs
+
+loop-less : tie.Need-loop-less Inv-loop μ-loop
+loop-less c = search needs
+
+loop-again : tie.Need-loop-again Inv-loop μ-loop
+loop-again c =
+    let s = c .before .before .before .before .before in
+    pass-turn (vertexOnGrid (s .args .limit)) (fileWords (s .args .body .now)) (s .args .from) (s .args .to) (c .before .before .before .loop .inv) (c .before .before .loop-test .taken) (sym (c .before .vertex-on-grid .ensures) ∙ not-false (c .before .vertex-on-grid .result) (c .if1 .left))
+
+returns-2 : tie.Need-returns-2 Inv-loop μ-loop
+returns-2 c =
+    let s = c .before .before .before in
+    pass-stop (vertexOnGrid (s .args .limit)) (fileWords (s .args .body .now)) (s .args .from) (s .args .to) (c .before .loop .inv) (c .loop-test .left)
+
+pub polygon-on-grid-spec : {M : Type 1} → statement M
+polygon-on-grid-spec =
+    tie.close
+    (tie.spec
+    Inv-loop
+    μ-loop
+    loop-holds
+    vertex-on-grid-requires
+    returns
+    add-i
+    loop-less
+    loop-again
+    returns-2)

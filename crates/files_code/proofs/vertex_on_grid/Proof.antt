@@ -1,0 +1,52 @@
+use mathlib.Core.Path.{sym, _∙_}
+use borrow.Author.Needs.{needs}
+use Rattle.files.specs.Formats.{fileWords}
+use Rattle.files.proofs.Polygons.{vertex-off, vertex-by}
+use Rattle.files_code.proofs.vertex_on_grid.Statement.{statement}
+use Rattle.files_code.proofs.vertex_on_grid.Tie as tie
+
+mul-word-at : tie.Need-mul-word-at
+mul-word-at c = search needs
+
+word-at-requires : tie.Need-word-at-requires
+word-at-requires c κs = search needs
+
+within-requires : tie.Need-within-requires
+within-requires c κs = search needs
+
+mul-word-at-2 : tie.Need-mul-word-at-2
+mul-word-at-2 c = search needs
+
+add-word-at : tie.Need-add-word-at
+add-word-at c = search needs
+
+word-at-requires-2 : tie.Need-word-at-requires-2
+word-at-requires-2 c κs = search needs
+
+within-requires-2 : tie.Need-within-requires-2
+within-requires-2 c κs = search needs
+
+returns : tie.Need-returns
+returns c =
+    let k = c .before .before in
+    let s = k .before .before .before .before .args in
+    c .within2 .ensures ∙ vertex-by (s .limit) (fileWords (s .body .now)) (s .i) (k .before .before .word-at .ensures) (sym (k .before .within .ensures) ∙ k .if1 .taken) (c .before .word-at2 .ensures)
+
+returns-2 : tie.Need-returns-2
+returns-2 c =
+    let s = c .before .before .before .before .args in
+    vertex-off (s .limit) (fileWords (s .body .now)) (s .i) (c .before .before .word-at .ensures) (sym (c .before .within .ensures) ∙ c .if1 .left)
+
+pub vertex-on-grid-spec : {M : Type 1} → statement M
+vertex-on-grid-spec =
+    tie.close
+    (tie.spec
+    mul-word-at
+    word-at-requires
+    within-requires
+    mul-word-at-2
+    add-word-at
+    word-at-requires-2
+    within-requires-2
+    returns
+    returns-2)

@@ -1,0 +1,42 @@
+use mathlib.Core.Path.{refl, _∙_, ap}
+use native.Mathlib.Omega.{arith}
+use borrow.Author.Needs.{needs}
+use Rattle.geometry.specs.Trapezoids.{trapezoidCodec}
+use Rattle.files.specs.Contents.{amountOf}
+use Rattle.files.proofs.Bounds.{units-count}
+use Rattle.files_code.proofs.words_trapezoids.Statement.{statement}
+use Rattle.files_code.proofs.words_trapezoids.Tie as tie
+
+get-requires : tie.Need-get-requires
+get-requires c κs = search needs
+
+amount-of-requires : tie.Need-amount-of-requires
+amount-of-requires c κs = search needs
+
+mul-start : tie.Need-mul-start
+mul-start c =
+    let s = c .before .before in
+    let e = c .amount-of .ensures ∙ ap amountOf (c .before .get .ensures .0) in
+    record { fits = omega (arith, e, s .pre .0) }
+
+add-start : tie.Need-add-start
+add-start c =
+    let s = c .before .before in
+    let e = c .amount-of .ensures ∙ ap amountOf (c .before .get .ensures .0) in
+    record { fits = omega (arith, e, s .pre .0) }
+
+sub-result : tie.Need-sub-result
+sub-result c =
+    let s = c .before .before in
+    let e = c .amount-of .ensures ∙ ap amountOf (c .before .get .ensures .0) in
+    omega (arith, e, s .pre .1)
+
+returns : tie.Need-returns
+returns c =
+    let s = c .before .before in
+    let e = c .amount-of .ensures ∙ ap amountOf (c .before .get .ensures .0) in
+    units-count trapezoidCodec (s .args .words .now) (refl) e
+
+pub words-trapezoids-spec : {M : Type 1} → statement M
+words-trapezoids-spec =
+    tie.close (tie.spec get-requires amount-of-requires mul-start add-start sub-result returns)

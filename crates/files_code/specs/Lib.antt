@@ -1,0 +1,2 @@
+-- A polygon of a file.
+pub mod Code

@@ -1,0 +1,4 @@
+pub mod Building
+pub mod Groups
+pub mod Slabs
+pub mod Sweeping

@@ -1,0 +1,56 @@
+use Prim.Native.Nat.{_-_}
+use native.Mathlib.Omega.{arith}
+use borrow.Author.Needs.{needs}
+use Rattle.geometry_code.specs.Code.{fractionOf}
+use Rattle.fracture_code.specs.Code.{past}
+use Rattle.fracture_code.proofs.Groups.{Looking, looking-start, looking-last, looking-grid, looking-next}
+use Rattle.fracture_code.proofs.next_group.Statement.{statement}
+use Rattle.fracture_code.proofs.next_group.Tie as tie
+
+abbrev Inv-loop : tie.InvT-loop
+Inv-loop at started g list n best₀ i₀ best i = Looking (record { n = n; list = list }) (fractionOf at) (past started g) best i
+
+abbrev μ-loop : tie.MeasureT-loop
+μ-loop at started g list n best₀ i₀ best i = n - i
+
+loop-holds : tie.Need-loop-holds Inv-loop μ-loop
+loop-holds c = let s = c .before in looking-start (s .args .v) (fractionOf (s .args .at)) (past (s .args .started) (s .args .g)) (s .pre .0)
+
+mul-e : tie.Need-mul-e Inv-loop μ-loop
+mul-e c = search needs
+
+array-copy-out-e : tie.Need-array-copy-out-e Inv-loop μ-loop
+array-copy-out-e c = omega (arith, c .before .loop .inv .well .few, c .loop-test .taken)
+
+with-side-requires : tie.Need-with-side-requires Inv-loop μ-loop
+with-side-requires c κs =
+    let h = c .before .before .loop .inv in
+    let s = c .before .before .before .before in
+    (h .grid, s .pre .2, looking-grid _ _ _ _ _ h _ (c .before .loop-test .taken), s .pre .1)
+
+add-i : tie.Need-add-i Inv-loop μ-loop
+add-i c = search needs
+
+loop-less : tie.Need-loop-less Inv-loop μ-loop
+loop-less c = search needs
+
+loop-again : tie.Need-loop-again Inv-loop μ-loop
+loop-again c = looking-next _ _ _ _ _ (c .before .before .before .loop .inv) _ (c .before .before .loop-test .taken) _ (c .with-side .ensures)
+
+returns : tie.Need-returns Inv-loop μ-loop
+returns c = looking-last _ _ _ _ _ (c .before .loop .inv) (omega (arith, c .loop-test .left))
+
+pub next-group-spec : {M : Type 1} → statement M
+next-group-spec =
+    tie.close
+    (tie.spec
+    Inv-loop
+    μ-loop
+    loop-holds
+    mul-e
+    array-copy-out-e
+    with-side-requires
+    add-i
+    loop-less
+    loop-again
+    returns)

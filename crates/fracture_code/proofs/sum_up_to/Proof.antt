@@ -1,0 +1,59 @@
+use Prim.Native.Nat.{_-_}
+use native.Mathlib.Omega.{arith}
+use borrow.Author.Needs.{needs}
+use Rattle.geometry_code.specs.Code.{fractionOf}
+use Rattle.fracture_code.proofs.Groups.{Adding, adding-start, adding-last, adding-grid, adding-next}
+use Rattle.fracture_code.proofs.sum_up_to.Statement.{statement}
+use Rattle.fracture_code.proofs.sum_up_to.Tie as tie
+
+abbrev Inv-loop : tie.InvT-loop
+Inv-loop at g list n sum₀ i₀ sum i = Adding (record { n = n; list = list }) (fractionOf at) g sum i
+
+abbrev μ-loop : tie.MeasureT-loop
+μ-loop at g list n sum₀ i₀ sum i = n - i
+
+of-requires : tie.Need-of-requires Inv-loop μ-loop
+of-requires c κs = search needs
+
+loop-holds : tie.Need-loop-holds Inv-loop μ-loop
+loop-holds c = let s = c .before .before in adding-start (s .args .v) (fractionOf (s .args .at)) (s .args .g) (s .pre .0) _ (c .of .ensures .0)
+
+mul-e : tie.Need-mul-e Inv-loop μ-loop
+mul-e c = search needs
+
+array-copy-out-e : tie.Need-array-copy-out-e Inv-loop μ-loop
+array-copy-out-e c = omega (arith, c .before .loop .inv .well .few, c .loop-test .taken)
+
+with-direction-requires : tie.Need-with-direction-requires Inv-loop μ-loop
+with-direction-requires c κs =
+    let h = c .before .before .loop .inv in
+    let s = c .before .before .before .before .before in
+    (omega (arith, h .small, h .well .few, c .before .loop-test .taken), s .pre .2, adding-grid _ _ _ _ _ h _ (c .before .loop-test .taken), s .pre .1)
+
+add-i : tie.Need-add-i Inv-loop μ-loop
+add-i c = search needs
+
+loop-less : tie.Need-loop-less Inv-loop μ-loop
+loop-less c = search needs
+
+loop-again : tie.Need-loop-again Inv-loop μ-loop
+loop-again c = adding-next _ _ _ _ _ (c .before .before .before .loop .inv) _ (c .before .before .loop-test .taken) _ (c .with-direction .ensures)
+
+returns : tie.Need-returns Inv-loop μ-loop
+returns c = adding-last _ _ _ _ _ (c .before .loop .inv) (omega (arith, c .loop-test .left))
+
+pub sum-up-to-spec : {M : Type 1} → statement M
+sum-up-to-spec =
+    tie.close
+    (tie.spec
+    Inv-loop
+    μ-loop
+    of-requires
+    loop-holds
+    mul-e
+    array-copy-out-e
+    with-direction-requires
+    add-i
+    loop-less
+    loop-again
+    returns)

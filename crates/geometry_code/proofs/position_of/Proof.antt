@@ -1,0 +1,41 @@
+use mathlib.Core.Path.{_≡_}
+use lib.Dec.{T-not}
+use borrow.Author.Needs.{needs}
+use Rattle.lists.proofs.Tests.{is-false}
+use Rattle.geometry.specs.Positions.{crosses}
+use Rattle.geometry.specs.declared.Crossing.the-variants.{Parallel}
+use Rattle.geometry_code.proofs.Branches.{parallel, crossed}
+use Rattle.geometry_code.proofs.position_of.Statement.{statement}
+use Rattle.geometry_code.proofs.position_of.Tie as tie
+
+crossing-of-requires : tie.Need-crossing-of-requires
+crossing-of-requires c κs = (c .pre .0, c .pre .1)
+
+enum-known-c : tie.Need-enum-known-c
+enum-known-c c = search needs
+
+enum-told : tie.Need-enum-told
+enum-told c = search needs
+
+of-requires : tie.Need-of-requires
+of-requires c κs = tt
+
+of-requires-2 : tie.Need-of-requires-2
+of-requires-2 c κs = tt
+
+returns : tie.Need-returns
+returns c =
+    let b = c .before .before .before .before .args .b in
+    let k = crossed (b .first) (b .second) (c .before .before .before .crossing-of .result) (c .before .c .given .0 .0) (c .before .before .before .crossing-of .ensures) (c .before .c .given .1) in
+    record { is = k .1; small = k .2 }
+
+-- the lines cross
+returns-2 : tie.Need-returns-2
+returns-2 c =
+    let s = c .before .before .before .before .before in
+    let e : c .before .before .before .before .crossing-of .result ≡ Parallel = cc in
+    let f = parallel (s .args .b .first) (s .args .b .second) (c .before .before .before .before .crossing-of .result) (c .before .before .before .before .crossing-of .ensures) e in
+    absurd (T-not (crosses (s .args .b .first) (s .args .b .second)) (is-false f) (s .pre .2))
+
+pub position-of-spec : {M : Type 1} → statement M
+position-of-spec = tie.close (tie.spec crossing-of-requires enum-known-c enum-told of-requires of-requires-2 returns returns-2)

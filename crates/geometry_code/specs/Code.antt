@@ -1,0 +1,76 @@
+-- How the functions' structs stand for the numbers of the definitions.
+use mathlib.Core.Path.{_≡_}
+use mathlib.Core.Bool.{Bool, true, false, not}
+use Prim.Native.Nat.{_*_, _≤_}
+use lib.Dec.{T}
+use lib.IntN.{natAbs}
+use Rattle.integer.specs.declared.Int.{Int}
+use Rattle.integer.specs.declared.Ordering.{Ordering}
+use Rattle.integer.specs.declared.Ordering.the-variants.{Less, Equal, Greater}
+use Rattle.integer.specs.Fraction.{Fraction}
+use Rattle.geometry.specs.declared.Line.{Line}
+use Rattle.geometry.specs.declared.Base.{Base}
+use Rattle.geometry.specs.declared.Corners.{Corners}
+use Rattle.geometry.specs.declared.Coefficients.{Coefficients}
+use Rattle.geometry.specs.declared.Meeting.{Meeting}
+use Rattle.geometry.specs.declared.Position.{Position}
+use Rattle.geometry.specs.declared.Crossing.{Crossing}
+use Rattle.geometry.specs.declared.Crossing.the-variants.{Parallel, At}
+use Rattle.geometry.specs.Limit.{coordinateLimit, detBound, numerBound}
+use Rattle.geometry.specs.Lines.{dx, dy, offset, det, numer}
+use Rattle.geometry.specs.Positions.{crosses, meet, position}
+use Rattle.geometry.specs.Points.{Point}
+
+pub record CornersOf (l : Line) (k : Corners) : Type 0 where
+  pub x1 : k .x1 .v ≡ l .x1
+  pub y1 : k .y1 .v ≡ l .y1
+  pub x2 : k .x2 .v ≡ l .x2
+  pub y2 : k .y2 .v ≡ l .y2
+
+-- the three numbers of a line, with their magnitudes
+pub record CoefficientsOf (l : Line) (c : Coefficients) : Type 0 where
+  pub dx : c .dx .v ≡ dx l
+  pub dy : c .dy .v ≡ dy l
+  pub offset : c .offset .v ≡ offset l
+  pub dx-small : natAbs (c .dx .v) ≤ 2 * coordinateLimit
+  pub dy-small : natAbs (c .dy .v) ≤ 2 * coordinateLimit
+  pub offset-small : natAbs (c .offset .v) ≤ 2 * (coordinateLimit * coordinateLimit)
+
+-- the two numbers by which two lines are compared
+pub record MeetingOf (l m : Line) (k : Meeting) : Type 0 where
+  pub det : k .det .v ≡ det l m
+  pub numer : k .numer .v ≡ numer l m
+  pub det-small : natAbs (k .det .v) ≤ detBound coordinateLimit
+  pub numer-small : natAbs (k .numer .v) ≤ numerBound coordinateLimit
+
+abbrev pub fractionOf : Position → Fraction
+fractionOf p = record { num = p .num .v; den = p .den .v }
+
+-- a position as a comparison takes it
+pub record Small (p : Position) : Type 0 where
+  pub num-small : natAbs (p .num .v) ≤ numerBound coordinateLimit
+  pub den-small : natAbs (p .den .v) ≤ detBound coordinateLimit
+
+-- where two lines cross, or that they do not
+abbrev pub CrossingOf : Line → Line → Crossing → Type 0
+CrossingOf l m Parallel = T (not (crosses l m))
+CrossingOf l m (At p) = T (crosses l m) × (fractionOf p ≡ meet l m) × Small p
+
+pub record PositionOf (b : Base) (p : Position) : Type 0 where
+  pub is : fractionOf p ≡ position b
+  pub small : Small p
+
+-- less, or where `level` is yes less or equal
+abbrev pub precedesBy : Bool → Ordering → Bool
+precedesBy level Less = true
+precedesBy level Equal = level
+precedesBy level Greater = false
+
+abbrev pub pointOf : Int → Int → Int → Point
+pointOf x y d = record { X = x .v; Y = y .v; D = d .v }
+
+-- X, Y and D as row 3 lets them pass: D up to 1,024, X and Y up to D times the limit
+pub record SmallPoint (x y d : Int) : Type 0 where
+  pub x-small : natAbs (x .v) ≤ 1024 * coordinateLimit
+  pub y-small : natAbs (y .v) ≤ 1024 * coordinateLimit
+  pub d-small : natAbs (d .v) ≤ 1024

@@ -1,0 +1,2 @@
+pub mod Commoning
+pub mod Intersecting

@@ -1,0 +1,144 @@
+-- What the listing means.
+use mathlib.Core.Path.{_≡_, refl, sym, _∙_, ap, subst}
+use mathlib.Core.Bool.{Bool, true, false, _&&_, and-false}
+use mathlib.Core.List.{List, [], _∷_}
+use mathlib.Core.Logic.{_↔_}
+use Prim.Native.Nat.{ℕ, _*_, _-_, _%_, _<_, _≤_}
+use native.Mathlib.Omega.{arith}
+use lib.Dec.{T, leb, eqb}
+use lib.IntN.{ℤ, pos}
+use lib.ListN.{length, take, replicate, length-append}
+use lib.Seq.{length-take-le, take-all}
+use borrow.Author.Tests.{leb-true, leb-false, lt-leb}
+use Rattle.lists.specs.Lists.{Any}
+use Rattle.lists.proofs.Conjunction.{rest-fails}
+use Rattle.lists.proofs.Lists.{all-of}
+use Rattle.records.specs.Limits.{memoryWidth, sized}
+use Rattle.records.specs.Records.{image, wordsOf}
+use Rattle.records.proofs.Records.{length-words}
+use Rattle.records.proofs.Buffer.{image-records}
+use Rattle.geometry.specs.declared.Trapezoid.{Trapezoid}
+use Rattle.geometry.specs.declared.Checked.{Checked}
+use Rattle.geometry.specs.declared.Checked.the-variants.{Passed, Refused}
+use Rattle.geometry.specs.Limit.{coordinateLimit}
+use Rattle.geometry.specs.Points.{Point, IsPoint}
+use Rattle.geometry.specs.Trapezoids.{trapezoidCodec, layerOf, LiesInLayer}
+use Rattle.geometry.proofs.Trapezoids.{trapezoid-faithful}
+use Rattle.boolean.specs.Operations.{deoverlapped}
+use Rattle.boolean.specs.Space.{Mark, Space, enough, short, space, addition, deoverlappedMarks}
+use Rattle.boolean.proofs.Deoverlapping.{deoverlapped-exact, deoverlapped-disjoint}
+use Rattle.boolean.proofs.Kept.{deoverlapped-fit}
+use Rattle.fracture.specs.Statements.{Wound}
+use Rattle.files.specs.Formats.{fileSized, fileWords, polygonFile}
+use Rattle.files.specs.Directory.{directoryOf}
+use Rattle.files.specs.Contents.{polygonsOf}
+use Rattle.files.specs.Rows.{sizeRow, directoryRows, firstOffGrid, polygonFileChecked}
+use Rattle.calls.specs.Answers.{Answer, refused, done, isDone}
+use Rattle.calls.specs.Rows.{row, buffersSized, fractureChecked, deoverlapChecked}
+use Rattle.calls.specs.Outcomes.{recordsOf, roomOf, written, outcome, fracturedOf, fractureOutcome, deoverlapOutcome}
+use Rattle.calls.proofs.Success.{deoverlap-accepted}
+use Rattle.calls.proofs.Exact.{fracture-file-exact}
+use Rattle.listing.specs.Listing.{listing, layerListing, refusalLine}
+use Rattle.listing.specs.Lister.{blank, printedAs, deoverlapListed, listedAs, listed}
+use Rattle.listing.specs.Listed.{Lists, Told, lists, refuses, ListedExact, ListedByStart}
+use Rattle.listing.proofs.Layers.{layer-listed}
+use Rattle.listing.proofs.Blank.{blank-length}
+
+-- ---- the text of a success lists the trapezoids written
+image-within : (n : ℕ) (ts : List Trapezoid) → memoryWidth * length ts ≤ length (image trapezoidCodec n ts)
+image-within n ts =
+    omega (arith, length-append (wordsOf trapezoidCodec ts) (replicate (n - memoryWidth * length ts) (pos 0)), length-words trapezoidCodec trapezoid-faithful ts)
+
+image-listed : (n : ℕ) (ts : List Trapezoid) → listing (length ts) (image trapezoidCodec n ts) ≡ layerListing ts
+image-listed n ts =
+    layer-listed (length ts) (image trapezoidCodec n ts) (image-within n ts)
+    ∙ ap layerListing (image-records trapezoidCodec trapezoid-faithful n ts (all-of (λ (t : Trapezoid). Unit {0}) (λ t. tt) ts))
+
+written-listed : (n : ℕ) (ts : List Trapezoid) (s : Space) → T (isDone (written n ts s .answer)) → printedAs (written n ts s .answer) (written n ts s .out) ≡ layerListing ts
+written-listed n ts (enough cuts) h = image-listed n ts
+written-listed n ts (short cuts) h = absurd h
+
+outcome-listed : (c : Checked) (ts : List Trapezoid) (ms : List Mark) → T (isDone (outcome c blank blank ts ms .answer))
+    → printedAs (outcome c blank blank ts ms .answer) (outcome c blank blank ts ms .out) ≡ layerListing ts
+outcome-listed Passed ts ms h = written-listed (length blank) ts (space (roomOf blank) ms) h
+outcome-listed (Refused number place) ts ms h = absurd h
+
+layer-listing : (a : List ℤ) → T (isDone (deoverlapOutcome a blank blank .answer)) → deoverlapListed a ≡ layerListing (deoverlapped (layerOf a))
+unfolding deoverlapListed deoverlapOutcome
+layer-listing a h = outcome-listed (deoverlapChecked a (length blank) (length blank)) (deoverlapped (layerOf a)) (deoverlappedMarks [] (layerOf a)) h
+
+-- ---- the trapezoids listed
+module _ (file : List ℕ) where
+  abbrev Covers : List ℤ → Type 0
+  Covers a = (P : Point) → IsPoint P → LiesInLayer P (layerOf a) ↔ Any (Wound P) (polygonsOf (fileWords file))
+
+  layer-refused-text : (a : List ℤ) (number place : ℕ) → listed file ≡ deoverlapListed a → deoverlapOutcome a blank blank .answer ≡ refused number place
+      → listed file ≡ refusalLine number place
+  unfolding deoverlapListed
+  layer-refused-text a number place l e = l ∙ ap (λ (x : Answer). printedAs x (deoverlapOutcome a blank blank .out)) e
+
+  layer-lists : (a : List ℤ) → listed file ≡ deoverlapListed a → Covers a → T (isDone (deoverlapOutcome a blank blank .answer)) → Lists file (deoverlapped (layerOf a))
+  layer-lists a l p h =
+      let k = deoverlap-accepted a blank blank h .layer in
+      let s = deoverlapped-exact coordinateLimit (layerOf a) k in
+      record {
+        text = l ∙ layer-listing a h;
+        fit = deoverlapped-fit coordinateLimit (layerOf a) k;
+        disjoint = deoverlapped-disjoint coordinateLimit (layerOf a) k;
+        points = λ P hP. ((λ x. p P hP .0 (s P hP .0 x)), (λ x. s P hP .1 (p P hP .1 x)));
+      }
+
+  layer-told : (a : List ℤ) → listed file ≡ deoverlapListed a → Covers a → (x : Answer) → deoverlapOutcome a blank blank .answer ≡ x → Told file
+  layer-told a l p (refused number place) e = refuses (record { number = number; place = place; text = layer-refused-text a number place l e })
+  layer-told a l p (done pieces cuts) e = lists (deoverlapped (layerOf a)) (layer-lists a l p (subst (λ (x : Answer). T (isDone x)) (sym e) tt))
+
+  fractured : List ℤ
+  fractured = recordsOf (fractureOutcome file blank blank .answer) (fractureOutcome file blank blank .out)
+
+  file-text : (x : Answer) → fractureOutcome file blank blank .answer ≡ x → listed file ≡ listedAs x (fractureOutcome file blank blank .out)
+  unfolding listed
+  file-text x e = ap (λ (y : Answer). listedAs y (fractureOutcome file blank blank .out)) e
+
+  file-told : (x : Answer) → fractureOutcome file blank blank .answer ≡ x → Told file
+  file-told (refused number place) e = refuses (record { number = number; place = place; text = file-text (refused number place) e })
+  file-told (done pieces cuts) e =
+      let o = fractureOutcome file blank blank .out in
+      let r = recordsOf (done pieces cuts) o in
+      let h = fracture-file-exact file blank blank (subst (λ (x : Answer). T (isDone x)) (sym e) tt) .1 in
+      let p = subst (λ (x : Answer). Covers (recordsOf x o)) e h in
+      layer-told r (file-text (done pieces cuts) e) p (deoverlapOutcome r blank blank .answer) refl
+
+pub listed-exact : ListedExact
+listed-exact file = file-told file (fractureOutcome file blank blank .answer) refl
+
+-- ---- a long file
+long-size : (n : ℕ) → 65532 < n → fileSized n ≡ false
+unfolding fileSized
+long-size n l = ap (λ (b : Bool). eqb (n % 4) 0 && (leb 4 n && b)) (lt-leb n 65532 l) ∙ rest-fails (eqb (n % 4) 0) (leb 4 n && false) (and-false (leb 4 n))
+
+blank-sized : buffersSized (length blank) (length blank) ≡ true
+unfolding sized
+blank-sized = ap (λ (n : ℕ). buffersSized n n) blank-length
+
+long-checked : (file : List ℕ) → 65532 < length file → fractureChecked file (length blank) (length blank) ≡ Refused 4 0
+unfolding fractureChecked polygonFileChecked
+long-checked file l =
+    let below = directoryRows (directoryOf polygonFile (fileWords file)) (firstOffGrid coordinateLimit 0 (polygonsOf (fileWords file))) in
+    ap (λ (b : Bool). row 1 b (polygonFileChecked coordinateLimit file)) blank-sized ∙ ap (λ (b : Bool). sizeRow b below) (long-size (length file) l)
+
+long-listed : (file : List ℕ) → 65532 < length file → listed file ≡ refusalLine 4 0
+unfolding listed fractureOutcome
+long-listed file l =
+    let ts = fracturedOf file in
+    let ms = addition (length ts) ∷ [] in
+    ap (λ (c : Checked). listedAs (outcome c blank blank ts ms .answer) (outcome c blank blank ts ms .out)) (long-checked file l)
+
+start-listed : (k : ℕ) (file : List ℕ) → 65532 < k → (b : Bool) → leb (length file) k ≡ b → listed (take k file) ≡ listed file
+start-listed k file l true e = ap listed (take-all k file (leb-true (length file) k e))
+start-listed k file l false e =
+    let m = leb-false (length file) k e in
+    let n = length-take-le k file (omega arith) in
+    long-listed (take k file) (omega (arith, n)) ∙ sym (long-listed file (omega arith))
+
+pub listed-by-start : ListedByStart
+listed-by-start k file l = start-listed k file l (leb (length file) k) refl

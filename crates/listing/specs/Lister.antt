@@ -1,0 +1,34 @@
+-- What the lister prints for the bytes of a polygon file (paper 01: sheet).
+use mathlib.Core.List.{List}
+use Prim.Native.Nat.{ℕ, _*_}
+use lib.IntN.{ℤ}
+use lib.ListN.{take}
+use Rattle.records.specs.Limits.{memoryWidth, maxRecords}
+use Rattle.calls.specs.Answers.{Answer, refused, done}
+use Rattle.calls.specs.Outcomes.{zeros, fractureOutcome, deoverlapOutcome}
+use Rattle.listing.specs.Listing.{listing, refusalLine}
+
+-- an output or a scratch area of 512 records
+abbrev pub layerSize : ℕ
+layerSize = memoryWidth * maxRecords
+
+abbrev pub blank : List ℤ
+blank = zeros layerSize
+
+-- what is printed of an answer, with the words of the output
+abbrev pub printedAs : Answer → List ℤ → List ℕ
+printedAs (refused number place) out = refusalLine number place
+printedAs (done pieces overlays) out = listing pieces out
+
+-- "disjoints ... into 512 records, and prints"
+unfoldable pub deoverlapListed : List ℤ → List ℕ
+deoverlapListed a = printedAs (deoverlapOutcome a blank blank .answer) (deoverlapOutcome a blank blank .out)
+
+-- what is printed once the polygons are cut
+abbrev pub listedAs : Answer → List ℤ → List ℕ
+listedAs (refused number place) out = refusalLine number place
+listedAs (done pieces overlays) out = deoverlapListed (take (memoryWidth * pieces) out)
+
+-- "The lister reads a sheet on standard input, cuts, disjoints, each into 512 records, and prints."
+unfoldable pub listed : List ℕ → List ℕ
+listed file = listedAs (fractureOutcome file blank blank .answer) (fractureOutcome file blank blank .out)

@@ -1,0 +1,90 @@
+use mathlib.Core.Path.{_≡_, refl, _∙_, ap}
+use Prim.Native.Nat.{ℕ, _+_}
+use native.Mathlib.Omega.{arith}
+use lib.ListN.{length, length-set}
+use borrow.Author.Needs.{needs}
+use Rattle.listing.specs.Listing.{decimal}
+use Rattle.listing.proofs.Decimal.{length-some}
+use Rattle.listing_code.proofs.Spelling.{Spelled, spell-start, spell-more, spell-turn, spell-stop}
+use Rattle.listing_code.proofs.put_natural.Statement.{statement}
+use Rattle.listing_code.proofs.put_natural.Tie as tie
+
+abbrev Inv-loop : tie.InvT-loop
+Inv-loop n out₀ at end i₀ rest₀ out i rest = Spelled n out₀ at out i rest × (end ≡ at + length (decimal n))
+
+abbrev μ-loop : tie.MeasureT-loop
+μ-loop n out₀ at end i₀ rest₀ out i rest = rest
+
+digit-count-requires : tie.Need-digit-count-requires Inv-loop μ-loop
+digit-count-requires c κs = search needs
+
+add-end : tie.Need-add-end Inv-loop μ-loop
+add-end c = search needs
+
+sub-i : tie.Need-sub-i Inv-loop μ-loop
+sub-i c = omega (arith, c .digit-count .ensures, length-some (c .before .before .args .n))
+
+loop-holds : tie.Need-loop-holds Inv-loop μ-loop
+loop-holds c =
+    let s = c .before .before in
+    let e = c .digit-count .ensures in
+    (spell-start (s .args .n) (s .args .out .now) (s .args .at) _ (s .pre) (omega (arith, e, length-some (s .args .n))), ap (λ (k : ℕ). s .args .at + k) e)
+
+cast-digit : tie.Need-cast-digit Inv-loop μ-loop
+cast-digit c = search needs
+
+add-out : tie.Need-add-out Inv-loop μ-loop
+add-out c = search needs
+
+slice-write-out : tie.Need-slice-write-out Inv-loop μ-loop
+slice-write-out c = c .before .loop .inv .0 .room
+
+sub-i-2 : tie.Need-sub-i-2 Inv-loop μ-loop
+sub-i-2 c = spell-more (c .before .loop .inv .0) (c .loop-test .taken)
+
+loop-less : tie.Need-loop-less Inv-loop μ-loop
+loop-less c = omega arith
+
+loop-again : tie.Need-loop-again Inv-loop μ-loop
+loop-again c =
+    let h = c .before .loop .inv in
+    let l = c .loop-test .taken in
+    let k = spell-more (h .0) l in
+    (spell-turn (h .0) l refl (omega arith), h .1)
+
+cast-digit-2 : tie.Need-cast-digit-2 Inv-loop μ-loop
+cast-digit-2 c = search needs
+
+add-out-2 : tie.Need-add-out-2 Inv-loop μ-loop
+add-out-2 c = search needs
+
+slice-write-out-2 : tie.Need-slice-write-out-2 Inv-loop μ-loop
+slice-write-out-2 c = c .before .loop .inv .0 .room
+
+same-length : tie.Need-same-length Inv-loop μ-loop
+same-length c = length-set (c .before .loop .out) (c .before .loop .i) _ ∙ c .before .loop .inv .0 .long
+
+returns : tie.Need-returns Inv-loop μ-loop
+returns c = let h = c .before .loop .inv in (h .1, spell-stop (h .0) (c .loop-test .left) refl)
+
+pub put-natural-spec : {M : Type 1} → statement M
+put-natural-spec =
+    tie.close
+    (tie.spec
+    Inv-loop
+    μ-loop
+    digit-count-requires
+    add-end
+    sub-i
+    loop-holds
+    cast-digit
+    add-out
+    slice-write-out
+    sub-i-2
+    loop-less
+    loop-again
+    cast-digit-2
+    add-out-2
+    slice-write-out-2
+    same-length
+    returns)

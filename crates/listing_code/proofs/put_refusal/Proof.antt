@@ -1,0 +1,69 @@
+use mathlib.Core.Path.{refl}
+use mathlib.Core.List.{[], _∷_, _++_}
+use borrow.Author.Needs.{needs}
+use Rattle.listing.specs.Listing.{refusedText, placeText, numbered, refusalLine}
+use Rattle.listing_code.proofs.Texts.{begin, room-of, further, room-last, complete}
+use Rattle.listing_code.proofs.put_refusal.Statement.{statement}
+use Rattle.listing_code.proofs.put_refusal.Tie as tie
+
+slice-aggregate-put-numbered : tie.Need-slice-aggregate-put-numbered
+slice-aggregate-put-numbered c = search needs
+
+put-numbered-requires : tie.Need-put-numbered-requires
+put-numbered-requires c κs =
+    let x = c .before .before .before in
+    let number = x .args .number in
+    let place = x .args .place in
+    let h = begin (x .args .out .now) (x .args .at) (refusalLine number place) (x .pre) in
+    room-of (numbered refusedText number) (numbered placeText place ++ (10 ∷ [])) h refl
+
+slice-aggregate-put-numbered-2 : tie.Need-slice-aggregate-put-numbered-2
+slice-aggregate-put-numbered-2 c = search needs
+
+put-numbered-requires-2 : tie.Need-put-numbered-requires-2
+put-numbered-requires-2 c κs =
+    let t = c .before .before .before .before in
+    let x = t .before .before .before .before in
+    let number = x .args .number in
+    let place = x .args .place in
+    let h = begin (x .args .out .now) (x .args .at) (refusalLine number place) (x .pre) in
+    let k = further (numbered refusedText number) (numbered placeText place ++ (10 ∷ [])) h refl (t .put-numbered .ensures) in
+    room-of (numbered placeText place) (10 ∷ []) k refl
+
+put-byte-requires : tie.Need-put-byte-requires
+put-byte-requires c κs =
+    let u = c .before .before .before in
+    let t = u .before .before .before .before .before in
+    let x = t .before .before .before .before in
+    let number = x .args .number in
+    let place = x .args .place in
+    let h = begin (x .args .out .now) (x .args .at) (refusalLine number place) (x .pre) in
+    let k = further (numbered refusedText number) (numbered placeText place ++ (10 ∷ [])) h refl (t .put-numbered .ensures) in
+    room-last (further (numbered placeText place) (10 ∷ []) k refl (u .put-numbered2 .ensures))
+
+same-length : tie.Need-same-length
+same-length c = search needs
+
+returns : tie.Need-returns
+returns c =
+    let b = c .before .before in
+    let u = b .before .before .before .before in
+    let t = u .before .before .before .before .before in
+    let x = t .before .before .before .before in
+    let number = x .args .number in
+    let place = x .args .place in
+    let h = begin (x .args .out .now) (x .args .at) (refusalLine number place) (x .pre) in
+    let k = further (numbered refusedText number) (numbered placeText place ++ (10 ∷ [])) h refl (t .put-numbered .ensures) in
+    complete (further (numbered placeText place) (10 ∷ []) k refl (u .put-numbered2 .ensures)) (b .put-byte .ensures)
+
+pub put-refusal-spec : {M : Type 1} → statement M
+put-refusal-spec =
+    tie.close
+    (tie.spec
+    slice-aggregate-put-numbered
+    put-numbered-requires
+    slice-aggregate-put-numbered-2
+    put-numbered-requires-2
+    put-byte-requires
+    same-length
+    returns)

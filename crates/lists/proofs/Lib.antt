@@ -1,0 +1,9 @@
+pub mod Tests
+pub mod Conjunction
+pub mod Lists
+pub mod Members
+pub mod Neighbours
+pub mod Kept
+pub mod Counts
+pub mod Parts
+pub mod Fill

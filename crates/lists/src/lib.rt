@@ -1,0 +1,1 @@
+// Lists and Booleans: definitions and laws only.

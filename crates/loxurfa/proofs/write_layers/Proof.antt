@@ -1,0 +1,73 @@
+use mathlib.Core.Path.{_≡_, sym, _∙_}
+use borrow.Author.Needs.{needs}
+use Rattle.geometry.specs.declared.Checked.the-variants.{Passed}
+use Rattle.files.specs.Rows.{layerWordsChecked}
+use Rattle.files.proofs.Calls.{words-count}
+use Rattle.loxurfa.proofs.LayerFiles.{write-refused, write-short, write-done}
+use Rattle.loxurfa.proofs.write_layers.Statement.{statement}
+use Rattle.loxurfa.proofs.write_layers.Tie as tie
+
+-- rows 5 to 11 let the words pass
+module _ (c : tie.After-enum-told) where
+  passed : layerWordsChecked (c .before .before .before .before .args .words .now) ≡ Passed
+  passed = let e : c .before .before .check-layer-words .result ≡ Passed = cc in sym (c .before .before .check-layer-words .ensures) ∙ e
+
+check-layer-words-requires : tie.Need-check-layer-words-requires
+check-layer-words-requires c κs = search needs
+
+enum-told : tie.Need-enum-told
+enum-told c = search needs
+
+enum-known-c : tie.Need-enum-known-c
+enum-known-c c = search needs
+
+returns : tie.Need-returns
+returns c =
+    let k = c .before in
+    let s = k .before .before .before .before .args in
+    write-refused (s .words .now) (s .out .now) (sym (k .before .before .check-layer-words .ensures) ∙ k .c .given .1)
+
+clear-bytes-requires : tie.Need-clear-bytes-requires
+clear-bytes-requires c κs = search needs
+
+same-length : tie.Need-same-length
+same-length c = search needs
+
+returns-2 : tie.Need-returns-2
+returns-2 c =
+    let k = c .before .before .before .before .before in
+    let s = k .before .before .before .before .args in
+    write-short (s .words .now) (s .out .now) (passed k) (c .before .before .before .clear-bytes .ensures) (c .if1 .taken)
+
+encode-requires : tie.Need-encode-requires
+encode-requires c κs = search needs
+
+words-trapezoids-requires : tie.Need-words-trapezoids-requires
+words-trapezoids-requires c κs =
+    let k = c .before .before .before .before .before .before .before .before .before in
+    words-count (k .before .before .before .before .args .words .now) (passed k)
+
+same-length-2 : tie.Need-same-length-2
+same-length-2 c = search needs
+
+returns-3 : tie.Need-returns-3
+returns-3 c =
+    let k = c .before .before .before .before .before .before .before .before .before .before in
+    let s = k .before .before .before .before .args in
+    write-done (s .words .now) (s .out .now) (passed k) (c .before .before .before .before .before .before .before .before .clear-bytes .ensures) (c .before .before .before .before .before .if1 .left) (c .before .before .before .encode .ensures) (c .words-trapezoids .ensures)
+
+pub write-layers-spec : {M : Type 1} → statement M
+write-layers-spec =
+    tie.close
+    (tie.spec
+    check-layer-words-requires
+    enum-told
+    enum-known-c
+    returns
+    clear-bytes-requires
+    same-length
+    returns-2
+    encode-requires
+    words-trapezoids-requires
+    same-length-2
+    returns-3)

@@ -1,7 +1,0 @@
--- The public interface: what each call answers and writes (paper 01), for every input, and what that means for the points.
-pub mod Answers
-pub mod Rows
-pub mod Outcomes
-pub mod Contracts
-pub mod Statements
-pub mod Table

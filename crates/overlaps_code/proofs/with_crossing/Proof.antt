@@ -1,0 +1,43 @@
+use mathlib.Core.Path.{_≡_, refl}
+use borrow.Author.Needs.{needs}
+use Rattle.geometry.specs.declared.Crossing.the-variants.{Parallel}
+use Rattle.geometry.specs.Ranges.{crossing}
+use Rattle.geometry_code.specs.Code.{fractionOf}
+use Rattle.overlaps_code.proofs.Window.{between-none, between-at}
+use Rattle.overlaps_code.proofs.EventArray.{no-more, one-more}
+use Rattle.overlaps_code.proofs.with_crossing.Statement.{statement}
+use Rattle.overlaps_code.proofs.with_crossing.Tie as tie
+
+crossing-between-requires : tie.Need-crossing-between-requires
+crossing-between-requires c κs = c .pre .1
+
+enum-known-c : tie.Need-enum-known-c
+enum-known-c c = search needs
+
+enum-told : tie.Need-enum-told
+enum-told c = search needs
+
+returns : tie.Need-returns
+returns c =
+    let s = c .before .before .before in
+    let e : c .before .before .crossing-between .result ≡ Parallel = cc in
+    no-more (s .args .v) (fractionOf (s .args .lo)) (fractionOf (s .args .hi)) (crossing (s .args .l) (s .args .m)) (s .pre .0 .0)
+    (between-none (fractionOf (s .args .lo)) (fractionOf (s .args .hi)) (s .args .l) (s .args .m) (c .before .before .crossing-between .result) (c .before .before .crossing-between .ensures) e)
+
+mul-list : tie.Need-mul-list
+mul-list c = search needs
+
+array-set-from-list : tie.Need-array-set-from-list
+array-set-from-list c = search needs
+
+add-t12 : tie.Need-add-t12
+add-t12 c = search needs
+
+returns-2 : tie.Need-returns-2
+returns-2 c =
+    let s = c .before .before .before .before .before in
+    let k = between-at (fractionOf (s .args .lo)) (fractionOf (s .args .hi)) (s .args .l) (s .args .m) (c .before .before .before .before .crossing-between .result) (c .before .before .before .before .crossing-between .ensures) (c .before .before .c .given .0 .0) (c .before .before .c .given .1) in
+    one-more (s .args .v) (fractionOf (s .args .lo)) (fractionOf (s .args .hi)) (crossing (s .args .l) (s .args .m)) (s .pre .0 .0) (k .0) (s .pre .0 .1) _ refl (k .1)
+
+pub with-crossing-spec : {M : Type 1} → statement M
+with-crossing-spec = tie.close (tie.spec crossing-between-requires enum-known-c enum-told returns mul-list array-set-from-list add-t12 returns-2)

@@ -1,0 +1,2 @@
+-- Crossings between two positions, and events in an array.
+pub mod Code

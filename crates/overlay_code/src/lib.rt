@@ -1,0 +1,187 @@
+// The overlay of two trapezoids (paper 01: pair cut): the parts of the one alone, of the other alone, or of both, written into a borrowed tail.
+use geometry::Fill;
+use geometry::Placed;
+use geometry::Trapezoid;
+use overlay::Column;
+use sweep::Event;
+use sweep::Next;
+ghost use mathlib.Core.Path.{_≡_};
+ghost use mathlib.Core.Bool.{cond, _&&_};
+ghost use Prim.Native.Nat.{_≤_};
+ghost use lib.Dec.{eqb};
+ghost use lib.ListN.{length};
+ghost use Rattle.geometry.specs.Limit.{coordinateLimit};
+ghost use Rattle.geometry.specs.Fitness.{FitFor};
+ghost use Rattle.overlay.specs.Overlay.{tagOf, subdivision, overlay, tagged};
+ghost use Rattle.trapezoids_code.specs.Tails.{Borrowed, FilledAs};
+ghost use Rattle.trapezoids_code.specs.Placed.{Pair};
+ghost use Rattle.sweep_code.specs.Events.{EventOf};
+ghost use Rattle.columns_code.specs.Order.{passing, strips};
+
+// Whether what is above side z lies in the trapezoid with the sides `bottom` and `top`, from whether what is below it does.
+fn pass(bottom: usize, top: usize, z: usize, inside: bool) -> bool
+    ensures { λ r. ⌜ r ≡ passing bottom top z inside ⌝ }
+{
+    if z == bottom {
+        return true;
+    }
+    if z == top {
+        return false;
+    }
+    inside
+}
+
+// Whether what lies in the one trapezoid or not, and in the other or not, has the tag.
+fn has_tag(in_a: bool, in_b: bool, tag: u8) -> bool
+    ensures { λ r. ⌜ r ≡ eqb (tagOf in_a in_b) tag ⌝ }
+{
+    if in_a {
+        if in_b {
+            return tag == 3;
+        }
+        return tag == 1;
+    }
+    if in_b {
+        return tag == 2;
+    }
+    tag == 0
+}
+
+// A trapezoid begins at a side that is above the one before it.
+fn wanted(rises: bool, in_a: bool, in_b: bool, tag: u8) -> bool
+    ensures { λ r. ⌜ r ≡ rises && eqb (tagOf in_a in_b) tag ⌝ }
+{
+    if rises {
+        return has_tag(in_a, in_b, tag);
+    }
+    false
+}
+
+// Of coinciding sides the first is kept.
+fn raised(rises: bool, z: usize, lower: usize) -> usize
+    ensures { λ r. ⌜ r ≡ cond rises z lower ⌝ }
+{
+    if rises {
+        return z;
+    }
+    lower
+}
+
+// The trapezoids of a column that have the tag, from the bottom up.
+fn fill_column(
+    a: Trapezoid,
+    b: Trapezoid,
+    tag: u8,
+    p: Event,
+    q: Event,
+    c: Column,
+    out: &mut [i32],
+    room: usize,
+) -> Fill
+    requires { ⌜ FitFor coordinateLimit a × FitFor coordinateLimit b × EventOf p × (length (c .order) ≡ 4) × Borrowed (now out) room ⌝ }
+    ensures { λ r. ⌜ FilledAs (length (now (out .entry))) room (strips tag a b (p .base) (q .base) (c .in_a) (c .in_b) (c .order)) r (now (out .exit)) ⌝ }
+{
+    let order = c.order;
+    let in_a = c.in_a;
+    let in_b = c.in_b;
+    let at = p.at;
+    let left = p.base;
+    let right = q.base;
+    let z0 = order[0];
+    if !columns_code::present(in_a, in_b, z0) {
+        return Fill::Written(0);
+    }
+    let mut lower = z0;
+    let mut inside_a = pass(0, 1, z0, false);
+    let mut inside_b = pass(2, 3, z0, false);
+    let mut n = 0;
+    let mut k = 1;
+    while k < 4 {
+        let z = order[k];
+        if !columns_code::present(in_a, in_b, z) {
+            return Fill::Written(n);
+        }
+        let bottom = columns_code::side(a, b, lower);
+        let top = columns_code::side(a, b, z);
+        let rises = geometry_code::is_below(bottom, top, at);
+        let yes = wanted(rises, inside_a, inside_b, tag);
+        let t = Trapezoid {
+            left,
+            right,
+            bottom,
+            top,
+        };
+        let f = trapezoids_code::put_if(yes, t, &mut out[records::MEMORY_WIDTH * n..], room - n);
+        let Fill::Written(m) = f else {
+            records_code::clear(out);
+            return Fill::NoRoom;
+        };
+        n += m;
+        lower = raised(rises, z, lower);
+        inside_a = pass(0, 1, z, inside_a);
+        inside_b = pass(2, 3, z, inside_b);
+        k += 1;
+    }
+    Fill::Written(n)
+}
+
+// The trapezoids of all columns that have the tag, from left to right.
+fn fill_columns(a: Placed, b: Placed, tag: u8, out: &mut [i32], room: usize) -> Fill
+    requires { ⌜ Pair a b × (1 ≤ tag) × Borrowed (now out) room ⌝ }
+    ensures { λ r. ⌜ FilledAs (length (now (out .entry))) room (tagged tag (subdivision (a .shape) (b .shape))) r (now (out .exit)) ⌝ }
+{
+    let v = overlaps_code::events_of(a, b);
+    let s = a.shape;
+    let t = b.shape;
+    let mut p = sweep_code::event_at(s.left, a.left);
+    let first = overlaps_code::next_event(v, false, p);
+    let Next::Found(e) = first else {
+        return Fill::Written(0);
+    };
+    let order = [0, 1, 2, 3];
+    let start = Column {
+        order,
+        in_a: false,
+        in_b: false,
+    };
+    let mut c = columns_code::column_at(a, b, e.at, start);
+    p = e;
+    let mut n = 0;
+    loop {
+        let next = overlaps_code::next_event(v, true, p);
+        let Next::Found(q) = next else {
+            return Fill::Written(n);
+        };
+        let f = fill_column(
+            s,
+            t,
+            tag,
+            p,
+            q,
+            c,
+            &mut out[records::MEMORY_WIDTH * n..],
+            room - n,
+        );
+        let Fill::Written(m) = f else {
+            records_code::clear(out);
+            return Fill::NoRoom;
+        };
+        n += m;
+        c = columns_code::column_at(a, b, q.at, c);
+        p = q;
+    }
+}
+
+// The trapezoids of the overlay that have the tag, written into a blank tail of which `room` records may be filled.
+pub fn overlay_into(a: Placed, b: Placed, tag: u8, out: &mut [i32], room: usize) -> Fill
+    requires { ⌜ Pair a b × (1 ≤ tag) × Borrowed (now out) room ⌝ }
+    ensures { λ r. ⌜ FilledAs (length (now (out .entry))) room (tagged tag (overlay (a .shape) (b .shape))) r (now (out .exit)) ⌝ }
+{
+    if overlaps_code::overlapping(a, b) {
+        return fill_columns(a, b, tag, out, room);
+    }
+    if tag == 1 {
+        return trapezoids_code::put(a.shape, out, room);
+    }
+    trapezoids_code::put_if(tag == 2, b.shape, out, room)
+}

@@ -1,0 +1,28 @@
+use mathlib.Core.Path.{sym, _∙_}
+use borrow.Author.Needs.{needs}
+use Rattle.polygon_events_code.proofs.Branches.{inside-yes, inside-no}
+use Rattle.polygon_events_code.proofs.is_inside.Statement.{statement}
+use Rattle.polygon_events_code.proofs.is_inside.Tie as tie
+
+span-of-requires : tie.Need-span-of-requires
+span-of-requires c κs = search needs
+
+is-before-requires : tie.Need-is-before-requires
+is-before-requires c κs = search needs
+
+is-before-requires-2 : tie.Need-is-before-requires-2
+is-before-requires-2 c κs = search needs
+
+returns : tie.Need-returns
+returns c =
+    let s = c .before .before .before .before in
+    inside-yes (s .args .p) (s .args .l) _ (c .before .before .before .span-of .ensures) (sym (c .before .before .is-before .ensures) ∙ c .before .if1 .taken) (c .is-before2 .ensures)
+
+returns-2 : tie.Need-returns-2
+returns-2 c =
+    let s = c .before .before .before in
+    inside-no (s .args .p) (s .args .l) _ (c .before .before .span-of .ensures) (sym (c .before .is-before .ensures) ∙ c .if1 .left)
+
+pub is-inside-spec : {M : Type 1} → statement M
+is-inside-spec =
+    tie.close (tie.spec span-of-requires is-before-requires is-before-requires-2 returns returns-2)

@@ -1,0 +1,28 @@
+use mathlib.Core.Path.{sym, _∙_}
+use borrow.Author.Needs.{needs}
+use Rattle.polygon_events_code.proofs.Branches.{spans-yes, spans-no}
+use Rattle.polygon_events_code.proofs.is_spanning.Statement.{statement}
+use Rattle.polygon_events_code.proofs.is_spanning.Tie as tie
+
+span-of-requires : tie.Need-span-of-requires
+span-of-requires c κs = search needs
+
+is-before-requires : tie.Need-is-before-requires
+is-before-requires c κs = search needs
+
+returns : tie.Need-returns
+returns c =
+    let s = c .before .before .before in
+    spans-no (s .args .p) (s .args .l) _ (c .before .before .span-of .ensures) (sym (c .before .is-before .ensures) ∙ c .if1 .taken)
+
+is-before-requires-2 : tie.Need-is-before-requires-2
+is-before-requires-2 c κs = search needs
+
+returns-2 : tie.Need-returns-2
+returns-2 c =
+    let s = c .before .before .before .before in
+    spans-yes (s .args .p) (s .args .l) _ (c .before .before .before .span-of .ensures) (sym (c .before .before .is-before .ensures) ∙ c .before .if1 .left) (c .is-before2 .ensures)
+
+pub is-spanning-spec : {M : Type 1} → statement M
+is-spanning-spec =
+    tie.close (tie.spec span-of-requires is-before-requires returns is-before-requires-2 returns-2)

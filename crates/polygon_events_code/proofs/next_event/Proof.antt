@@ -1,0 +1,63 @@
+use Prim.Native.Nat.{_-_}
+use native.Mathlib.Omega.{arith}
+use borrow.Author.Needs.{needs}
+use Rattle.fracture.specs.Fracture.{marks}
+use Rattle.geometry_code.specs.Polygons.{polygonOf}
+use Rattle.sweep_code.specs.Events.{after}
+use Rattle.polygon_events_code.proofs.Scanning.{Meeting, meeting-start, meeting-last, meeting-grid, meeting-next}
+use Rattle.polygon_events_code.proofs.next_event.Statement.{statement}
+use Rattle.polygon_events_code.proofs.next_event.Tie as tie
+
+abbrev Inv-loop : tie.InvT-loop
+Inv-loop words v limit started g list n best₀ i₀ best i = Meeting v (after started g) (marks limit (polygonOf words)) best i
+
+abbrev μ-loop : tie.MeasureT-loop
+μ-loop words v limit started g list n best₀ i₀ best i = n - i
+
+next-mark-requires : tie.Need-next-mark-requires Inv-loop μ-loop
+next-mark-requires c κs = search needs
+
+loop-holds : tie.Need-loop-holds Inv-loop μ-loop
+loop-holds c =
+    let s = c .before .before in
+    meeting-start (s .args .v) (after (s .args .started) (s .args .g)) (marks (s .args .limit) (polygonOf (s .args .words .now))) (s .pre .2) _ (c .next-mark .ensures)
+
+mul-d : tie.Need-mul-d Inv-loop μ-loop
+mul-d c = search needs
+
+array-copy-out-d : tie.Need-array-copy-out-d Inv-loop μ-loop
+array-copy-out-d c = omega (arith, c .before .loop .inv .well .few, c .loop-test .taken)
+
+add-i : tie.Need-add-i Inv-loop μ-loop
+add-i c = search needs
+
+with-pairs-requires : tie.Need-with-pairs-requires Inv-loop μ-loop
+with-pairs-requires c κs =
+    let h = c .before .before .loop .inv in
+    let s = c .before .before .before .before .before in
+    (h .placed, s .pre .3, meeting-grid _ _ _ _ _ h _ (c .before .loop-test .taken), h .well)
+
+loop-less : tie.Need-loop-less Inv-loop μ-loop
+loop-less c = search needs
+
+loop-again : tie.Need-loop-again Inv-loop μ-loop
+loop-again c = meeting-next _ _ _ _ _ (c .before .before .before .loop .inv) _ (c .before .before .loop-test .taken) _ (c .with-pairs .ensures)
+
+returns : tie.Need-returns Inv-loop μ-loop
+returns c = meeting-last _ _ _ _ _ (c .before .loop .inv) (omega (arith, c .loop-test .left))
+
+pub next-event-spec : {M : Type 1} → statement M
+next-event-spec =
+    tie.close
+    (tie.spec
+    Inv-loop
+    μ-loop
+    next-mark-requires
+    loop-holds
+    mul-d
+    array-copy-out-d
+    add-i
+    with-pairs-requires
+    loop-less
+    loop-again
+    returns)

@@ -1,0 +1,60 @@
+use Prim.Native.Nat.{_-_}
+use native.Mathlib.Omega.{arith}
+use borrow.Author.Needs.{needs}
+use Rattle.sweep_code.specs.Events.{after}
+use Rattle.polygon_events_code.proofs.Scanning.{Marking, marking-start, marking-last, marking-within, marking-next}
+use Rattle.polygon_events_code.proofs.next_mark.Statement.{statement}
+use Rattle.polygon_events_code.proofs.next_mark.Tie as tie
+
+abbrev Inv-loop : tie.InvT-loop
+Inv-loop words limit started g n best₀ k₀ best k = Marking limit words (after started g) best k
+
+abbrev μ-loop : tie.MeasureT-loop
+μ-loop words limit started g n best₀ k₀ best k = n - k
+
+loop-holds : tie.Need-loop-holds Inv-loop μ-loop
+loop-holds c = marking-start (c .args .limit) (c .args .words .now) (after (c .args .started) (c .args .g)) (c .pre .0)
+
+add-loop : tie.Need-add-loop Inv-loop μ-loop
+add-loop c = omega (arith, c .loop .inv .within, c .before .good .0)
+
+get-requires : tie.Need-get-requires Inv-loop μ-loop
+get-requires c κs = search needs
+
+mark-at-requires : tie.Need-mark-at-requires Inv-loop μ-loop
+mark-at-requires c κs =
+    let s = c .before .before .before in
+    (marking-within _ _ _ _ _ (c .before .before .loop .inv) (c .before .loop-test .taken) _ (c .get .ensures .0), s .pre .1)
+
+better-requires : tie.Need-better-requires Inv-loop μ-loop
+better-requires c κs =
+    let s = c .before .before .before .before in
+    (c .before .before .before .loop .inv .placed, s .pre .2, c .mark-at .ensures .event)
+
+add-k : tie.Need-add-k Inv-loop μ-loop
+add-k c = search needs
+
+loop-less : tie.Need-loop-less Inv-loop μ-loop
+loop-less c = search needs
+
+loop-again : tie.Need-loop-again Inv-loop μ-loop
+loop-again c = marking-next _ _ _ _ _ (c .before .before .before .before .loop .inv) (c .before .before .before .loop-test .taken) _ (c .before .before .get .ensures .0) _ _ (c .before .mark-at .ensures) (c .better .ensures)
+
+returns : tie.Need-returns Inv-loop μ-loop
+returns c = marking-last _ _ _ _ _ (c .before .loop .inv) (omega (arith, c .loop-test .left))
+
+pub next-mark-spec : {M : Type 1} → statement M
+next-mark-spec =
+    tie.close
+    (tie.spec
+    Inv-loop
+    μ-loop
+    loop-holds
+    add-loop
+    get-requires
+    mark-at-requires
+    better-requires
+    add-k
+    loop-less
+    loop-again
+    returns)

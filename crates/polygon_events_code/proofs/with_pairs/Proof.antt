@@ -1,0 +1,57 @@
+use Prim.Native.Nat.{_-_}
+use native.Mathlib.Omega.{arith}
+use borrow.Author.Needs.{needs}
+use Rattle.sweep_code.specs.Events.{after}
+use Rattle.polygon_events_code.proofs.Scanning.{Pairing, pairing-start, pairing-last, pairing-grid, pairing-next}
+use Rattle.polygon_events_code.proofs.with_pairs.Statement.{statement}
+use Rattle.polygon_events_code.proofs.with_pairs.Tie as tie
+
+abbrev Inv-loop : tie.InvT-loop
+Inv-loop started g d first list n r₀ j₀ r j = Pairing (record { n = n; list = list }) (after started g) d r₀ first r j
+
+abbrev μ-loop : tie.MeasureT-loop
+μ-loop started g d first list n r₀ j₀ r j = n - j
+
+loop-holds : tie.Need-loop-holds Inv-loop μ-loop
+loop-holds c =
+    let s = c .before in
+    pairing-start (s .args .v) (after (s .args .started) (s .args .g)) (s .args .d) (s .args .best) (s .args .first) (s .pre .3) (s .pre .0)
+
+mul-e : tie.Need-mul-e Inv-loop μ-loop
+mul-e c = search needs
+
+array-copy-out-e : tie.Need-array-copy-out-e Inv-loop μ-loop
+array-copy-out-e c = omega (arith, c .before .loop .inv .well .few, c .loop-test .taken)
+
+with-pair-requires : tie.Need-with-pair-requires Inv-loop μ-loop
+with-pair-requires c κs =
+    let h = c .before .before .loop .inv in
+    let s = c .before .before .before .before in
+    (h .placed, s .pre .1, s .pre .2, pairing-grid _ _ _ _ _ _ _ h _ (c .before .loop-test .taken))
+
+add-j : tie.Need-add-j Inv-loop μ-loop
+add-j c = search needs
+
+loop-less : tie.Need-loop-less Inv-loop μ-loop
+loop-less c = search needs
+
+loop-again : tie.Need-loop-again Inv-loop μ-loop
+loop-again c = pairing-next _ _ _ _ _ _ _ (c .before .before .before .loop .inv) _ (c .before .before .loop-test .taken) _ (c .with-pair .ensures)
+
+returns : tie.Need-returns Inv-loop μ-loop
+returns c = pairing-last _ _ _ _ _ _ _ (c .before .loop .inv) (omega (arith, c .loop-test .left))
+
+pub with-pairs-spec : {M : Type 1} → statement M
+with-pairs-spec =
+    tie.close
+    (tie.spec
+    Inv-loop
+    μ-loop
+    loop-holds
+    mul-e
+    array-copy-out-e
+    with-pair-requires
+    add-j
+    loop-less
+    loop-again
+    returns)

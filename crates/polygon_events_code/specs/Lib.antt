@@ -1,0 +1,2 @@
+-- How the functions' structs stand for what the definitions speak of.
+pub mod Code

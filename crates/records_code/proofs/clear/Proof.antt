@@ -1,0 +1,40 @@
+use Prim.Native.Nat.{_-_}
+use lib.ListN.{length}
+use lib.IntN.{pos}
+use borrow.Author.Needs.{needs}
+use Rattle.lists.proofs.Fill.{Filled, fill-start, fill-turn, fill-stop}
+use Rattle.records_code.proofs.clear.Statement.{statement}
+use Rattle.records_code.proofs.clear.Tie as tie
+
+abbrev Inv-loop : tie.InvT-loop
+Inv-loop words₀ at₀ words at = Filled (pos 0) words₀ words at
+
+abbrev μ-loop : tie.MeasureT-loop
+μ-loop words₀ at₀ words at = length words₀ - at
+
+loop-holds : tie.Need-loop-holds Inv-loop μ-loop
+loop-holds c = fill-start (pos 0) (c .args .words .now)
+
+mul-words : tie.Need-mul-words Inv-loop μ-loop
+mul-words c = search needs
+
+slice-set-of-words : tie.Need-slice-set-of-words Inv-loop μ-loop
+slice-set-of-words c = search needs
+
+add-at : tie.Need-add-at Inv-loop μ-loop
+add-at c = search needs
+
+loop-less : tie.Need-loop-less Inv-loop μ-loop
+loop-less c = search needs
+
+loop-again : tie.Need-loop-again Inv-loop μ-loop
+loop-again c = fill-turn (c .before .loop .inv) (c .loop-test .taken)
+
+same-length : tie.Need-same-length Inv-loop μ-loop
+same-length c = c .before .loop .inv .long
+
+returns : tie.Need-returns Inv-loop μ-loop
+returns c = fill-stop (c .before .loop .inv) (c .loop-test .left)
+
+pub clear-spec : {M : Type 1} → statement M
+clear-spec = tie.close (tie.spec Inv-loop μ-loop loop-holds mul-words slice-set-of-words add-at loop-less loop-again same-length returns)

@@ -1,0 +1,87 @@
+-- What an answer says of the tail and of the number of overlays.
+use mathlib.Core.Path.{_≡_, refl, sym, _∙_, ap, subst}
+use mathlib.Core.Bool.{Bool, true, false, cond}
+use mathlib.Core.List.{List, [], _∷_}
+use Prim.Native.Nat.{ℕ, _+_, _*_, _≤_}
+use native.Mathlib.Omega.{arith}
+use lib.Dec.{ltb}
+use lib.ListN.{length}
+use lib.IntN.{ℤ}
+use borrow.Author.Tests.{le-ltb}
+use Rattle.lists.specs.Lists.{All}
+use Rattle.lists.proofs.Lists.{all-of}
+use Rattle.records.specs.Limits.{memoryWidth}
+use Rattle.records.specs.Records.{recordsFrom, image}
+use Rattle.records.proofs.Buffer.{image-records}
+use Rattle.geometry.specs.declared.Trapezoid.{Trapezoid}
+use Rattle.geometry.specs.Limit.{coordinateLimit}
+use Rattle.geometry.specs.Fitness.{FitFor}
+use Rattle.geometry.specs.Trapezoids.{trapezoidCodec}
+use Rattle.geometry.proofs.Trapezoids.{trapezoid-faithful}
+use Rattle.boolean.specs.declared.Folded.{Folded}
+use Rattle.boolean.specs.declared.Folded.the-variants.{Short, Done}
+use Rattle.boolean.specs.Space.{Mark, held, overlaysOf, overlaid, addition, Space, enough, short, plus, space}
+use Rattle.remainder_code.specs.Code.{withOverlays, OverlaysWithin, Remaining, FoldedAs}
+use Rattle.remainder_code.specs.Code as code
+
+-- ---- the number of overlays
+abbrev pub overlaysIn : Space → ℕ
+overlaysIn (enough c) = c
+overlaysIn (short c) = c
+
+overlays-plus : (n : ℕ) (s : Space) → overlaysIn (plus n s) ≡ n + overlaysIn s
+overlays-plus n (enough c) = refl
+overlays-plus n (short c) = refl
+
+mark-one : (m : Mark) → overlaysOf m ≤ 1
+mark-one (overlaid n) = omega arith
+mark-one (addition n) = omega arith
+
+-- at most one for each mark
+pub overlays-upto : (room : ℕ) (ms : List Mark) → overlaysIn (space room ms) ≤ length ms
+unfolding space
+overlays-upto room [] = omega arith
+overlays-upto room (m ∷ ms) = go (ltb room (held m)) (space room ms) (overlays-upto room ms)
+  where
+    go : (t : Bool) (s : Space) → overlaysIn s ≤ length ms → overlaysIn (cond t (short (overlaysOf m)) (plus (overlaysOf m) s)) ≤ length (m ∷ ms)
+    go true s h = omega (arith, mark-one m)
+    go false s h = omega (arith, overlays-plus (overlaysOf m) s, mark-one m, h)
+
+pub folded-within : (n room : ℕ) (ts : List Trapezoid) (ms : List Mark) (r : Folded) (d : List ℤ) → FoldedAs n room ts ms r d → OverlaysWithin (length ms) r
+folded-within n room ts ms (Short c) d g = let e : overlaysIn (space room ms) ≡ c = ap overlaysIn (g .0) in omega (arith, e, overlays-upto room ms)
+folded-within n room ts ms (Done p c) d g = let e : overlaysIn (space room ms) ≡ c = ap overlaysIn (g .0) in omega (arith, e, overlays-upto room ms)
+
+pub within-least : (m n : ℕ) (r : Folded) → m ≤ n → OverlaysWithin m r → OverlaysWithin n r
+within-least m n (Short c) l h = omega (arith, l, h)
+within-least m n (Done p c) l h = omega (arith, l, h)
+
+pub within-more : (m n k : ℕ) (r : Folded) → k ≤ n → OverlaysWithin m r → OverlaysWithin (n + m) (withOverlays k r)
+within-more m n k (Short c) l h = omega (arith, l, h)
+within-more m n k (Done p c) l h = omega (arith, l, h)
+
+pub within-short : (m c : ℕ) (r : Folded) → r ≡ Short c → OverlaysWithin m r → c ≤ m
+within-short m c r e h = subst (OverlaysWithin m) e h
+
+pub within-done : (m p c : ℕ) (r : Folded) → r ≡ Done p c → OverlaysWithin m r → c ≤ m
+within-done m p c r e h = subst (OverlaysWithin m) e h
+
+-- ---- an addition that there is room for
+pub space-added : (room k : ℕ) → k ≤ room → space room (addition k ∷ []) ≡ enough 0
+unfolding space
+space-added room k l = rw (le-ltb room k l) refl
+
+-- ---- the tail
+pub folded-held : (n room : ℕ) (ts : List Trapezoid) (ms : List Mark) (p c : ℕ) (t : List ℤ) → FoldedAs n room ts ms (Done p c) t → code.held t p ≡ ts
+folded-held n room ts ms p c t g =
+    ap (λ (q : ℕ). recordsFrom trapezoidCodec q t 0) (g .1 .0) ∙ ap (λ (u : List ℤ). recordsFrom trapezoidCodec (length ts) u 0) (g .1 .2)
+    ∙ image-records trapezoidCodec trapezoid-faithful n ts (all-of (λ (t : Trapezoid). Unit {0}) (λ t. tt) ts)
+
+pub folded-remaining : (n room : ℕ) (ts : List Trapezoid) (ms : List Mark) (p c : ℕ) (t : List ℤ) → FoldedAs n room ts ms (Done p c) t → length t ≡ n → memoryWidth * room ≤ n → All (FitFor coordinateLimit) ts → Remaining t p room
+folded-remaining n room ts ms p c t g l w f =
+    let d = folded-held n room ts ms p c t g in
+    record {
+      is = g .1 .2 ∙ (λ j. image trapezoidCodec (sym l j) (sym d j));
+      fit = subst (All (FitFor coordinateLimit)) (sym d) f;
+      within = omega (arith, g .1 .0, g .1 .1);
+      wide = omega (arith, l, w);
+    }

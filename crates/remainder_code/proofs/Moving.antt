@@ -1,0 +1,116 @@
+-- Trapezoids in the output that stand; or that are moved to the scratch area, so that they can be replaced.
+use mathlib.Core.Path.{_≡_, sym, _∙_, ap, subst}
+use mathlib.Core.Bool.{false}
+use mathlib.Core.List.{List, _++_}
+use Prim.Native.Nat.{ℕ, _+_, _*_, _-_, _≤_}
+use native.Mathlib.Omega.{arith}
+use lib.ListN.{length, take, drop, replicate, length-replicate, replicate-append-replicate}
+use lib.Seq.{length-take-le, take-at, drop-at}
+use lib.IntN.{ℤ, pos}
+use Rattle.lists.specs.Lists.{All}
+use Rattle.lists.proofs.Lists.{all-of}
+use Rattle.lists.proofs.Parts.{drop-replicate}
+use Rattle.records.specs.Limits.{memoryWidth}
+use Rattle.records.specs.Records.{wordsOf, image, count, Blank}
+use Rattle.records.proofs.Records.{length-from, records-words}
+use Rattle.records.proofs.Buffer.{blank-of, image-take, image-drop}
+use Rattle.geometry.specs.declared.Trapezoid.{Trapezoid}
+use Rattle.geometry.specs.Limit.{coordinateLimit}
+use Rattle.geometry.specs.Fitness.{FitFor}
+use Rattle.geometry.specs.Trapezoids.{trapezoidCodec, layerOf}
+use Rattle.geometry.proofs.Trapezoids.{trapezoid-faithful}
+use Rattle.boolean.specs.declared.Folded.{Folded}
+use Rattle.boolean.specs.declared.Folded.the-variants.{Done}
+use Rattle.boolean.specs.Operations.{less}
+use Rattle.boolean.specs.Space.{enough, lessMarks}
+use Rattle.trapezoids_code.specs.Tails.{Borrowed}
+use Rattle.remainder_code.specs.Code.{held, Remaining, FoldedAs, overlapsAny}
+use Rattle.remainder_code.proofs.Apart.{less-apart, marks-apart}
+use Rattle.remainder_code.proofs.Held.{held-fits, front-held}
+
+-- ---- none overlaps b: they stand
+module _ (d : List ℤ) (n room : ℕ) (h : Remaining d n room) where
+  pub standing-length : memoryWidth * n ≡ length (take (memoryWidth * n) d)
+  standing-length = sym (length-take-le (memoryWidth * n) d (held-fits d n room h))
+
+  pub standing-fit : All (FitFor coordinateLimit) (layerOf (take (memoryWidth * n) d))
+  standing-fit = subst (All (FitFor coordinateLimit)) (sym (front-held d n room h)) (h .fit)
+
+  pub standing-folded : (b : Trapezoid) → overlapsAny (layerOf (take (memoryWidth * n) d)) b ≡ false → FoldedAs (length d) room (less (held d n) b) (lessMarks 0 (held d n) b) (Done n n) d
+  standing-folded b e =
+      let e : overlapsAny (held d n) b ≡ false = ap (λ (ts : List Trapezoid). overlapsAny ts b) (sym (front-held d n room h)) ∙ e in
+      let m : length (held d n) ≡ n = length-from trapezoidCodec n d 0 in
+      let y : less (held d n) b ≡ held d n = less-apart (held d n) b e in (
+        marks-apart room 0 (held d n) b e (omega (arith, m, h .within)) ∙ ap enough m,
+        (sym (ap length y ∙ m), omega (arith, ap length y, m, h .within), h .is ∙ ap (image trapezoidCodec (length d)) (sym y)),
+      )
+
+-- ---- d and w before, d' and w' after the move
+module _ (d w d' w' : List ℤ) (n room : ℕ) (h : Remaining d n room) (blank : Blank (pos 0) w) (same : length w ≡ length d)
+    (out : d' ≡ replicate (memoryWidth * n) (pos 0) ++ drop (memoryWidth * n) d) (scratch : w' ≡ take (memoryWidth * n) d ++ drop (memoryWidth * n) w) where
+  abbrev end : ℕ
+  end = memoryWidth * n
+
+  pub remainder-words : memoryWidth * n ≤ length d
+  remainder-words = omega (arith, h .within, h .wide)
+
+  pub remainder-scratch : memoryWidth * n ≤ length w
+  remainder-scratch = omega (arith, remainder-words, same)
+
+  size : memoryWidth * length (held d n) ≡ end
+  size = ap (λ (m : ℕ). memoryWidth * m) (length-from trapezoidCodec n d 0)
+
+  front : take end d ≡ wordsOf trapezoidCodec (held d n)
+  front = ap (λ (m : ℕ). take m d) (sym size) ∙ ap (take (memoryWidth * length (held d n))) (h .is) ∙ image-take trapezoidCodec trapezoid-faithful (length d) (held d n)
+
+  rest : drop end d ≡ replicate (length d - end) (pos 0)
+  rest =
+      ap (λ (m : ℕ). drop m d) (sym size) ∙ ap (drop (memoryWidth * length (held d n))) (h .is) ∙ image-drop trapezoidCodec trapezoid-faithful (length d) (held d n)
+      ∙ ap (λ (m : ℕ). replicate (length d - m) (pos 0)) size
+
+  first-words : length (take end d) ≡ end
+  first-words = length-take-le end d remainder-words
+
+  moved : take end w' ≡ take end d
+  moved = ap (take end) scratch ∙ take-at (take end d) (drop end w) end first-words
+
+  pub remainder-length : memoryWidth * n ≡ length (take (memoryWidth * n) w')
+  remainder-length = sym (ap length moved ∙ first-words)
+
+  pub remainder-layer : layerOf (take (memoryWidth * n) w') ≡ held d n
+  remainder-layer =
+      ap layerOf (moved ∙ front)
+      ∙ records-words trapezoidCodec trapezoid-faithful (held d n) (all-of (λ (t : Trapezoid). Unit {0}) (λ t. tt) (held d n))
+
+  pub remainder-fit : All (FitFor coordinateLimit) (layerOf (take (memoryWidth * n) w'))
+  remainder-fit = subst (All (FitFor coordinateLimit)) (sym remainder-layer) (h .fit)
+
+  pub remainder-count : count trapezoidCodec (take (memoryWidth * n) w') ≤ room + 1
+  remainder-count =
+      let e : count trapezoidCodec (take end w') ≡ n = sym (length-from trapezoidCodec (count trapezoidCodec (take end w')) (take end w') 0) ∙ ap length remainder-layer ∙ length-from trapezoidCodec n d 0 in
+      omega (arith, e, h .within)
+
+  cleared : d' ≡ replicate (length d) (pos 0)
+  cleared =
+      let e : end + (length d - end) ≡ length d = omega (arith, remainder-words) in
+      out ∙ ap (λ (t : List ℤ). replicate end (pos 0) ++ t) rest ∙ replicate-append-replicate end (length d - end) (pos 0) ∙ ap (λ (m : ℕ). replicate m (pos 0)) e
+
+  pub remainder-out : length d' ≡ length d
+  remainder-out = ap length cleared ∙ length-replicate (length d) (pos 0)
+
+  pub remainder-borrowed : Borrowed d' room
+  remainder-borrowed = record { blank = blank-of (pos 0) d' (length d) cleared; wide = omega (arith, remainder-out, h .wide) }
+
+  -- the scratch area is cleared again
+  pub remainder-back : (t : List ℤ) → t ≡ replicate (length (take (memoryWidth * n) w')) (pos 0) → Blank (pos 0) (t ++ drop (memoryWidth * n) w')
+  remainder-back t e =
+      let f : drop end w' ≡ replicate (length w - end) (pos 0) = ap (drop end) scratch ∙ drop-at (take end d) (drop end w) end first-words ∙ ap (drop end) blank ∙ drop-replicate (pos 0) end (length w) in
+      let g : t ≡ replicate end (pos 0) = e ∙ ap (λ (m : ℕ). replicate m (pos 0)) (sym remainder-length) in
+      blank-of (pos 0) (t ++ drop end w') (end + (length w - end)) (ap (λ (u : List ℤ). u ++ drop end w') g ∙ ap (λ (u : List ℤ). replicate end (pos 0) ++ u) f ∙ replicate-append-replicate end (length w - end) (pos 0))
+
+  pub remainder-folded : (b : Trapezoid) (r : Folded) (t : List ℤ)
+      → FoldedAs (length d') room (less (layerOf (take (memoryWidth * n) w')) b) (lessMarks 0 (layerOf (take (memoryWidth * n) w')) b) r t
+      → FoldedAs (length d) room (less (held d n) b) (lessMarks 0 (held d n) b) r t
+  remainder-folded b r t g =
+      subst (λ (m : ℕ). FoldedAs m room (less (held d n) b) (lessMarks 0 (held d n) b) r t) remainder-out
+      (subst (λ (ts : List Trapezoid). FoldedAs (length d') room (less ts b) (lessMarks 0 ts b) r t) remainder-layer g)

@@ -1,0 +1,28 @@
+use mathlib.Core.Path.{_∙_}
+use Prim.Native.Nat.{_≤_}
+use native.Mathlib.Omega.{arith}
+use borrow.Author.Needs.{needs}
+use Rattle.remainder_code.proofs.One.{whole-short, whole-done}
+use Rattle.remainder_code.proofs.add_whole.Statement.{statement}
+use Rattle.remainder_code.proofs.add_whole.Tie as tie
+
+returns : tie.Need-returns
+returns c =
+    (whole-short (c .before .args .room) (c .if1 .taken), c .before .pre .blank)
+
+store-requires : tie.Need-store-requires
+store-requires c κs = search needs
+
+same-length : tie.Need-same-length
+same-length c = search needs
+
+returns-2 : tie.Need-returns-2
+returns-2 c =
+    let s = c .before .before .before .before in
+    let f = c .before .store in
+    let l : 1 ≤ s .args .room = omega (arith, c .before .before .before .if1 .left) in
+    let e = whole-done (s .args .out .now) (s .args .room) (s .pre) l (s .args .a .shape) in
+    (e .0, (e .1 .0, e .1 .1, f .ensures ∙ e .1 .2))
+
+pub add-whole-spec : {M : Type 1} → statement M
+add-whole-spec = tie.close (tie.spec returns store-requires same-length returns-2)

@@ -1,0 +1,56 @@
+use mathlib.Core.Path.{sym, _∙_}
+use Prim.Native.Nat.{_-_}
+use borrow.Author.Needs.{needs}
+use Rattle.remainder_code.proofs.Lessening.{placed}
+use Rattle.remainder_code.proofs.Apart.{Passing, pass-start, pass-stop, pass-found, pass-turn}
+use Rattle.remainder_code.proofs.first_overlapping.Statement.{statement}
+use Rattle.remainder_code.proofs.first_overlapping.Tie as tie
+
+abbrev Inv-loop : tie.InvT-loop
+Inv-loop a layer n i₀ i = Passing (a .shape) layer i
+
+abbrev μ-loop : tie.MeasureT-loop
+μ-loop a layer n i₀ i = n - i
+
+loop-holds : tie.Need-loop-holds Inv-loop μ-loop
+loop-holds c = pass-start (c .args .a .shape) (c .args .layer .now)
+
+placed-at-requires : tie.Need-placed-at-requires Inv-loop μ-loop
+placed-at-requires c κs = (c .before .before .pre .1, c .loop-test .taken)
+
+overlapping-requires : tie.Need-overlapping-requires Inv-loop μ-loop
+overlapping-requires c κs = record { first = c .before .before .before .pre .0; second = placed (c .placed-at .ensures) }
+
+returns : tie.Need-returns Inv-loop μ-loop
+returns c =
+    let p = c .before .before in
+    pass-found (p .before .before .loop .inv) (p .before .loop-test .taken) (p .placed-at .result .shape) (p .placed-at .ensures .shape) (sym (c .before .overlapping .ensures) ∙ c .if1 .taken)
+
+add-i : tie.Need-add-i Inv-loop μ-loop
+add-i c = search needs
+
+loop-less : tie.Need-loop-less Inv-loop μ-loop
+loop-less c = search needs
+
+loop-again : tie.Need-loop-again Inv-loop μ-loop
+loop-again c =
+    let p = c .before .before in
+    pass-turn (p .before .before .loop .inv) (p .before .loop-test .taken) (p .placed-at .result .shape) (p .placed-at .ensures .shape) (sym (c .before .overlapping .ensures) ∙ c .if1 .left)
+
+returns-2 : tie.Need-returns-2 Inv-loop μ-loop
+returns-2 c = pass-stop (c .before .loop .inv) (c .loop-test .left)
+
+pub first-overlapping-spec : {M : Type 1} → statement M
+first-overlapping-spec =
+    tie.close
+    (tie.spec
+    Inv-loop
+    μ-loop
+    loop-holds
+    placed-at-requires
+    overlapping-requires
+    returns
+    add-i
+    loop-less
+    loop-again
+    returns-2)

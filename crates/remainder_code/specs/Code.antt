@@ -1,0 +1,85 @@
+-- What folds answer and write, by the definitions.
+use mathlib.Core.Path.{_≡_}
+use mathlib.Core.Bool.{Bool, false, cond, _||_}
+use mathlib.Core.List.{List, [], _∷_}
+use Prim.Native.Nat.{ℕ, suc, _+_, _*_, _-_, _≤_}
+use lib.ListN.{length, take, drop, replicate}
+use lib.IntN.{ℤ, pos}
+use Rattle.lists.specs.Lists.{All}
+use Rattle.records.specs.Limits.{memoryWidth, maxRecords}
+use Rattle.records.specs.Records.{recordsFrom, image, count}
+use Rattle.geometry.specs.declared.Trapezoid.{Trapezoid}
+use Rattle.geometry.specs.Limit.{coordinateLimit}
+use Rattle.geometry.specs.Fitness.{FitFor}
+use Rattle.geometry.specs.Trapezoids.{trapezoidCodec}
+use Rattle.geometry.specs.declared.Fill.the-variants.{Written}
+use Rattle.overlay.specs.Overlaps.{overlaps}
+use Rattle.boolean.specs.declared.Folded.{Folded}
+use Rattle.boolean.specs.declared.Folded.the-variants.{Short, Done}
+use Rattle.boolean.specs.Space.{Mark, enough, short, space}
+use Rattle.trapezoids_code.specs.Tails.{FilledAs}
+
+-- of a tail of n words, for a fold with the result ts and the marks ms: the space was short after so many overlays, and the tail is blank; or
+-- the tail holds ts and is blank past them
+abbrev pub FoldedAs : ℕ → ℕ → List Trapezoid → List Mark → Folded → List ℤ → Type 0
+FoldedAs n room ts ms (Short overlays) d = (space room ms ≡ short overlays) × (d ≡ replicate n (pos 0))
+FoldedAs n room ts ms (Done trapezoids overlays) d = (space room ms ≡ enough overlays) × FilledAs n room ts (Written trapezoids) d
+
+-- the first n trapezoids of a buffer
+abbrev pub held : List ℤ → ℕ → List Trapezoid
+held d n = recordsFrom trapezoidCodec n d 0
+
+-- a buffer that takes `room` trapezoids holds n of them, which are fit, and is blank past them
+pub record Remaining (d : List ℤ) (n room : ℕ) : Type 0 where
+  pub is : d ≡ image trapezoidCodec (length d) (held d n)
+  pub fit : All (FitFor coordinateLimit) (held d n)
+  pub within : n ≤ room
+  pub wide : memoryWidth * room ≤ length d
+
+-- a buffer that takes `room` trapezoids holds n of them, and is blank past them
+pub record Holding (d : List ℤ) (n room : ℕ) : Type 0 where
+  pub is : d ≡ image trapezoidCodec (length d) (held d n)
+  pub within : n ≤ room
+  pub wide : memoryWidth * room ≤ length d
+
+-- the words of a buffer's first k records, and those past them
+abbrev pub front : List ℤ → ℕ → List ℤ
+front d k = take (memoryWidth * k) d
+
+abbrev pub rest : List ℤ → ℕ → List ℤ
+rest d k = drop (memoryWidth * k) d
+
+-- the trapezoids of a layer's words from number i on
+abbrev pub from : List ℤ → ℕ → List Trapezoid
+from s i = recordsFrom trapezoidCodec (count trapezoidCodec s - i) s i
+
+-- ---- trapezoids that do not overlap
+-- one of the trapezoids overlaps b
+abbrev pub overlapsAny : List Trapezoid → Trapezoid → Bool
+overlapsAny [] b = false
+overlapsAny (r ∷ rs) b = overlaps r b || overlapsAny rs b
+
+-- how many trapezoids come before the first that a overlaps
+abbrev pub apartBefore : Trapezoid → List Trapezoid → ℕ
+apartBefore a [] = 0
+apartBefore a (b ∷ bs) = cond (overlaps a b) 0 (suc (apartBefore a bs))
+
+-- ---- the number of overlays
+-- the most that are made for one trapezoid, for a layer of them, and for an operation
+abbrev pub overlaysOfOne : ℕ
+overlaysOfOne = maxRecords * maxRecords + 1
+
+abbrev pub overlaysOfLayer : ℕ
+overlaysOfLayer = maxRecords * overlaysOfOne
+
+abbrev pub maxOverlays : ℕ
+maxOverlays = 2 * overlaysOfLayer
+
+-- an answer with n more
+abbrev pub withOverlays : ℕ → Folded → Folded
+withOverlays n (Short overlays) = Short (n + overlays)
+withOverlays n (Done trapezoids overlays) = Done trapezoids (n + overlays)
+
+abbrev pub OverlaysWithin : ℕ → Folded → Type 0
+OverlaysWithin m (Short overlays) = overlays ≤ m
+OverlaysWithin m (Done trapezoids overlays) = overlays ≤ m

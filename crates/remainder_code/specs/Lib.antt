@@ -1,0 +1,2 @@
+-- What folds answer and write, by the definitions.
+pub mod Code

@@ -1,0 +1,207 @@
+// What remains of trapezoids less others, with room for so many.
+use boolean::Folded;
+use geometry::Fill;
+use geometry::Placed;
+ghost use mathlib.Core.Path.{_≡_};
+ghost use mathlib.Core.List.{[], _∷_, _++_};
+ghost use Prim.Native.Nat.{_+_, _*_, _-_, _≤_};
+ghost use lib.ListN.{length, take, drop, replicate};
+ghost use lib.IntN.{pos};
+ghost use Rattle.lists.specs.Lists.{All};
+ghost use Rattle.records.specs.Limits.{memoryWidth, maxRecords};
+ghost use Rattle.records.specs.Records.{count, Blank};
+ghost use Rattle.geometry.specs.Limit.{coordinateLimit};
+ghost use Rattle.geometry.specs.Fitness.{FitFor, Layer};
+ghost use Rattle.geometry.specs.Trapezoids.{trapezoidCodec, layerOf};
+ghost use Rattle.boolean.specs.Operations.{less, lessAll};
+ghost use Rattle.boolean.specs.Space.{addition, lessMarks, lessAllMarks};
+ghost use Rattle.trapezoids_code.specs.Placed.{PlacedAs, Pair};
+ghost use Rattle.trapezoids_code.specs.Tails.{Borrowed};
+ghost use Rattle.remainder_code.specs.Code.{from, maxOverlays, withOverlays, OverlaysWithin, held, Remaining, FoldedAs, overlapsAny, apartBefore};
+
+// Each trapezoid of the remainder, in order, replaced by its parts that are not in b. Those not yet reached count against the room.
+pub fn less_into(remainder: &[i32], b: Placed, out: &mut [i32], room: usize) -> Folded
+    requires { ⌜ All (FitFor coordinateLimit) (layerOf (now remainder)) × (count trapezoidCodec (now remainder) ≤ room + 1) ⌝ }
+    requires { ⌜ PlacedAs (b .shape) b × Borrowed (now out) room ⌝ }
+    ensures { λ r. ⌜ FoldedAs (length (now (out .entry))) room (less (layerOf (now (remainder .entry))) (b .shape)) (lessMarks 0 (layerOf (now (remainder .entry))) (b .shape)) r (now (out .exit)) ⌝ }
+{
+    let n = remainder.len() / records::MEMORY_WIDTH;
+    let mut k = 0;
+    let mut i = 0;
+    while i < n {
+        let t = trapezoids_code::load(remainder, i);
+        let a = trapezoids_code::place(t);
+        let free = room - k - (n - i - 1);
+        let f = overlay_code::overlay_into(a, b, 1, &mut out[records::MEMORY_WIDTH * k..], free);
+        let Fill::Written(m) = f else {
+            records_code::clear(out);
+            return Folded::Short(i + 1);
+        };
+        k += m;
+        i += 1;
+    }
+    Folded::Done {
+        trapezoids: k,
+        overlays: n,
+    }
+}
+
+// The first n records of `out` are moved to `scratch`.
+fn move_into(out: &mut [i32], scratch: &mut [i32], n: usize)
+    requires { ⌜ (memoryWidth * n ≤ length (now out)) × (memoryWidth * n ≤ length (now scratch)) ⌝ }
+    ensures { λ _. ⌜ now (out .exit) ≡ replicate (memoryWidth * n) (pos 0) ++ drop (memoryWidth * n) (now (out .entry)) ⌝ }
+    ensures { λ _. ⌜ now (scratch .exit) ≡ take (memoryWidth * n) (now (out .entry)) ++ drop (memoryWidth * n) (now (scratch .entry)) ⌝ }
+{
+    let end = records::MEMORY_WIDTH * n;
+    records_code::copy(&out[..end], &mut scratch[..end]);
+    records_code::clear(&mut out[..end]);
+}
+
+// Whether some trapezoid of a layer overlaps b.
+fn any_overlapping(layer: &[i32], b: Placed) -> bool
+    requires { ⌜ All (FitFor coordinateLimit) (layerOf (now layer)) × PlacedAs (b .shape) b ⌝ }
+    ensures { λ r. ⌜ r ≡ overlapsAny (layerOf (now (layer .entry))) (b .shape) ⌝ }
+{
+    let n = layer.len() / records::MEMORY_WIDTH;
+    let mut i = 0;
+    while i < n {
+        let a = trapezoids_code::placed_at(layer, i);
+        if overlaps_code::overlapping(a, b) {
+            return true;
+        }
+        i += 1;
+    }
+    false
+}
+
+// The n trapezoids that `out` holds are the remainder: each replaced by its parts that are not in b. They stand if none overlaps b.
+pub fn lessen(b: Placed, n: usize, out: &mut [i32], scratch: &mut [i32], room: usize) -> Folded
+    requires { ⌜ PlacedAs (b .shape) b × Remaining (now out) n room ⌝ }
+    requires { ⌜ Blank (pos 0) (now scratch) × (length (now scratch) ≡ length (now out)) ⌝ }
+    ensures { λ r. ⌜ FoldedAs (length (now (out .entry))) room (less (held (now (out .entry)) n) (b .shape)) (lessMarks 0 (held (now (out .entry)) n) (b .shape)) r (now (out .exit)) ⌝ }
+    ensures { λ _. ⌜ Blank (pos 0) (now (scratch .exit)) ⌝ }
+{
+    let end = records::MEMORY_WIDTH * n;
+    if !any_overlapping(&out[..end], b) {
+        return Folded::Done {
+            trapezoids: n,
+            overlays: n,
+        };
+    }
+    move_into(out, scratch, n);
+    let f = less_into(&scratch[..end], b, out, room);
+    records_code::clear(&mut scratch[..end]);
+    f
+}
+
+// The n trapezoids that `out` holds, less the trapezoids of a layer from number `start` on, until none remains.
+pub fn lessen_by_rest(
+    layer: &[i32],
+    start: usize,
+    n: usize,
+    out: &mut [i32],
+    scratch: &mut [i32],
+    room: usize,
+) -> Folded
+    requires { ⌜ Layer (now layer) × (start ≤ count trapezoidCodec (now layer)) × Remaining (now out) n room × (room ≤ maxRecords) ⌝ }
+    requires { ⌜ Blank (pos 0) (now scratch) × (length (now scratch) ≡ length (now out)) ⌝ }
+    ensures { λ r. ⌜ FoldedAs (length (now (out .entry))) room (lessAll (held (now (out .entry)) n) (from (now (layer .entry)) start)) (lessAllMarks 0 (held (now (out .entry)) n) (from (now (layer .entry)) start)) r (now (out .exit)) ⌝ }
+    ensures { λ r. ⌜ OverlaysWithin (maxRecords * (maxRecords - start)) r ⌝ }
+    ensures { λ _. ⌜ Blank (pos 0) (now (scratch .exit)) ⌝ }
+{
+    let count = layer.len() / records::MEMORY_WIDTH;
+    let mut k = n;
+    let mut made = 0;
+    let mut i = start;
+    while i < count {
+        if k == 0 {
+            return Folded::Done {
+                trapezoids: k,
+                overlays: made,
+            };
+        }
+        let b = trapezoids_code::placed_at(layer, i);
+        let f = lessen(b, k, out, scratch, room);
+        match f {
+            Folded::Short(overlays) => {
+                return Folded::Short(made + overlays);
+            }
+            Folded::Done {
+                trapezoids,
+                overlays,
+            } => {
+                k = trapezoids;
+                made += overlays;
+            }
+        }
+        i += 1;
+    }
+    Folded::Done {
+        trapezoids: k,
+        overlays: made,
+    }
+}
+
+// The same answer with more overlays.
+pub fn more_overlays(n: usize, f: Folded) -> Folded
+    requires { ⌜ (n ≤ maxOverlays) × OverlaysWithin maxOverlays f ⌝ }
+    ensures { λ r. ⌜ r ≡ withOverlays n f ⌝ }
+{
+    match f {
+        Folded::Short(overlays) => Folded::Short(n + overlays),
+        Folded::Done {
+            trapezoids,
+            overlays,
+        } => Folded::Done {
+            trapezoids,
+            overlays: n + overlays,
+        },
+    }
+}
+
+// One trapezoid less one other.
+pub fn first_into(a: Placed, b: Placed, out: &mut [i32], room: usize) -> Folded
+    requires { ⌜ Pair a b × Borrowed (now out) room ⌝ }
+    ensures { λ r. ⌜ FoldedAs (length (now (out .entry))) room (less (a .shape ∷ []) (b .shape)) (lessMarks 0 (a .shape ∷ []) (b .shape)) r (now (out .exit)) ⌝ }
+{
+    let f = overlay_code::overlay_into(a, b, 1, out, room);
+    match f {
+        Fill::NoRoom => Folded::Short(1),
+        Fill::Written(n) => Folded::Done {
+            trapezoids: n,
+            overlays: 1,
+        },
+    }
+}
+
+// One trapezoid added whole.
+pub fn add_whole(a: Placed, out: &mut [i32], room: usize) -> Folded
+    requires { ⌜ Borrowed (now out) room ⌝ }
+    ensures { λ r. ⌜ FoldedAs (length (now (out .entry))) room (a .shape ∷ []) (addition 1 ∷ []) r (now (out .exit)) ⌝ }
+{
+    if room == 0 {
+        return Folded::Short(0);
+    }
+    trapezoids_code::store(out, a.shape);
+    Folded::Done {
+        trapezoids: 1,
+        overlays: 0,
+    }
+}
+
+// How many trapezoids of a layer come before the first that overlaps a; all of them if none does.
+pub fn first_overlapping(a: Placed, layer: &[i32]) -> usize
+    requires { ⌜ PlacedAs (a .shape) a × All (FitFor coordinateLimit) (layerOf (now layer)) ⌝ }
+    ensures { λ r. ⌜ r ≡ apartBefore (a .shape) (layerOf (now (layer .entry))) ⌝ }
+{
+    let n = layer.len() / records::MEMORY_WIDTH;
+    let mut i = 0;
+    while i < n {
+        let b = trapezoids_code::placed_at(layer, i);
+        if overlaps_code::overlapping(a, b) {
+            return i;
+        }
+        i += 1;
+    }
+    i
+}

@@ -1,0 +1,5 @@
+pub mod Refusals
+pub mod Components
+pub mod Rows
+pub mod Bounds
+pub mod Fracturing

@@ -1,0 +1,25 @@
+use mathlib.Core.Path.{sym, _∙_}
+use borrow.Author.Needs.{needs}
+use Rattle.rows_code.proofs.Fracturing.{fracture-lengths, fracture-rows}
+use Rattle.rows_code.proofs.fracture_checked.Statement.{statement}
+use Rattle.rows_code.proofs.fracture_checked.Tie as tie
+
+buffers-sized-requires : tie.Need-buffers-sized-requires
+buffers-sized-requires c κs = search needs
+
+check-polygon-file-requires : tie.Need-check-polygon-file-requires
+check-polygon-file-requires c κs = search needs
+
+returns : tie.Need-returns
+returns c =
+    let s = c .before .before .before .before .args in
+    c .check-polygon-file .ensures ∙ fracture-rows (s .file .now) (s .out) (s .scratch) (sym (c .before .before .buffers-sized .ensures) ∙ c .before .if1 .taken)
+
+returns-2 : tie.Need-returns-2
+returns-2 c =
+    let s = c .before .before .before .args in
+    fracture-lengths (s .file .now) (s .out) (s .scratch) (sym (c .before .buffers-sized .ensures) ∙ c .if1 .left)
+
+pub fracture-checked-spec : {M : Type 1} → statement M
+fracture-checked-spec =
+    tie.close (tie.spec buffers-sized-requires check-polygon-file-requires returns returns-2)

@@ -1,0 +1,50 @@
+use mathlib.Core.Path.{_≡_, sym, _∙_, ap}
+use Prim.Native.Nat.{ℕ}
+use borrow.Author.Needs.{needs}
+use Rattle.records.specs.Records.{count}
+use Rattle.records.proofs.Records.{length-from}
+use Rattle.geometry.specs.declared.Checked.the-variants.{Passed}
+use Rattle.geometry.specs.Limit.{coordinateLimit}
+use Rattle.geometry.specs.Trapezoids.{trapezoidCodec, layerOf}
+use Rattle.geometry.specs.Fitness.{firstRefusal}
+use Rattle.rows_code.proofs.Refusals.{first-passed, first-refused}
+use Rattle.rows_code.proofs.layers_checked.Statement.{statement}
+use Rattle.rows_code.proofs.layers_checked.Tie as tie
+
+first-refused-requires : tie.Need-first-refused-requires
+first-refused-requires c κs = search needs
+
+enum-told : tie.Need-enum-told
+enum-told c = search needs
+
+first-refused-requires-2 : tie.Need-first-refused-requires-2
+first-refused-requires-2 c κs = search needs
+
+returns : tie.Need-returns
+returns c =
+    let s = c .before .before .before .before .args in
+    let f = c .before .before .before .first-refused in
+    let e : f .result ≡ Passed = cc in
+    let n = length-from trapezoidCodec (count trapezoidCodec (s .a .now)) (s .a .now) 0 in
+    c .first-refused2 .ensures
+    ∙ ap (λ (i : ℕ). firstRefusal coordinateLimit i (layerOf (s .b .now))) (sym n)
+    ∙ first-passed coordinateLimit (layerOf (s .a .now)) (layerOf (s .b .now)) (sym (f .ensures) ∙ e)
+
+enum-known-first : tie.Need-enum-known-first
+enum-known-first c = search needs
+
+returns-2 : tie.Need-returns-2
+returns-2 c =
+    let s = c .before .before .before .before .args in
+    first-refused coordinateLimit (layerOf (s .a .now)) (layerOf (s .b .now)) (sym (c .before .before .before .first-refused .ensures) ∙ c .before .first .given .1)
+
+pub layers-checked-spec : {M : Type 1} → statement M
+layers-checked-spec =
+    tie.close
+    (tie.spec
+    first-refused-requires
+    enum-told
+    first-refused-requires-2
+    returns
+    enum-known-first
+    returns-2)

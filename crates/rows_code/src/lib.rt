@@ -1,0 +1,222 @@
+// The rows that each public function checks before it does anything.
+use geometry::Checked;
+use integer::Int;
+ghost use mathlib.Core.Path.{_≡_};
+ghost use mathlib.Core.Bool.{_&&_};
+ghost use Prim.Native.Nat.{_≤_};
+ghost use lib.ListN.{length};
+ghost use lib.IntN.{pos, natAbs};
+ghost use lib.Signed.{leZ};
+ghost use Rattle.records.specs.Limits.{sized};
+ghost use Rattle.calls.specs.Components.{listsSized, componentsChecked};
+ghost use Rattle.calls.specs.Rows.{buffersSized, withinTimes, pointPasses, layersChecked, fractureChecked, combineChecked, deoverlapChecked, equalChecked, containsChecked};
+ghost use Rattle.geometry_code.specs.Code.{pointOf};
+
+// Codes run from 0 to CODES - 1.
+const CODES: u32 = 5;
+
+// Row 1, of a layer and a list of n numbers.
+fn lists_sized(a: &[i32], n: usize) -> bool
+    ensures { λ r. ⌜ r ≡ listsSized (now (a .entry)) n ⌝ }
+{
+    if records_code::sized(a.len()) {
+        return n == a.len() / records::MEMORY_WIDTH;
+    }
+    false
+}
+
+// The rows of `components`.
+pub fn components_checked(a: &[i32], n: usize) -> Checked
+    ensures { λ r. ⌜ r ≡ componentsChecked (now (a .entry)) n ⌝ }
+{
+    if lists_sized(a, n) {
+        return fitness_code::first_refused(a, geometry::COORDINATE_LIMIT, 0);
+    }
+    Checked::Refused {
+        number: 1,
+        place: 0,
+    }
+}
+
+// Row 1, of an output and a scratch area of so many words.
+fn buffers_sized(out: usize, scratch: usize) -> bool
+    ensures { λ r. ⌜ r ≡ buffersSized out scratch ⌝ }
+{
+    if records_code::sized(out) {
+        if records_code::sized(scratch) {
+            return scratch == out;
+        }
+    }
+    false
+}
+
+// Row 1, of a layer, an output and a scratch area.
+fn one_sized(a: usize, out: usize, scratch: usize) -> bool
+    ensures { λ r. ⌜ r ≡ sized a && buffersSized out scratch ⌝ }
+{
+    if records_code::sized(a) {
+        return buffers_sized(out, scratch);
+    }
+    false
+}
+
+// The same with two layers.
+fn both_sized(a: usize, b: usize, out: usize, scratch: usize) -> bool
+    ensures { λ r. ⌜ r ≡ sized a && (sized b && buffersSized out scratch) ⌝ }
+{
+    if records_code::sized(a) {
+        return one_sized(b, out, scratch);
+    }
+    false
+}
+
+// Row 1, of two layers.
+fn layers_sized(a: usize, b: usize) -> bool
+    ensures { λ r. ⌜ r ≡ sized a && sized b ⌝ }
+{
+    if records_code::sized(a) {
+        return records_code::sized(b);
+    }
+    false
+}
+
+// Whether z is from -COORDINATE_LIMIT times d to COORDINATE_LIMIT times d.
+fn within_times(z: Int, d: Int) -> bool
+    requires { ⌜ natAbs (d .v) ≤ 1024 ⌝ }
+    ensures { λ r. ⌜ r ≡ withinTimes (z .v) (d .v) ⌝ }
+{
+    let limit = integer_code::natural(geometry::COORDINATE_LIMIT);
+    let most = integer_code::mul(limit, d);
+    let least = integer_code::neg(most);
+    if integer_code::at_most(least, z) {
+        return integer_code::at_most(z, most);
+    }
+    false
+}
+
+// Whether d is from 1 to 1,024.
+fn denominator_passes(d: Int) -> bool
+    ensures { λ r. ⌜ r ≡ leZ (pos 1) (d .v) && leZ (d .v) (pos 1024) ⌝ }
+{
+    let one = integer_code::natural(1);
+    let most = integer_code::natural(1024);
+    if integer_code::at_most(one, d) {
+        return integer_code::at_most(d, most);
+    }
+    false
+}
+
+// Row 3 lets the point (x/d, y/d) pass.
+fn point_passes(x: Int, y: Int, d: Int) -> bool
+    ensures { λ r. ⌜ r ≡ pointPasses (pointOf x y d) ⌝ }
+{
+    if denominator_passes(d) {
+        if within_times(x, d) {
+            return within_times(y, d);
+        }
+    }
+    false
+}
+
+// Rows 7 to 11: the trapezoids of the first layer, then those of the second, numbered on.
+fn layers_checked(a: &[i32], b: &[i32]) -> Checked
+    requires { ⌜ length (now a) ≤ 12288 ⌝ }
+    ensures { λ r. ⌜ r ≡ layersChecked (now (a .entry)) (now (b .entry)) ⌝ }
+{
+    let first = fitness_code::first_refused(a, geometry::COORDINATE_LIMIT, 0);
+    match first {
+        Checked::Passed => {
+            return fitness_code::first_refused(
+                b,
+                geometry::COORDINATE_LIMIT,
+                a.len() / records::MEMORY_WIDTH,
+            );
+        }
+        Checked::Refused { number, place } => {
+            return Checked::Refused { number, place };
+        }
+    }
+}
+
+// The rows of `combine`, with an output and a scratch area of so many words.
+pub fn combine_checked(code: u32, a: &[i32], b: &[i32], out: usize, scratch: usize) -> Checked
+    ensures { λ r. ⌜ r ≡ combineChecked code (now (a .entry)) (now (b .entry)) out scratch ⌝ }
+{
+    if both_sized(a.len(), b.len(), out, scratch) {
+        if code < CODES {
+            return layers_checked(a, b);
+        }
+        return Checked::Refused {
+            number: 2,
+            place: 0,
+        };
+    }
+    Checked::Refused {
+        number: 1,
+        place: 0,
+    }
+}
+
+// The rows of `fracture`.
+pub fn fracture_checked(file: &[u8], out: usize, scratch: usize) -> Checked
+    ensures { λ r. ⌜ r ≡ fractureChecked (now (file .entry)) out scratch ⌝ }
+{
+    if buffers_sized(out, scratch) {
+        return files_code::check_polygon_file(file, geometry::COORDINATE_LIMIT);
+    }
+    Checked::Refused {
+        number: 1,
+        place: 0,
+    }
+}
+
+// The rows of `deoverlap`.
+pub fn deoverlap_checked(a: &[i32], out: usize, scratch: usize) -> Checked
+    ensures { λ r. ⌜ r ≡ deoverlapChecked (now (a .entry)) out scratch ⌝ }
+{
+    if one_sized(a.len(), out, scratch) {
+        return fitness_code::first_refused(a, geometry::COORDINATE_LIMIT, 0);
+    }
+    Checked::Refused {
+        number: 1,
+        place: 0,
+    }
+}
+
+// The rows of `equal`.
+pub fn equal_checked(a: &[i32], b: &[i32], out: usize, scratch: usize) -> Checked
+    ensures { λ r. ⌜ r ≡ equalChecked (now (a .entry)) (now (b .entry)) out scratch ⌝ }
+{
+    if both_sized(a.len(), b.len(), out, scratch) {
+        return layers_checked(a, b);
+    }
+    Checked::Refused {
+        number: 1,
+        place: 0,
+    }
+}
+
+// The rows of `contains`.
+pub fn contains_checked(x: Int, y: Int, d: Int, a: &[i32], b: &[i32], code: u32) -> Checked
+    ensures { λ r. ⌜ r ≡ containsChecked (pointOf x y d) (now (a .entry)) (now (b .entry)) code ⌝ }
+{
+    if layers_sized(a.len(), b.len()) {
+        if code < CODES {
+            if point_passes(x, y, d) {
+                return layers_checked(a, b);
+            }
+            return Checked::Refused {
+                number: 3,
+                place: 0,
+            };
+        }
+        return Checked::Refused {
+            number: 2,
+            place: 0,
+        };
+    }
+    Checked::Refused {
+        number: 1,
+        place: 0,
+    }
+}

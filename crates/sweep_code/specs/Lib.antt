@@ -1,0 +1,2 @@
+-- Events and the next one, as functions hold them.
+pub mod Events

@@ -1,0 +1,3 @@
+pub mod Writing
+pub mod Points
+pub mod Placed

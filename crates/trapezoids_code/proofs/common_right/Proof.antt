@@ -1,0 +1,16 @@
+use mathlib.Core.Path.{sym, _∙_}
+use Rattle.trapezoids_code.proofs.Placed.{right-first, right-second}
+use Rattle.trapezoids_code.proofs.common_right.Statement.{statement}
+use Rattle.trapezoids_code.proofs.common_right.Tie as tie
+
+is-before-requires : tie.Need-is-before-requires
+is-before-requires c κs = let h = c .before .before .pre in (h .first .right .small, h .second .right .small)
+
+returns : tie.Need-returns
+returns c = let s = c .before .before .before .before in right-first (s .args .a) (s .args .b) (s .pre) (sym (c .before .is-before .ensures) ∙ c .if1 .taken)
+
+returns-2 : tie.Need-returns-2
+returns-2 c = let s = c .before .before .before .before in right-second (s .args .a) (s .args .b) (s .pre) (sym (c .before .is-before .ensures) ∙ c .if1 .left)
+
+pub common-right-spec : {M : Type 1} → statement M
+common-right-spec = tie.close (tie.spec is-before-requires returns returns-2)

@@ -1,0 +1,3 @@
+-- Trapezoids as functions hold them, and tails that they write into.
+pub mod Placed
+pub mod Tails
