@@ -1,30 +1,26 @@
 -- What a call may go by once its rows let it pass, and the sizes of a refusal's number and place.
 use mathlib.Core.Path.{_≡_, refl}
 use mathlib.Core.Bool.{Bool, true, false, _&&_}
-use mathlib.Core.List.{List, [], _∷_, _++_}
-use Prim.Native.Nat.{ℕ, _+_, _*_, _/_, _<_, _≤_}
+use mathlib.Core.List.{List, _++_}
+use Prim.Native.Nat.{ℕ, _*_, _/_, _<_, _≤_}
 use native.Mathlib.Omega.{arith}
 use lib.Dec.{eqb}
 use lib.ListN.{length, length-append}
 use lib.IntN.{ℤ}
 use borrow.Author.Tests.{ltb-true, eqb-true}
 use Rattle.lists.specs.Lists.{All}
-use Rattle.lists.specs.Tests.{all}
 use Rattle.lists.proofs.Conjunction.{and-left, and-right}
 use Rattle.lists.proofs.Lists.{all-left, all-right}
 use Rattle.records.specs.Limits.{memoryWidth, maxRecords, sized}
 use Rattle.records.specs.Records.{count}
 use Rattle.records.proofs.Records.{length-from}
-use Rattle.geometry.specs.declared.Trapezoid.{Trapezoid}
-use Rattle.geometry.specs.declared.Verdict.{Verdict}
-use Rattle.geometry.specs.declared.Verdict.the-variants.{Fit, Row}
 use Rattle.geometry.specs.declared.Checked.{Checked}
-use Rattle.geometry.specs.declared.Checked.the-variants.{Passed, Refused}
+use Rattle.geometry.specs.declared.Checked.the-variants.{Passed}
 use Rattle.geometry.specs.Limit.{coordinateLimit}
 use Rattle.geometry.specs.Points.{Point}
-use Rattle.geometry.specs.Trapezoids.{linesOf, trapezoidCodec, layerOf}
-use Rattle.geometry.specs.Positions.{position}
-use Rattle.geometry.specs.Fitness.{FitFor, lineOnGrid, isLine, baseCrosses, leftOf, belowBetween, pass, shapeVerdict, verdict, refuse, firstRefusal, Layer}
+use Rattle.geometry.specs.Trapezoids.{trapezoidCodec, layerOf}
+use Rattle.geometry.specs.Fitness.{FitFor, pass, firstRefusal, Layer}
+use Rattle.geometry.proofs.Refusals.{SmallChecked, small-first}
 use Rattle.geometry.proofs.Fitness.{layer-exact}
 use Rattle.boolean.specs.Operations.{isCode}
 use Rattle.calls.specs.Rows.{row, buffersSized, pointPasses, layersChecked, combineChecked, deoverlapChecked, equalChecked, containsChecked}
@@ -132,45 +128,11 @@ contains-ready P a b code e =
     }
 
 -- ---- refused
-abbrev pub SmallChecked : Checked → Type 0
-SmallChecked Passed = Unit {0}
-SmallChecked (Refused number place) = (number ≤ 12) × (place < 1024)
-
-abbrev SmallVerdict : Verdict → Type 0
-SmallVerdict Fit = Unit {0}
-SmallVerdict (Row n) = n ≤ 12
-
-pub small-row : (n : ℕ) → n ≤ 12 → (b : Bool) (c : Checked) → (b ≡ true → SmallChecked c) → SmallChecked (row n b c)
+pub small-row : (n : ℕ) → n < 256 → (b : Bool) (c : Checked) → (b ≡ true → SmallChecked c) → SmallChecked (row n b c)
 small-row n l true c h = h refl
 small-row n l false c h = (l, omega arith)
 
-small-pass : (b : Bool) (n : ℕ) (v : Verdict) → n ≤ 12 → SmallVerdict v → SmallVerdict (pass b n v)
-small-pass true n v l h = h
-small-pass false n v l h = l
-
-small-shape : (t : Trapezoid) → SmallVerdict (shapeVerdict t)
-unfolding shapeVerdict
-small-shape t =
-    small-pass (baseCrosses (t .left) && baseCrosses (t .right)) 9 _ (omega arith)
-    (small-pass (leftOf (t .left) (t .right)) 10 _ (omega arith)
-    (small-pass (belowBetween (position (t .left)) (position (t .right)) (t .bottom) (t .top)) 11 Fit (omega arith) tt))
-
-small-verdict : (L : ℕ) (t : Trapezoid) → SmallVerdict (verdict L t)
-unfolding verdict
-small-verdict L t =
-    small-pass (all (lineOnGrid L) (linesOf t)) 7 (pass (all isLine (linesOf t)) 8 (shapeVerdict t)) (omega arith)
-    (small-pass (all isLine (linesOf t)) 8 (shapeVerdict t) (omega arith) (small-shape t))
-
-small-refuse : (v : Verdict) (i : ℕ) (c : Checked) → i < 1024 → SmallVerdict v → SmallChecked c → SmallChecked (refuse v i c)
-small-refuse Fit i c l h k = k
-small-refuse (Row n) i c l h k = (h, l)
-
-small-first : (L i : ℕ) (ts : List Trapezoid) → i + length ts ≤ 1024 → SmallChecked (firstRefusal L i ts)
-unfolding firstRefusal
-small-first L i [] l = tt
-small-first L i (t ∷ ts) l = small-refuse (verdict L t) i (firstRefusal L (i + 1) ts) (omega arith) (small-verdict L t) (small-first L (i + 1) ts (omega arith))
-
-layer-length : (a : List ℤ) → sized (length a) ≡ true → length (layerOf a) ≤ 512
+layer-length : (a : List ℤ) → sized (length a) ≡ true → length (layerOf a) ≤ maxRecords
 layer-length a e = omega (arith, length-from trapezoidCodec (count trapezoidCodec a) a 0, sized-most (length a) e)
 
 small-layers : (a b : List ℤ) → sized (length a) ≡ true → sized (length b) ≡ true → SmallChecked (layersChecked a b)

@@ -1,18 +1,18 @@
 -- What row 1 says of a length.
 use mathlib.Core.Path.{_≡_}
 use mathlib.Core.Bool.{true}
-use Prim.Native.Nat.{ℕ, _≤_, _%_}
+use Prim.Native.Nat.{ℕ, _≤_, _%_, _*_}
 use lib.Dec.{eqb, leb}
 use lib.ListN.{length}
 use borrow.Author.Tests.{eqb-true, leb-true}
 use Rattle.lists.proofs.Conjunction.{and-left, and-right}
-use Rattle.records.specs.Limits.{sized}
+use Rattle.records.specs.Limits.{sized, memoryWidth, maxRecords}
 
 -- ---- what row 1 says of a length
-pub sized-most : (n : ℕ) → sized n ≡ true → n ≤ 12288
+pub sized-most : (n : ℕ) → sized n ≡ true → n ≤ memoryWidth * maxRecords
 unfolding sized
-sized-most n e = leb-true n 12288 (and-right (eqb (n % 24) 0) (leb n 12288) e)
+sized-most n e = leb-true n (memoryWidth * maxRecords) (and-right (eqb (n % memoryWidth) 0) (leb n (memoryWidth * maxRecords)) e)
 
-pub sized-whole : (n : ℕ) → sized n ≡ true → n % 24 ≡ 0
+pub sized-whole : (n : ℕ) → sized n ≡ true → n % memoryWidth ≡ 0
 unfolding sized
-sized-whole n e = eqb-true (n % 24) 0 (and-left (eqb (n % 24) 0) (leb n 12288) e)
+sized-whole n e = eqb-true (n % memoryWidth) 0 (and-left (eqb (n % memoryWidth) 0) (leb n (memoryWidth * maxRecords)) e)

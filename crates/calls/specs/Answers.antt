@@ -3,6 +3,7 @@ use mathlib.Core.Bool.{Bool, true, false}
 use Prim.Native.Nat.{ℕ, _<_, _≤_}
 use lib.Dec.{eqb}
 use Rattle.records.specs.Limits.{maxRecords}
+use Rattle.geometry.specs.Fitness.{SmallRefusal}
 use Rattle.calls.specs.declared.Fractured.{Fractured}
 use Rattle.calls.specs.declared.Fractured.the-variants as fractured
 use Rattle.calls.specs.declared.Combined.{Combined}
@@ -86,17 +87,16 @@ isYes yes = true
 isYes no = false
 
 -- ---- the sizes of the numbers in an answer
--- places are numbers of polygons, of pairs of offset and length, or of trapezoids in two layers
 abbrev pub Small : Answer → Type 0
-Small (refused number place) = (number ≤ 12) × (place < 1024)
+Small (refused number place) = SmallRefusal number place
 Small (done pieces overlays) = (pieces ≤ maxRecords) × (overlays < 4294967296)
 
 abbrev pub SmallEquality : EqualityAnswer → Type 0
-SmallEquality (refused-equality number place) = (number ≤ 12) × (place < 1024)
+SmallEquality (refused-equality number place) = SmallRefusal number place
 SmallEquality (same overlays) = overlays < 4294967296
 SmallEquality (differs side overlays) = (side ≤ 1) × (overlays < 4294967296)
 
 abbrev pub SmallPoint : PointAnswer → Type 0
-SmallPoint (refused-point number place) = (number ≤ 12) × (place < 1024)
+SmallPoint (refused-point number place) = SmallRefusal number place
 SmallPoint yes = Unit {0}
 SmallPoint no = Unit {0}

@@ -2,7 +2,7 @@
 use mathlib.Core.Path.{_≡_}
 use mathlib.Core.Bool.{Bool, _&&_}
 use mathlib.Core.List.{List}
-use Prim.Native.Nat.{ℕ, _<_, _≤_}
+use Prim.Native.Nat.{ℕ, _≤_}
 use lib.Dec.{eqb}
 use lib.ListN.{length}
 use lib.IntN.{ℤ}
@@ -12,7 +12,7 @@ use Rattle.geometry.specs.declared.Checked.{Checked}
 use Rattle.geometry.specs.declared.Checked.the-variants.{Passed, Refused}
 use Rattle.geometry.specs.Limit.{coordinateLimit}
 use Rattle.geometry.specs.Trapezoids.{trapezoidCodec, layerOf}
-use Rattle.geometry.specs.Fitness.{firstRefusal}
+use Rattle.geometry.specs.Fitness.{SmallRefusal, firstRefusal}
 use Rattle.connectivity.specs.Components.{componentNumbers, componentCount, ComponentsOf}
 use Rattle.calls.specs.declared.Connected.{Connected}
 use Rattle.calls.specs.declared.Connected.the-variants as connected
@@ -39,7 +39,7 @@ connectedAnswer (connected.Done components) = counted components
 
 -- the sizes of the numbers in it
 abbrev pub Small : Answer → Type 0
-Small (refused number place) = (number ≤ 11) × (place < maxRecords)
+Small (refused number place) = SmallRefusal number place
 Small (counted components) = components ≤ maxRecords
 
 -- ---- the answer, and the list of numbers

@@ -1,24 +1,19 @@
 -- The sizes of the numbers and places of refusals.
 use mathlib.Core.Path.{_≡_, refl, sym, ap, _∙_}
-use mathlib.Core.Bool.{Bool, true, false, _&&_}
-use mathlib.Core.List.{List, [], _∷_}
+use mathlib.Core.Bool.{Bool, true, false}
+use mathlib.Core.List.{List}
 use Prim.Native.Nat.{ℕ, zero, suc, _+_, _*_, _-_, _/_, _<_, _≤_}
 use native.Mathlib.Nat.{mul-div-cancel-left}
 use native.Mathlib.Omega.{arith}
 use lib.Dec.{eqb}
 use lib.ListN.{length, length-drop}
 use lib.IntN.{ℤ}
-use Rattle.lists.specs.Tests.{all}
 use Rattle.records.specs.Records.{Codec, count}
 use Rattle.records.proofs.Records.{length-from}
 use Rattle.geometry.specs.declared.Trapezoid.{Trapezoid}
-use Rattle.geometry.specs.declared.Verdict.{Verdict}
-use Rattle.geometry.specs.declared.Verdict.the-variants.{Fit, Row}
-use Rattle.geometry.specs.declared.Checked.the-variants.{Passed, Refused}
+use Rattle.geometry.specs.declared.Checked.the-variants.{Passed}
 use Rattle.geometry.specs.Limit.{coordinateLimit}
-use Rattle.geometry.specs.Positions.{position}
-use Rattle.geometry.specs.Trapezoids.{linesOf}
-use Rattle.geometry.specs.Fitness.{lineOnGrid, isLine, baseCrosses, leftOf, belowBetween, pass, shapeVerdict, verdict, refuse, firstRefusal}
+use Rattle.geometry.specs.Fitness.{pass, firstRefusal}
 use Rattle.files.specs.declared.Format.{Format}
 use Rattle.files.specs.declared.Number.{Number}
 use Rattle.files.specs.declared.Number.the-variants.{Of, Outside}
@@ -31,59 +26,29 @@ use Rattle.files.specs.Rows.{directoryRows, layersChecked}
 use Rattle.files.proofs.Walk.{count-is}
 use Rattle.files.proofs.Right.{IsRight, right, count-in}
 
--- ---- rows 7 to 11
-pass-bound : {n : ℕ} (b : Bool) (k : ℕ) (v : Verdict) → k ≤ 11 → (v ≡ Row n → n ≤ 11) → pass b k v ≡ Row n → n ≤ 11
-pass-bound true k v h g e = g e
-pass-bound {n} false k v h g e = let f : k ≡ n = cc in omega arith
-
-not-fit : {n : ℕ} → Fit ≡ Row n → n ≤ 11
-not-fit e = let z : _≡_ {A = ℕ} 0 1 = cc in absurd (omega arith)
-
-verdict-bound : (L : ℕ) (t : Trapezoid) {n : ℕ} → verdict L t ≡ Row n → n ≤ 11
-unfolding verdict shapeVerdict
-verdict-bound L t e =
-    pass-bound (all (lineOnGrid L) (linesOf t)) 7 _ (omega arith)
-    (pass-bound (all isLine (linesOf t)) 8 _ (omega arith)
-    (pass-bound (baseCrosses (t .left) && baseCrosses (t .right)) 9 _ (omega arith)
-    (pass-bound (leftOf (t .left) (t .right)) 10 _ (omega arith)
-    (pass-bound (belowBetween (position (t .left)) (position (t .right)) (t .bottom) (t .top)) 11 Fit (omega arith) not-fit))))
-    e
-
-pub trapezoids-bound : (L i : ℕ) (ts : List Trapezoid) {number place : ℕ} → firstRefusal L i ts ≡ Refused number place → (number ≤ 11) × (place < i + length ts)
-unfolding firstRefusal
-trapezoids-bound L i [] e = let z : _≡_ {A = ℕ} 0 1 = cc in absurd (omega arith)
-trapezoids-bound L i (t ∷ ts) {number} {place} e = go (λ r. trapezoids-bound L (i + 1) ts r) (verdict L t) refl e
-  where
-    go : (firstRefusal L (i + 1) ts ≡ Refused number place → (number ≤ 11) × (place < i + 1 + length ts)) → (v : Verdict) → verdict L t ≡ v → refuse v i (firstRefusal L (i + 1) ts) ≡ Refused number place → (number ≤ 11) × (place < i + length (t ∷ ts))
-    go rest Fit p e = let h = rest e in (h .0, omega (arith, h .1))
-    go rest (Row n) p e =
-        let f : n ≡ number = cc in
-        let g : i ≡ place = cc in
-        (omega (arith, verdict-bound L t p), omega arith)
-
 -- ---- rows 5 and 6
 module _ (f : Format) (ws : List ℤ) where
-  end-bound : (t : Bool) (i before : ℕ) {number place : ℕ} → atEnd t i before ≡ Wrong number place → (number ≤ 11) × (place ≡ i)
+  end-bound : (t : Bool) (i before : ℕ) {number place : ℕ} → atEnd t i before ≡ Wrong number place → (number < 256) × (place ≡ i)
   end-bound true i before e = let z : _≡_ {A = ℕ} 0 1 = cc in absurd (omega arith)
   end-bound false i before {number} e = let f : 6 ≡ number = cc in (omega arith, cc)
 
-  pairs-bound : (m i before : ℕ) {number place : ℕ} → pairsFrom f ws m i before ≡ Wrong number place → (number ≤ 11) × (place ≤ i + m)
+  pairs-bound : (m i before : ℕ) {number place : ℕ} → pairsFrom f ws m i before ≡ Wrong number place → (number < 256) × (place ≤ i + m)
   unfolding pairsFrom endOf
   pairs-bound zero i before e = let h = end-bound (eqb (2 * i + 1 + f .unit * before) (length ws)) i before e in (h .0, omega (arith, h .1))
   pairs-bound (suc m) i before {number} {place} e = go (λ s r. pairs-bound m (i + 1) (before + s) r) (pairLength f before (wordAt ws (2 * i + 1)) (wordAt ws (2 * i + 2))) e
     where
-      go : ((s : ℕ) → pairsFrom f ws m (i + 1) (before + s) ≡ Wrong number place → (number ≤ 11) × (place ≤ i + 1 + m)) → (k : Number) → afterPair k i (λ (s : ℕ). pairsFrom f ws m (i + 1) (before + s)) ≡ Wrong number place → (number ≤ 11) × (place ≤ i + suc m)
+      go : ((s : ℕ) → pairsFrom f ws m (i + 1) (before + s) ≡ Wrong number place → (number < 256) × (place ≤ i + 1 + m)) → (k : Number) → afterPair k i (λ (s : ℕ). pairsFrom f ws m (i + 1) (before + s)) ≡ Wrong number place → (number < 256) × (place ≤ i + suc m)
       go rest (Of s) e = let h = rest s e in (h .0, omega (arith, h .1))
       go rest Outside e =
           let f : 6 ≡ number = cc in
           let g : i ≡ place = cc in
           (omega arith, omega arith)
 
-  pub directory-bound : {number place : ℕ} → directoryOf f ws ≡ Wrong number place → (number ≤ 11) × (place ≤ f .count)
+  pub directory-bound : {number place : ℕ} → directoryOf f ws ≡ Wrong number place → (number < 256) × (place ≤ f .count)
   unfolding directoryOf
   directory-bound {number} {place} e = go (countOf f ws) refl e
     where
-      go : (k : Number) → countOf f ws ≡ k → directoryBy f ws k ≡ Wrong number place → (number ≤ 11) × (place ≤ f .count)
+      go : (k : Number) → countOf f ws ≡ k → directoryBy f ws k ≡ Wrong number place → (number < 256) × (place ≤ f .count)
       go (Of n) p e = let h = pairs-bound n 0 0 e in (h .0, omega (arith, h .1, count-is f ws p .0 .high))
       go Outside p e =
           let f : 5 ≡ number = cc in
@@ -120,18 +85,3 @@ module _ (f : Format) (C : Codec ℤ Trapezoid) (ws : List ℤ) where
   module _ (w : C .width ≡ f .unit) (p : 0 < f .unit) where
     pub units-bound : layersChecked f C ws ≡ Passed → length (unitsOf C ws) ≤ f .total
     units-bound e = let h = passes e in let r = right f ws (h .found) in omega (arith, units-are f C ws w p r, r .units)
-
-    pub layers-bound : {number place : ℕ} → layersChecked f C ws ≡ Refused number place → (number ≤ 11) × (place ≤ f .count + f .total)
-    unfolding layersChecked
-    layers-bound {number} {place} e = go (directoryOf f ws) refl e
-      where
-        go : (d : Directory) → directoryOf f ws ≡ d → directoryRows d (firstRefusal coordinateLimit 0 (unitsOf C ws)) ≡ Refused number place → (number ≤ 11) × (place ≤ f .count + f .total)
-        go (Wrong k q) d e =
-            let s : k ≡ number = cc in
-            let t : q ≡ place = cc in
-            let h = directory-bound f ws d in
-            (omega (arith, h .0), omega (arith, h .1))
-        go (Right n total) d e =
-            let h = trapezoids-bound coordinateLimit 0 (unitsOf C ws) e in
-            let r = right f ws d in
-            (h .0, omega (arith, h .1, units-are f C ws w p r, r .units))

@@ -1,8 +1,8 @@
--- A layer file that passes, or does not.
+-- A layer file that passes.
 use mathlib.Core.Path.{_≡_, refl}
 use mathlib.Core.Bool.{Bool, true, false}
 use mathlib.Core.List.{List}
-use Prim.Native.Nat.{ℕ, _+_, _*_, _/_, _<_, _≤_}
+use Prim.Native.Nat.{ℕ, _+_, _*_, _/_, _≤_}
 use native.Mathlib.Omega.{arith}
 use lib.ListN.{length}
 use lib.IntN.{ℤ}
@@ -10,16 +10,15 @@ use Rattle.records.specs.Records.{wordsOf}
 use Rattle.records.specs.Words.{wordCodec}
 use Rattle.records.proofs.Records.{length-words}
 use Rattle.records.proofs.Words.{words-faithful}
-use Rattle.geometry.specs.declared.Checked.the-variants.{Passed, Refused}
+use Rattle.geometry.specs.declared.Checked.the-variants.{Passed}
 use Rattle.geometry.specs.Trapezoids.{trapezoidCodec}
 use Rattle.files.specs.Formats.{fileSized, fileWords, layerFile, layerWords}
 use Rattle.files.specs.Contents.{countIn, fileCodec}
 use Rattle.files.specs.Rows.{sizeRow, layersChecked, layerFileChecked, layerWordsChecked}
 use Rattle.files.proofs.Reading.{length-file}
 use Rattle.files.proofs.Right.{right, count-in}
-use Rattle.files.proofs.Bounds.{passes, layers-bound}
+use Rattle.files.proofs.Bounds.{passes}
 
--- ---- a layer file that passes, or does not
 module _ (bs : List ℕ) where
   pub file-passes : layerFileChecked bs ≡ Passed → (fileSized (length bs) ≡ true) × (layersChecked layerFile fileCodec (fileWords bs) ≡ Passed)
   unfolding layerFileChecked
@@ -28,17 +27,6 @@ module _ (bs : List ℕ) where
       go : (t : Bool) → fileSized (length bs) ≡ t → sizeRow t (layersChecked layerFile fileCodec (fileWords bs)) ≡ Passed → (fileSized (length bs) ≡ true) × (layersChecked layerFile fileCodec (fileWords bs) ≡ Passed)
       go true p e = (p, e)
       go false p e = let z : _≡_ {A = ℕ} 0 1 = cc in absurd (omega arith)
-
-  pub file-bound : {number place : ℕ} → layerFileChecked bs ≡ Refused number place → (number ≤ 12) × (place < 1024)
-  unfolding layerFileChecked
-  file-bound {number} {place} e = go (fileSized (length bs)) e
-    where
-      go : (t : Bool) → sizeRow t (layersChecked layerFile fileCodec (fileWords bs)) ≡ Refused number place → (number ≤ 12) × (place < 1024)
-      go true e = let h = layers-bound layerFile fileCodec (fileWords bs) refl (omega arith) e in (omega (arith, h .0), omega (arith, h .1))
-      go false e =
-          let f : 4 ≡ number = cc in
-          let g : 0 ≡ place = cc in
-          (omega arith, omega arith)
 
   pub file-count : layerFileChecked bs ≡ Passed → (countIn (fileWords bs) ≤ 64) × (2 * countIn (fileWords bs) + 1 ≤ length bs / 4)
   file-count e =

@@ -13,3 +13,4 @@ pub mod Words
 pub mod Form
 pub mod Answers
 pub mod Grid
+pub mod Small

@@ -7,6 +7,7 @@ use native.Mathlib.Omega.{arith}
 use lib.ListN.{length, getD, take, drop, length-drop}
 use lib.Seq.{drop-drop}
 use lib.IntN.{pos}
+use Rattle.records.specs.Limits.{fileWidth}
 use Rattle.records.specs.Records.{Codec, recordAt, recordsFrom}
 use Rattle.records.specs.Words.{wordCodec}
 use Rattle.records.proofs.Records.{length-from}
@@ -26,10 +27,10 @@ pub word-is : (bs : List ℕ) (i : ℕ) → i < length bs / 4 → wordAt (fileWo
 word-is bs i h = at-from wordCodec (length bs / 4) bs 0 i (pos 0) h ∙ ap (recordAt wordCodec bs) (zero-add i)
 
 -- ---- the trapezoids of a body, counted in bytes
-pub below-count : (bs : List ℕ) {i : ℕ} → i < length bs / 4 / 24 → i < length (fileWords bs) / 24
+pub below-count : (bs : List ℕ) {i : ℕ} → i < length bs / 4 / fileWidth → i < length (fileWords bs) / fileWidth
 below-count bs h = rw (length-file bs) h
 
-pub above-count : (bs : List ℕ) {i : ℕ} → length bs / 4 / 24 ≤ i → length (fileWords bs) / 24 ≤ i
+pub above-count : (bs : List ℕ) {i : ℕ} → length bs / 4 / fileWidth ≤ i → length (fileWords bs) / fileWidth ≤ i
 above-count bs h = rw (length-file bs) h
 
 -- ---- records past the first k

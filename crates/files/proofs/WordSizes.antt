@@ -7,6 +7,7 @@ use lib.ListN.{length, drop, length-drop}
 use lib.IntN.{ℤ, pos, negsuc, natAbs}
 use Rattle.lists.specs.Lists.{All}
 use Rattle.lists.proofs.Lists.{all-of}
+use Rattle.records.specs.Limits.{memoryWidth}
 use Rattle.records.specs.Records.{wordsOf}
 use Rattle.records.specs.Words.{Word}
 use Rattle.records.proofs.Records.{words-records}
@@ -81,7 +82,7 @@ pub words-passed : (ws : List ℤ) → layerWordsChecked ws ≡ Passed → All W
 words-passed ws e =
     let h = passes layerWords trapezoidCodec ws e in
     let r = right layerWords ws (h .found) in
-    let l : length (bodyOf ws) ≡ 24 * h .total = omega (arith, length-drop (2 * countIn ws + 1) ws, count-in r, r .end) in
+    let l : length (bodyOf ws) ≡ memoryWidth * h .total = omega (arith, length-drop (2 * countIn ws + 1) ws, count-in r, r .end) in
     let back = words-records trapezoidCodec trapezoid-faithful (bodyOf ws) (h .total) l (all-of (λ (z : ℤ). Unit {0}) (λ z. tt) (bodyOf ws)) in
     let body : All Word (bodyOf ws) = subst (All Word) back (fit-words (unitsOf trapezoidCodec ws) (layer-exact coordinateLimit 0 (unitsOf trapezoidCodec ws) .0 (h .fit))) in
     let c : countIn ws ≡ 0 + h .pairs = omega (arith, count-in r) in

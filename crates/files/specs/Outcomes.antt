@@ -8,6 +8,7 @@ use lib.ListN.{length, replicate}
 use Rattle.records.specs.Limits.{maxRecords}
 use Rattle.records.specs.Records.{wordsOf}
 use Rattle.records.specs.Words.{wordCodec}
+use Rattle.geometry.specs.Fitness.{SmallRefusal}
 use Rattle.geometry.specs.declared.Checked.{Checked}
 use Rattle.geometry.specs.declared.Checked.the-variants.{Passed, Refused}
 use Rattle.geometry.specs.Trapezoids.{trapezoidCodec}
@@ -39,7 +40,7 @@ writtenAnswer (written.Done pieces overlays) = done pieces overlays
 
 -- the sizes of the numbers in an answer
 abbrev pub Small : Answer → Type 0
-Small (refused number place) = (number ≤ 12) × (place < 1024)
+Small (refused number place) = SmallRefusal number place
 Small (done pieces overlays) = (pieces ≤ maxRecords) × (overlays < 4294967296)
 
 -- ---- an answer, and the output's words or bytes

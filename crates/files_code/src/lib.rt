@@ -12,6 +12,7 @@ ghost use mathlib.Core.List.{_++_};
 ghost use Prim.Native.Nat.{_+_, _*_, _-_, _≤_, _<_, _/_};
 ghost use lib.ListN.{length, drop, take};
 ghost use Rattle.lists.specs.Tests.{all};
+ghost use Rattle.records.specs.Limits.{fileWidth};
 ghost use Rattle.records.specs.Records.{recordAt, recordsFrom, records, wordsOf};
 ghost use Rattle.records.specs.Words.{wordCodec};
 ghost use Rattle.geometry.specs.Limit.{coordinateLimit};
@@ -39,7 +40,7 @@ fn load_file_line(file: &[u8], at: usize) -> Line
 
 // Trapezoid number i of a layer file's body.
 fn load_file_trapezoid(body: &[u8], i: usize) -> Trapezoid
-    requires { ⌜ 24 * i + 24 ≤ length (now body) / 4 ⌝ }
+    requires { ⌜ fileWidth * i + fileWidth ≤ length (now body) / 4 ⌝ }
     ensures { λ r. ⌜ r ≡ recordAt fileCodec (fileWords (now (body .entry))) i ⌝ }
 {
     let at = records::FILE_WIDTH * i;

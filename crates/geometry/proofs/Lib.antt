@@ -6,6 +6,7 @@ pub mod Meet
 pub mod Points
 pub mod Sides
 pub mod Fitness
+pub mod Refusals
 pub mod Orders
 pub mod Magnitudes
 pub mod Trapezoids

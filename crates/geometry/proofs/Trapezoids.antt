@@ -7,15 +7,16 @@ use native.Mathlib.Omega.{arith}
 use lib.IntN.{ℤ, pos}
 use lib.ListN.{length, getD, take, drop, drop-of-length-le}
 use lib.Seq.{getD-take, getD-drop, drop-cons}
+use Rattle.records.specs.Limits.{memoryWidth}
 use Rattle.records.specs.Records.{Faithful, recordAt}
 use Rattle.geometry.specs.declared.Trapezoid.{Trapezoid}
 use Rattle.geometry.specs.Trapezoids.{lineAt, trapezoidOf, trapezoidWords, trapezoidCodec}
 
 module _ (s : List ℤ) (a : ℕ) where
-  word-at : (k : ℕ) → k + 1 ≤ 24 → getD (take 24 (drop a s)) k (pos 0) ≡ getD s (a + k) (pos 0)
-  word-at k h = getD-take 24 (drop a s) k (pos 0) (omega arith) ∙ getD-drop a s k (pos 0)
+  word-at : (k : ℕ) → k + 1 ≤ memoryWidth → getD (take memoryWidth (drop a s)) k (pos 0) ≡ getD s (a + k) (pos 0)
+  word-at k h = getD-take memoryWidth (drop a s) k (pos 0) (omega arith) ∙ getD-drop a s k (pos 0)
 
-  line-at : (k : ℕ) → k + 4 ≤ 24 → lineAt (take 24 (drop a s)) k ≡ lineAt s (a + k)
+  line-at : (k : ℕ) → k + 4 ≤ memoryWidth → lineAt (take memoryWidth (drop a s)) k ≡ lineAt s (a + k)
   line-at k h =
       let w₀ = word-at k (omega arith) in
       let w₁ = word-at (k + 1) (omega arith) ∙ ap (λ (n : ℕ). getD s n (pos 0)) (sym (add-assoc a k 1)) in
@@ -23,7 +24,7 @@ module _ (s : List ℤ) (a : ℕ) where
       let w₃ = word-at (k + 3) (omega arith) ∙ ap (λ (n : ℕ). getD s n (pos 0)) (sym (add-assoc a k 3)) in
       λ j. record { x1 = w₀ j; y1 = w₁ j; x2 = w₂ j; y2 = w₃ j }
 
-  first-line : lineAt (take 24 (drop a s)) 0 ≡ lineAt s a
+  first-line : lineAt (take memoryWidth (drop a s)) 0 ≡ lineAt s a
   first-line = let e : a + 0 ≡ a = omega arith in line-at 0 (omega arith) ∙ ap (lineAt s) e
 
 -- trapezoid number i, by its lines' places
@@ -36,10 +37,10 @@ placedAt s a =
       top = lineAt s (a + 20);
     }
 
-pub trapezoid-at : (s : List ℤ) (i : ℕ) → recordAt trapezoidCodec s i ≡ placedAt s (24 * i)
+pub trapezoid-at : (s : List ℤ) (i : ℕ) → recordAt trapezoidCodec s i ≡ placedAt s (memoryWidth * i)
 unfolding recordAt trapezoidOf
 trapezoid-at s i =
-    let a = 24 * i in
+    let a = memoryWidth * i in
     let l₀ = first-line s a in
     let l₁ = line-at s a 4 (omega arith) in
     let l₂ = line-at s a 8 (omega arith) in
@@ -65,5 +66,5 @@ trapezoid-faithful =
       some = omega arith;
       encode-length = λ t. refl;
       decode-encode = λ t g. refl;
-      encode-decode = λ r h g. spell 24 0 r (omega (arith, h));
+      encode-decode = λ r h g. spell memoryWidth 0 r (omega (arith, h));
     }

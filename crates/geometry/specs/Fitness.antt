@@ -3,7 +3,7 @@ use mathlib.Core.Path.{_≡_}
 use mathlib.Core.Bool.{Bool, true, false, _&&_}
 use mathlib.Core.List.{List, [], _∷_, _++_}
 use mathlib.Core.Logic.{_↔_}
-use Prim.Native.Nat.{ℕ, _+_, _≤_}
+use Prim.Native.Nat.{ℕ, _+_, _<_, _≤_}
 use lib.Dec.{T}
 use lib.IntN.{pos, ℤ}
 use lib.ListN.{length}
@@ -119,6 +119,10 @@ refuse (Row n) i c = Refused n i
 unfoldable pub firstRefusal : ℕ → ℕ → List Trapezoid → Checked
 firstRefusal L i [] = Passed
 firstRefusal L i (t ∷ ts) = refuse (verdict L t) i (firstRefusal L (i + 1) ts)
+
+-- ---- the sizes of a refusal's number and place: an answer in C has 8 and 32 bits for them
+abbrev pub SmallRefusal : ℕ → ℕ → Type 0
+SmallRefusal number place = (number < 256) × (place < 4294967296)
 
 -- ---- the tests say what they mean (proved in proofs/Fitness.antt under the names in lower case)
 -- row 7

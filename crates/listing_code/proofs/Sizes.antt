@@ -6,6 +6,7 @@ use native.Mathlib.Omega.{arith}
 use lib.IntN.{ℤ, pos, negsuc, natAbs}
 use lib.ListN.{length, getD, length-append}
 use lib.Seq.{slice}
+use Rattle.records.specs.Limits.{maxRecords}
 use Rattle.listing.specs.Listing.{decimal, decimalWord, separator, field, numbered, piecesText, refusedText, placeText, headLine, refusalLine, fieldRoom, headRoom, refusalRoom}
 use Rattle.listing.proofs.Decimal.{length-most}
 
@@ -25,7 +26,7 @@ numbered-length : (t : List ℕ) (n : ℕ) → length (numbered t n) ≡ length 
 unfolding numbered
 numbered-length t n = length-append t (decimal n)
 
-pub head-length : (n : ℕ) → n ≤ 512 → length (headLine n) ≤ headRoom
+pub head-length : (n : ℕ) → n ≤ maxRecords → length (headLine n) ≤ headRoom
 head-length n l = omega (arith, length-append (numbered piecesText n) (10 ∷ []), numbered-length piecesText n, length-most 2 n (omega arith))
 
 pub refusal-length : (number place : ℕ) → number < 4294967296 → place < 18446744073709551616 → length (refusalLine number place) ≤ refusalRoom

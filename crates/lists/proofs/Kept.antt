@@ -1,5 +1,5 @@
 -- Laws of what is kept of a list.
-use mathlib.Core.Path.{_≡_, refl, ap₂}
+use mathlib.Core.Path.{_≡_, refl}
 use mathlib.Core.Bool.{Bool, true, false, cond}
 use mathlib.Core.List.{List, [], _∷_, _++_}
 use mathlib.Core.Logic.{inl, inr}
@@ -29,11 +29,6 @@ module _ {A : Type 0} (f : A → Bool) where
   keep-any P [] h = h
   keep-any P (x ∷ xs) (inl h) = cond-cases (Any P) (f x) (x ∷ keep f xs) (keep f xs) (λ t. inl (h .0)) (λ t. absurd (T-not (f x) t (h .1)))
   keep-any P (x ∷ xs) (inr h) = let k = keep-any P xs h in cond-cases (Any P) (f x) (x ∷ keep f xs) (keep f xs) (λ t. inr k) (λ t. k)
-
-  pub keep-same : (g : A → Bool) (xs : List A) → All (λ (x : A). f x ≡ g x) xs → keep f xs ≡ keep g xs
-  unfolding keep
-  keep-same g [] h = refl
-  keep-same g (x ∷ xs) h = ap₂ (λ (t : Bool) (ys : List A). cond t (x ∷ ys) ys) (h .0) (keep-same g xs (h .1))
 
   pub keep-cons : (x : A) (xs : List A) → keep f (x ∷ xs) ≡ keep f (x ∷ []) ++ keep f xs
   unfolding keep

@@ -5,7 +5,7 @@ use mathlib.Core.Logic.{_⊎_, inl, inr, _↔_}
 use Prim.Native.Nat.{ℕ, zero, suc, _<_}
 use native.Mathlib.Nat.{not-suc-le-zero, le-of-suc-le-suc}
 use lib.Dec.{T}
-use lib.ListN.{length, getD, take, drop, replicate}
+use lib.ListN.{length, getD, take, drop}
 use mir.Facts.{and-yes, yes-and}
 use Rattle.lists.specs.Lists.{All, Any, Pairs, SomePair}
 use Rattle.lists.specs.Tests.{all}
@@ -38,20 +38,12 @@ module _ {A : Type 0} (P : A → Type 0) where
   all-drop (suc n) [] h = tt
   all-drop (suc n) (x ∷ xs) h = all-drop n xs (h .1)
 
-  pub all-replicate : (n : ℕ) (x : A) → P x → All P (replicate n x)
-  all-replicate zero x h = tt
-  all-replicate (suc n) x h = (h, all-replicate n x h)
-
   pub all-at : (xs : List A) (i : ℕ) (d : A) → All P xs → i < length xs → P (getD xs i d)
   all-at [] i d h l = absurd (not-suc-le-zero l)
   all-at (x ∷ xs) zero d h l = h .0
   all-at (x ∷ xs) (suc i) d h l = all-at xs i d (h .1) (le-of-suc-le-suc l)
 
   -- from the elements at the indices, as a slice's rule gives them
-  pub all-from : (xs : List A) (d : A) → ((i : ℕ) → P (getD xs i d)) → All P xs
-  all-from [] d f = tt
-  all-from (x ∷ xs) d f = (f 0, all-from xs d (λ i. f (suc i)))
-
   pub any-left : (xs ys : List A) → Any P xs → Any P (xs ++ ys)
   any-left [] ys h = absurd h
   any-left (x ∷ xs) ys (inl h) = inl h

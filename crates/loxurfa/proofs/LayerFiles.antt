@@ -1,41 +1,45 @@
 -- What the reader and the writer of layers answer and leave, case by case.
-use mathlib.Core.Path.{_≡_, refl, sym, ap, _∙_}
+use mathlib.Core.Path.{_≡_, refl, sym, ap, _∙_, subst}
 use mathlib.Core.List.{List, _++_}
 use Prim.Native.Nat.{ℕ, _*_, _-_, _/_, _<_, _≤_}
 use native.Mathlib.Omega.{arith}
 use lib.ListN.{length, drop, replicate, length-replicate}
 use lib.IntN.{ℤ, pos}
 use Rattle.lists.proofs.Parts.{drop-replicate}
+use Rattle.records.specs.Limits.{maxRecords}
 use Rattle.records.specs.Records.{wordsOf}
 use Rattle.records.specs.Words.{wordCodec}
 use Rattle.geometry.specs.declared.Checked.the-variants.{Passed, Refused}
 use Rattle.geometry.specs.Trapezoids.{trapezoidCodec}
+use Rattle.geometry.specs.Fitness.{SmallRefusal}
+use Rattle.geometry.proofs.Refusals.{SmallChecked}
 use Rattle.files.specs.Formats.{fileWords, layerFile, layerWords}
 use Rattle.files.specs.Contents.{unitsOf, fileCodec}
 use Rattle.files.specs.Rows.{layerFileChecked, layerWordsChecked}
 use Rattle.files.specs.Outcomes.{refused, done, observed, readLayers, writeLayers}
 use Rattle.files.proofs.Reading.{length-file}
-use Rattle.files.proofs.Bounds.{units-bound, layers-bound}
+use Rattle.files.proofs.Bounds.{units-bound}
+use Rattle.files.proofs.Small.{layer-file-small, layer-words-small}
 use Rattle.files.proofs.Answers.{refused-is, short-is, done-is}
-use Rattle.files.proofs.Calls.{file-bound, file-passes, length-bytes}
+use Rattle.files.proofs.Calls.{file-passes, length-bytes}
 
 -- ---- the reader
 module _ (bs : List ℕ) (out : List ℤ) where
-  pub read-refused : {number place : ℕ} → layerFileChecked bs ≡ Refused number place → (observed (refused number place) out ≡ readLayers bs out) × ((number ≤ 12) × (place < 1024))
+  pub read-refused : {number place : ℕ} → layerFileChecked bs ≡ Refused number place → (observed (refused number place) out ≡ readLayers bs out) × SmallRefusal number place
   unfolding readLayers
-  read-refused e = (refused-is (pos 0) (length (unitsOf fileCodec (fileWords bs))) (fileWords bs) out e, file-bound bs e)
+  read-refused e = (refused-is (pos 0) (length (unitsOf fileCodec (fileWords bs))) (fileWords bs) out e, subst SmallChecked e (layer-file-small bs))
 
   module _ (e : layerFileChecked bs ≡ Passed) {blank : List ℤ} (z : blank ≡ replicate (length out) (pos 0)) where
     long : length blank ≡ length out
     long = ap length z ∙ length-replicate (length out) (pos 0)
 
-    pub read-short : length blank < length bs / 4 → (observed (refused 12 0) blank ≡ readLayers bs out) × ((12 ≤ 12) × (0 < 1024))
+    pub read-short : length blank < length bs / 4 → (observed (refused 12 0) blank ≡ readLayers bs out) × SmallRefusal 12 0
     unfolding readLayers
     read-short h =
         (ap (observed (refused 12 0)) z ∙ short-is (pos 0) (length (unitsOf fileCodec (fileWords bs))) (fileWords bs) out e (omega (arith, h, long, length-file bs)), (omega arith, omega arith))
 
     pub read-done : length bs / 4 ≤ length blank → {d : List ℤ} → d ≡ fileWords bs ++ drop (length bs / 4) blank → {k : ℕ} → k ≡ length (unitsOf fileCodec (fileWords bs))
-        → (observed (done k 0) d ≡ readLayers bs out) × ((k ≤ 512) × (0 < 4294967296))
+        → (observed (done k 0) d ≡ readLayers bs out) × ((k ≤ maxRecords) × (0 < 4294967296))
     unfolding readLayers
     read-done h {d} p {k} q =
         let l : length bs / 4 ≡ length (fileWords bs) = sym (length-file bs) in
@@ -46,23 +50,21 @@ module _ (bs : List ℕ) (out : List ℤ) where
         )
 
 module _ (ws : List ℤ) (out : List ℕ) where
-  pub write-refused : {number place : ℕ} → layerWordsChecked ws ≡ Refused number place → (observed (refused number place) out ≡ writeLayers ws out) × ((number ≤ 12) × (place < 1024))
+  pub write-refused : {number place : ℕ} → layerWordsChecked ws ≡ Refused number place → (observed (refused number place) out ≡ writeLayers ws out) × SmallRefusal number place
   unfolding writeLayers
-  write-refused e =
-      let h = layers-bound layerWords trapezoidCodec ws refl (omega arith) e in
-      (refused-is 0 (length (unitsOf trapezoidCodec ws)) (wordsOf wordCodec ws) out e, (omega (arith, h .0), omega (arith, h .1)))
+  write-refused e = (refused-is 0 (length (unitsOf trapezoidCodec ws)) (wordsOf wordCodec ws) out e, subst SmallChecked e (layer-words-small ws))
 
   module _ (e : layerWordsChecked ws ≡ Passed) {blank : List ℕ} (z : blank ≡ replicate (length out) 0) where
     blank-long : length blank ≡ length out
     blank-long = ap length z ∙ length-replicate (length out) 0
 
-    pub write-short : length blank / 4 < length ws → (observed (refused 12 0) blank ≡ writeLayers ws out) × ((12 ≤ 12) × (0 < 1024))
+    pub write-short : length blank / 4 < length ws → (observed (refused 12 0) blank ≡ writeLayers ws out) × SmallRefusal 12 0
     unfolding writeLayers
     write-short h =
         (ap (observed (refused 12 0)) z ∙ short-is 0 (length (unitsOf trapezoidCodec ws)) (wordsOf wordCodec ws) out e (omega (arith, h, blank-long, length-bytes ws)), (omega arith, omega arith))
 
     pub write-done : length ws ≤ length blank / 4 → {d : List ℕ} → d ≡ wordsOf wordCodec ws ++ drop (4 * length ws) blank → {k : ℕ} → k ≡ length (unitsOf trapezoidCodec ws)
-        → (observed (done k 0) d ≡ writeLayers ws out) × ((k ≤ 512) × (0 < 4294967296))
+        → (observed (done k 0) d ≡ writeLayers ws out) × ((k ≤ maxRecords) × (0 < 4294967296))
     unfolding writeLayers
     write-done h {d} p {k} q =
         let l : 4 * length ws ≡ length (wordsOf wordCodec ws) = sym (length-bytes ws) in

@@ -2,7 +2,7 @@
 use mathlib.Core.Path.{_≡_, _∙_, ap, subst}
 use mathlib.Core.Bool.{true, false}
 use mathlib.Core.List.{List, [], _∷_}
-use Prim.Native.Nat.{ℕ, _/_, _<_, _≤_}
+use Prim.Native.Nat.{ℕ, _/_, _≤_}
 use native.Mathlib.Omega.{arith}
 use lib.ListN.{length, length-replicate}
 use lib.IntN.{ℤ, pos}
@@ -14,6 +14,8 @@ use Rattle.geometry.specs.declared.Checked.{Checked}
 use Rattle.geometry.specs.declared.Checked.the-variants.{Passed, Refused}
 use Rattle.geometry.specs.Points.{Point}
 use Rattle.geometry.specs.Trapezoids.{layerOf, liesInLayer}
+use Rattle.geometry.specs.Fitness.{SmallRefusal}
+use Rattle.geometry.proofs.Refusals.{SmallChecked}
 use Rattle.boolean.specs.declared.Folded.{Folded}
 use Rattle.boolean.specs.declared.Folded.the-variants.{Short, Done}
 use Rattle.boolean.specs.Operations.{codeAt, result, difference, deoverlapped, Side}
@@ -23,12 +25,11 @@ use Rattle.boolean.specs.declared.Compared.the-variants as comparison
 use Rattle.calls.specs.Answers.{refused, done, refused-equality, same, differs, refused-point, yes, no, Small, SmallEquality}
 use Rattle.calls.specs.Rows.{combineChecked, deoverlapChecked, equalChecked, containsChecked}
 use Rattle.calls.specs.Outcomes.{observed, zeros, roomOf, written, combined, deoverlapOutcome, compared, comparedIn, equalOutcome, containsAnswer}
-use Rattle.calls.proofs.Checks.{SmallChecked}
 use Rattle.trapezoids_code.specs.Tails.{Borrowed}
 use Rattle.remainder_code.specs.Code.{maxOverlays, OverlaysWithin, FoldedAs}
 use Rattle.boolean_code.specs.Code.{ComparedAs, ComparedWithin}
 
-pub small-refused : {c : Checked} {n p : ℕ} → c ≡ Refused n p → SmallChecked c → (n ≤ 12) × (p < 1024)
+pub small-refused : {c : Checked} {n p : ℕ} → c ≡ Refused n p → SmallChecked c → SmallRefusal n p
 small-refused e h = subst SmallChecked e h
 
 -- ---- a cleared output and scratch area

@@ -9,6 +9,8 @@ use files::LayersRead;
 use files::LayersWritten;
 ghost use mathlib.Core.Path.{_≡_};
 ghost use Prim.Native.Nat.{_<_, _≤_};
+ghost use Rattle.records.specs.Limits.{maxRecords};
+ghost use Rattle.geometry.specs.Fitness.{SmallRefusal};
 ghost use Rattle.files.specs.Outcomes.{readLayers, writeLayers};
 ghost use Rattle.calls.specs.Components.{componentsOutcome};
 ghost use Rattle.calls.specs.Rows.{pointAt};
@@ -16,14 +18,14 @@ ghost use Rattle.calls.specs.Outcomes.{fractureOutcome, combined, deoverlapOutc
 ghost use Rattle.calls.specs.Packed.{refusal as refusalOf, success as successOf, packed, packedEquality, packedPoint, packedFile, packedCount};
 
 fn refusal(number: u32, place: usize) -> u64
-    requires { ⌜ (number ≤ 12) × (place < 1024) ⌝ }
+    requires { ⌜ SmallRefusal number place ⌝ }
     ensures { λ r. ⌜ r ≡ refusalOf number place ⌝ }
 {
     9223372036854775808 + 4294967296 * (number as u64) + (place as u64)
 }
 
 fn success(high: usize, overlays: usize) -> u64
-    requires { ⌜ (high ≤ 512) × (overlays < 4294967296) ⌝ }
+    requires { ⌜ (high ≤ maxRecords) × (overlays < 4294967296) ⌝ }
     ensures { λ r. ⌜ r ≡ successOf high overlays ⌝ }
 {
     4294967296 * (high as u64) + (overlays as u64)

@@ -15,6 +15,7 @@ ghost use Prim.Native.Nat.{_<_, _+_, _*_, _≤_};
 ghost use lib.ListN.{length, drop};
 ghost use lib.Seq.{sets};
 ghost use Rattle.lists.specs.Lists.{All};
+ghost use Rattle.records.specs.Limits.{memoryWidth};
 ghost use Rattle.records.specs.Records.{recordAt, count};
 ghost use Rattle.geometry.specs.Limit.{coordinateLimit, OnGrid};
 ghost use Rattle.geometry.specs.Fitness.{FitFor};
@@ -47,7 +48,7 @@ pub fn load_line(s: &[i32], at: usize) -> Line
 
 // Trapezoid number i of a layer's words.
 pub fn load(s: &[i32], i: usize) -> Trapezoid
-    requires { ⌜ 24 * i + 24 ≤ length (now s) ⌝ }
+    requires { ⌜ memoryWidth * i + memoryWidth ≤ length (now s) ⌝ }
     ensures { λ r. ⌜ r ≡ recordAt trapezoidCodec (now (s .entry)) i ⌝ }
 {
     let at = records::MEMORY_WIDTH * i;
@@ -87,8 +88,8 @@ pub fn store_line(s: &mut [i32], at: usize, l: Line)
 
 // To the first record of a part of a buffer.
 pub fn store(s: &mut [i32], t: Trapezoid)
-    requires { ⌜ 24 ≤ length (now s) ⌝ }
-    ensures { λ _. ⌜ now (s .exit) ≡ trapezoidWords t ++ drop 24 (now (s .entry)) ⌝ }
+    requires { ⌜ memoryWidth ≤ length (now s) ⌝ }
+    ensures { λ _. ⌜ now (s .exit) ≡ trapezoidWords t ++ drop memoryWidth (now (s .entry)) ⌝ }
 {
     let left = t.left;
     let right = t.right;

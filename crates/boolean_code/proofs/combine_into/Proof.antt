@@ -19,12 +19,6 @@ union-into-requires c κs =
     let B = layerOf (a .second .now) in
     ((s .pre .0 .1, s .pre .0 .2, s .pre .1 .0 .0, s .pre .1 .0 .1), s .pre .1 .1)
 
-same-length : tie.Need-same-length
-same-length c = search needs
-
-same-length-2 : tie.Need-same-length-2
-same-length-2 c = search needs
-
 returns : tie.Need-returns
 returns c =
     let s = c .before .before .before .before .before .before in
@@ -42,9 +36,6 @@ intersection-into-requires c κs =
     let B = layerOf (a .second .now) in
     (s .pre .0 .1, s .pre .0 .2, s .pre .1 .0 .0)
 
-same-length-3 : tie.Need-same-length-3
-same-length-3 c = search needs
-
 returns-2 : tie.Need-returns-2
 returns-2 c =
     let s = c .before .before .before .before .before in
@@ -61,12 +52,6 @@ difference-into-requires c κs =
     let A = layerOf (a .first .now) in
     let B = layerOf (a .second .now) in
     ((s .pre .0 .1, s .pre .0 .2, holding-none (a .out .now) (a .room) (s .pre .1 .0 .0), s .pre .1 .0 .1), s .pre .1 .1)
-
-same-length-4 : tie.Need-same-length-4
-same-length-4 c = search needs
-
-same-length-5 : tie.Need-same-length-5
-same-length-5 c = search needs
 
 returns-3 : tie.Need-returns-3
 returns-3 c =
@@ -86,12 +71,6 @@ difference-into-requires-2 c κs =
     let B = layerOf (a .second .now) in
     ((s .pre .0 .2, s .pre .0 .1, holding-none (a .out .now) (a .room) (s .pre .1 .0 .0), s .pre .1 .0 .1), s .pre .1 .1)
 
-same-length-6 : tie.Need-same-length-6
-same-length-6 c = search needs
-
-same-length-7 : tie.Need-same-length-7
-same-length-7 c = search needs
-
 returns-4 : tie.Need-returns-4
 returns-4 c =
     let s = c .before .before .before .before .before .before .before .before .before in
@@ -110,12 +89,6 @@ either-into-requires c κs =
     let B = layerOf (a .second .now) in
     ((s .pre .0 .1, s .pre .0 .2, s .pre .1 .0 .0, s .pre .1 .0 .1), s .pre .1 .1)
 
-same-length-8 : tie.Need-same-length-8
-same-length-8 c = search needs
-
-same-length-9 : tie.Need-same-length-9
-same-length-9 c = search needs
-
 returns-5 : tie.Need-returns-5
 returns-5 c =
     let s = c .before .before .before .before .before .before .before .before .before in
@@ -131,21 +104,21 @@ combine-into-spec =
     tie.close
     (tie.spec
     union-into-requires
-    same-length
-    same-length-2
+    (λ c. search needs)
+    (λ c. search needs)
     returns
     intersection-into-requires
-    same-length-3
+    (λ c. search needs)
     returns-2
     difference-into-requires
-    same-length-4
-    same-length-5
+    (λ c. search needs)
+    (λ c. search needs)
     returns-3
     difference-into-requires-2
-    same-length-6
-    same-length-7
+    (λ c. search needs)
+    (λ c. search needs)
     returns-4
     either-into-requires
-    same-length-8
-    same-length-9
+    (λ c. search needs)
+    (λ c. search needs)
     returns-5)

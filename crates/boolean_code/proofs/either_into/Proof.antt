@@ -20,18 +20,6 @@ difference-into-requires c κs =
     let a = s .args in
     ((s .pre .0 .0, s .pre .0 .1, holding-none (a .out .now) (a .room) (s .pre .0 .2), s .pre .0 .3), s .pre .1)
 
-enum-known-f : tie.Need-enum-known-f
-enum-known-f c = search needs
-
-enum-told : tie.Need-enum-told
-enum-told c = search needs
-
-same-length : tie.Need-same-length
-same-length c = search needs
-
-same-length-2 : tie.Need-same-length-2
-same-length-2 c = search needs
-
 returns : tie.Need-returns
 returns c =
     let s = c .before .before .before .before .before .before .before in
@@ -67,12 +55,6 @@ more-overlays-requires c κs =
     let u = within-done overlaysOfLayer _ _ (d .result) (c .before .before .before .before .before .before .f .given .1) (d .ensures .1 .0) in
     (omega (arith, u), within-least overlaysOfLayer maxOverlays (q .result) (omega arith) (q .ensures .1 .0))
 
-same-length-3 : tie.Need-same-length-3
-same-length-3 c = search needs
-
-same-length-4 : tie.Need-same-length-4
-same-length-4 c = search needs
-
 returns-2 : tie.Need-returns-2
 returns-2 c =
     let s = c .before .before .before .before .before .before .before .before .before .before .before .before .before .before in
@@ -96,13 +78,13 @@ either-into-spec =
     tie.close
     (tie.spec
     difference-into-requires
-    enum-known-f
-    enum-told
-    same-length
-    same-length-2
+    (λ c. search needs)
+    (λ c. search needs)
+    (λ c. search needs)
+    (λ c. search needs)
     returns
     difference-into-requires-2
     more-overlays-requires
-    same-length-3
-    same-length-4
+    (λ c. search needs)
+    (λ c. search needs)
     returns-2)

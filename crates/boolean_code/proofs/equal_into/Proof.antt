@@ -21,15 +21,6 @@ difference-into-requires c κs =
     let a = s .args in
     ((s .pre .0 .0, s .pre .0 .1, holding-none (a .out .now) (a .room) (s .pre .1 .0 .0), s .pre .1 .0 .1), s .pre .1 .1)
 
-enum-known-f : tie.Need-enum-known-f
-enum-known-f c = search needs
-
-enum-known-f-2 : tie.Need-enum-known-f-2
-enum-known-f-2 c = search needs
-
-clear-requires : tie.Need-clear-requires
-clear-requires c κs = search needs
-
 second-side-requires : tie.Need-second-side-requires
 second-side-requires c κs =
     let s = c .before .before .before .before .before .before .before .before .before .before .before .before .before .before in
@@ -50,21 +41,6 @@ second-side-requires c κs =
       ((d .ensures .1 .1, d .kept .1 .1 .1 .1 .0 ∙ s .pre .1 .1 .1 ∙ sym l), (none-left (difference A B) (sym (k .1 .0) ∙ c .before .before .if1 .taken), k .0, u)),
     )
 
-same-length : tie.Need-same-length
-same-length c = search needs
-
-same-length-2 : tie.Need-same-length-2
-same-length-2 c = search needs
-
-returns : tie.Need-returns
-returns c = search needs
-
-same-length-3 : tie.Need-same-length-3
-same-length-3 c = search needs
-
-same-length-4 : tie.Need-same-length-4
-same-length-4 c = search needs
-
 returns-2 : tie.Need-returns-2
 returns-2 c =
     let s = c .before .before .before .before .before .before .before .before in
@@ -79,12 +55,6 @@ returns-2 c =
     let u = within-short overlaysOfLayer _ (d .result) e (d .ensures .1 .0) in
     let k = folded-known n (a .room) (difference A B) (differenceMarks 0 A B) (d .result) (Short _) t e g in
     (compared-short (a .room) A B n t _ k, (omega (arith, u), (blank-of (pos 0) t n (k .1), d .ensures .1 .1)))
-
-same-length-5 : tie.Need-same-length-5
-same-length-5 c = search needs
-
-same-length-6 : tie.Need-same-length-6
-same-length-6 c = search needs
 
 returns-3 : tie.Need-returns-3
 returns-3 c =
@@ -107,16 +77,16 @@ equal-into-spec =
     tie.close
     (tie.spec
     difference-into-requires
-    enum-known-f
-    enum-known-f-2
-    clear-requires
+    (λ c. search needs)
+    (λ c. search needs)
+    (λ c κs. search needs)
     second-side-requires
-    same-length
-    same-length-2
-    returns
-    same-length-3
-    same-length-4
+    (λ c. search needs)
+    (λ c. search needs)
+    (λ c. search needs)
+    (λ c. search needs)
+    (λ c. search needs)
     returns-2
-    same-length-5
-    same-length-6
+    (λ c. search needs)
+    (λ c. search needs)
     returns-3)

@@ -36,12 +36,6 @@ returns c =
     let k = c .before .before in
     contain-found (k .before .before .loop .inv) (k .before .loop-test .taken) (ap (liesIn _) (sym (k .load .ensures)) ∙ sym (c .before .contains .ensures) ∙ c .if1 .taken)
 
-add-i : tie.Need-add-i Inv-loop μ-loop
-add-i c = search needs
-
-loop-less : tie.Need-loop-less Inv-loop μ-loop
-loop-less c = search needs
-
 loop-again : tie.Need-loop-again Inv-loop μ-loop
 loop-again c =
     let k = c .before .before in
@@ -60,7 +54,7 @@ lies-in-spec =
     load-requires
     contains-requires
     returns
-    add-i
-    loop-less
+    (λ c. search needs)
+    (λ c. search needs)
     loop-again
     returns-2)

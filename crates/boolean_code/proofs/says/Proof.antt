@@ -4,38 +4,17 @@ use borrow.Author.Needs.{needs}
 use Rattle.boolean_code.proofs.says.Statement.{statement}
 use Rattle.boolean_code.proofs.says.Tie as tie
 
-either-requires : tie.Need-either-requires
-either-requires c κs = search needs
-
 returns : tie.Need-returns
 returns c = rw (c .before .if1 .taken) (c .either .ensures)
-
-both-requires : tie.Need-both-requires
-both-requires c κs = search needs
 
 returns-2 : tie.Need-returns-2
 returns-2 c = rw (c .before .if2 .taken) (c .both .ensures)
 
-but-not-requires : tie.Need-but-not-requires
-but-not-requires c κs = search needs
-
 returns-3 : tie.Need-returns-3
 returns-3 c = rw (c .before .if3 .taken) (c .but-not .ensures)
 
-but-not-requires-2 : tie.Need-but-not-requires-2
-but-not-requires-2 c κs = search needs
-
 returns-4 : tie.Need-returns-4
 returns-4 c = rw (c .before .if4 .taken) (c .but-not2 .ensures)
-
-but-not-requires-3 : tie.Need-but-not-requires-3
-but-not-requires-3 c κs = search needs
-
-but-not-requires-4 : tie.Need-but-not-requires-4
-but-not-requires-4 c κs = search needs
-
-either-requires-2 : tie.Need-either-requires-2
-either-requires-2 c κs = search needs
 
 returns-5 : tie.Need-returns-5
 returns-5 c =
@@ -48,15 +27,15 @@ pub says-spec : {M : Type 1} → statement M
 says-spec =
     tie.close
     (tie.spec
-    either-requires
+    (λ c κs. search needs)
     returns
-    both-requires
+    (λ c κs. search needs)
     returns-2
-    but-not-requires
+    (λ c κs. search needs)
     returns-3
-    but-not-requires-2
+    (λ c κs. search needs)
     returns-4
-    but-not-requires-3
-    but-not-requires-4
-    either-requires-2
+    (λ c κs. search needs)
+    (λ c κs. search needs)
+    (λ c κs. search needs)
     returns-5)

@@ -20,9 +20,6 @@ difference-into-requires c κs =
     let a = s .args in
     ((s .pre .0 .1, s .pre .0 .0, holding-none (a .out .now) (a .room) (s .pre .0 .2), s .pre .0 .3), s .pre .1 .0)
 
-enum-known-f : tie.Need-enum-known-f
-enum-known-f c = search needs
-
 add-t16 : tie.Need-add-t16
 add-t16 c =
     let s = c .before .before .before .before .before .before .before .before in
@@ -37,12 +34,6 @@ add-t16 c =
     let u = within-short overlaysOfLayer _ (d .result) e (d .ensures .1 .0) in
     omega (arith, u, s .pre .1 .1 .2)
 
-enum-known-f-2 : tie.Need-enum-known-f-2
-enum-known-f-2 c = search needs
-
-clear-requires : tie.Need-clear-requires
-clear-requires c κs = search needs
-
 add-t21 : tie.Need-add-t21
 add-t21 c =
     let s = c .before .before .before .before .before .before .before .before .before .before .before .before in
@@ -56,12 +47,6 @@ add-t21 c =
     let e = c .before .before .before .before .before .f2 .given .1 in
     let u = within-done overlaysOfLayer _ _ (d .result) e (d .ensures .1 .0) in
     omega (arith, u, s .pre .1 .1 .2)
-
-same-length : tie.Need-same-length
-same-length c = search needs
-
-same-length-2 : tie.Need-same-length-2
-same-length-2 c = search needs
 
 returns : tie.Need-returns
 returns c =
@@ -93,12 +78,6 @@ add-t22 c =
     let u = within-done overlaysOfLayer _ _ (d .result) e (d .ensures .1 .0) in
     omega (arith, u, s .pre .1 .1 .2)
 
-same-length-3 : tie.Need-same-length-3
-same-length-3 c = search needs
-
-same-length-4 : tie.Need-same-length-4
-same-length-4 c = search needs
-
 returns-2 : tie.Need-returns-2
 returns-2 c =
     let s = c .before .before .before .before .before .before .before .before in
@@ -113,12 +92,6 @@ returns-2 c =
     let u = within-short overlaysOfLayer _ (d .result) e (d .ensures .1 .0) in
     let k = folded-known n (a .room) (difference B A) (differenceMarks 0 B A) (d .result) (Short _) t e g in
     (both-short (a .room) A B n t (s .pre .1 .1 .0) (a .made) (s .pre .1 .1 .1) _ k, (omega (arith, u, s .pre .1 .1 .2), (blank-of (pos 0) t n (k .1), d .ensures .1 .1)))
-
-same-length-5 : tie.Need-same-length-5
-same-length-5 c = search needs
-
-same-length-6 : tie.Need-same-length-6
-same-length-6 c = search needs
 
 returns-3 : tie.Need-returns-3
 returns-3 c =
@@ -141,18 +114,18 @@ second-side-spec =
     tie.close
     (tie.spec
     difference-into-requires
-    enum-known-f
+    (λ c. search needs)
     add-t16
-    enum-known-f-2
-    clear-requires
+    (λ c. search needs)
+    (λ c κs. search needs)
     add-t21
-    same-length
-    same-length-2
+    (λ c. search needs)
+    (λ c. search needs)
     returns
     add-t22
-    same-length-3
-    same-length-4
+    (λ c. search needs)
+    (λ c. search needs)
     returns-2
-    same-length-5
-    same-length-6
+    (λ c. search needs)
+    (λ c. search needs)
     returns-3)

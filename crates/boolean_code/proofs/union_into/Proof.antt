@@ -23,9 +23,6 @@ returns c =
     let B = layerOf (a .second .now) in
     (copied-short (a .first .now) (a .out .now) (a .room) (s .pre .0 .2) (A ++ difference B A) (λ (k : ℕ). differenceMarks k B A) (c .if1 .taken), (omega arith, s .pre .1 .0))
 
-mul-end : tie.Need-mul-end
-mul-end c = search needs
-
 slice-aggregate-copy : tie.Need-slice-aggregate-copy
 slice-aggregate-copy c =
     let s = c .before .before in
@@ -62,12 +59,6 @@ difference-into-requires c κs =
       (s .pre .1 .0, s .pre .1 .1 ∙ sym (copied-long (a .first .now) (a .out .now) (a .room) (s .pre .0 .2) l t w)),
     )
 
-same-length : tie.Need-same-length
-same-length c = search needs
-
-same-length-2 : tie.Need-same-length-2
-same-length-2 c = search needs
-
 returns-2 : tie.Need-returns-2
 returns-2 c =
     let s = c .before .before .before .before .before .before .before .before .before .before in
@@ -87,12 +78,12 @@ union-into-spec =
     tie.close
     (tie.spec
     returns
-    mul-end
+    (λ c. search needs)
     slice-aggregate-copy
     slice-relend-prefix-copy
     slice-aggregate-copy-2
     copy-requires
     difference-into-requires
-    same-length
-    same-length-2
+    (λ c. search needs)
+    (λ c. search needs)
     returns-2)

@@ -18,32 +18,14 @@ loop-holds c = refl
 same-length : tie.Need-same-length Inv-loop μ-loop
 same-length c = c .before .before .loop .inv
 
-returns : tie.Need-returns Inv-loop μ-loop
-returns c = search needs
-
-mul-w : tie.Need-mul-w Inv-loop μ-loop
-mul-w c = search needs
-
-shared-slice-copy-out-w : tie.Need-shared-slice-copy-out-w Inv-loop μ-loop
-shared-slice-copy-out-w c = search needs
-
 store-word-requires : tie.Need-store-word-requires Inv-loop μ-loop
 store-word-requires c κs = omega (arith, c .before .before .if1 .left)
-
-add-i : tie.Need-add-i Inv-loop μ-loop
-add-i c = search needs
-
-loop-less : tie.Need-loop-less Inv-loop μ-loop
-loop-less c = search needs
 
 loop-again : tie.Need-loop-again Inv-loop μ-loop
 loop-again c = c .before .before .store-word .kept .0 ∙ c .before .before .before .before .before .before .before .loop .inv
 
 same-length-2 : tie.Need-same-length-2 Inv-loop μ-loop
 same-length-2 c = c .before .loop .inv
-
-returns-2 : tie.Need-returns-2 Inv-loop μ-loop
-returns-2 c = search needs
 
 pub bytes-of-spec : {M : Type 1} → statement M
 bytes-of-spec =
@@ -53,12 +35,12 @@ bytes-of-spec =
     μ-loop
     loop-holds
     same-length
-    returns
-    mul-w
-    shared-slice-copy-out-w
+    (λ c. search needs)
+    (λ c. search needs)
+    (λ c. search needs)
     store-word-requires
-    add-i
-    loop-less
+    (λ c. search needs)
+    (λ c. search needs)
     loop-again
     same-length-2
-    returns-2)
+    (λ c. search needs))

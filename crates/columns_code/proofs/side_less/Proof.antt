@@ -6,26 +6,11 @@ use Rattle.columns_code.proofs.SideOrder.{side-grid, less-both, less-fi
 use Rattle.columns_code.proofs.side_less.Statement.{statement}
 use Rattle.columns_code.proofs.side_less.Tie as tie
 
-present-requires : tie.Need-present-requires
-present-requires c κs = search needs
-
-present-requires-2 : tie.Need-present-requires-2
-present-requires-2 c κs = search needs
-
-side-requires : tie.Need-side-requires
-side-requires c κs = search needs
-
-side-requires-2 : tie.Need-side-requires-2
-side-requires-2 c κs = search needs
-
 right-order-requires : tie.Need-right-order-requires
 right-order-requires c κs =
     let s = c .before .before .before .before .before .before in
     let a = s .args in
     (subst (OnGrid coordinateLimit) (sym (c .before .side .ensures)) (side-grid (a .a) (a .b) (a .i) (s .pre .0) (s .pre .1)), subst (OnGrid coordinateLimit) (sym (c .side2 .ensures)) (side-grid (a .a) (a .b) (a .j) (s .pre .0) (s .pre .1)), s .pre .2)
-
-less-by-requires : tie.Need-less-by-requires
-less-by-requires c κs = search needs
 
 returns : tie.Need-returns
 returns c =
@@ -37,9 +22,6 @@ returns-2 : tie.Need-returns-2
 returns-2 c =
     let s = c .before .before .before .before .args in
     less-first (s .a) (s .b) (fractionOf (s .at)) (s .in-a) (s .in-b) (s .i) (s .j) (sym (c .before .before .before .present .ensures) ∙ c .before .before .if1 .taken) (sym (c .before .present2 .ensures) ∙ c .if2 .left)
-
-present-requires-3 : tie.Need-present-requires-3
-present-requires-3 c κs = search needs
 
 returns-3 : tie.Need-returns-3
 returns-3 c =
@@ -55,14 +37,14 @@ pub side-less-spec : {M : Type 1} → statement M
 side-less-spec =
     tie.close
     (tie.spec
-    present-requires
-    present-requires-2
-    side-requires
-    side-requires-2
+    (λ c κs. search needs)
+    (λ c κs. search needs)
+    (λ c κs. search needs)
+    (λ c κs. search needs)
     right-order-requires
-    less-by-requires
+    (λ c κs. search needs)
     returns
     returns-2
-    present-requires-3
+    (λ c κs. search needs)
     returns-3
     returns-4)

@@ -14,12 +14,6 @@ join-all-requires c κs =
     let h = k .before .before .before .pre in
     record { fit = h .0 .fit; one-each = k .number-each .kept .0 ∙ h .0 .one-each }
 
-count-own-requires : tie.Need-count-own-requires
-count-own-requires c κs = search needs
-
-same-length : tie.Need-same-length
-same-length c = search needs
-
 returns : tie.Need-returns
 returns c =
     let j = c .before .before .before .before in
@@ -33,4 +27,4 @@ returns c =
 pub components-into-spec : {M : Type 1} → statement M
 components-into-spec =
     tie.close
-    (tie.spec number-each-requires join-all-requires count-own-requires same-length returns)
+    (tie.spec number-each-requires join-all-requires (λ c κs. search needs) (λ c. search needs) returns)

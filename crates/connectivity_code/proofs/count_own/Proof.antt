@@ -15,20 +15,8 @@ abbrev μ-loop : tie.MeasureT-loop
 loop-holds : tie.Need-loop-holds Inv-loop μ-loop
 loop-holds c = count-start (c .before .args .numbers .now)
 
-mul-one-more : tie.Need-mul-one-more Inv-loop μ-loop
-mul-one-more c = search needs
-
-shared-slice-read-one-more : tie.Need-shared-slice-read-one-more Inv-loop μ-loop
-shared-slice-read-one-more c = search needs
-
 one-more-requires : tie.Need-one-more-requires Inv-loop μ-loop
 one-more-requires c κs = let k = c .before .before in omega (arith, k .before .before .pre, k .loop .inv .most, c .before .loop-test .taken)
-
-add-i : tie.Need-add-i Inv-loop μ-loop
-add-i c = search needs
-
-loop-less : tie.Need-loop-less Inv-loop μ-loop
-loop-less c = search needs
 
 loop-again : tie.Need-loop-again Inv-loop μ-loop
 loop-again c = let k = c .before .before in count-turn (k .before .loop .inv) (k .loop-test .taken) (c .one-more .ensures)
@@ -43,10 +31,10 @@ count-own-spec =
     Inv-loop
     μ-loop
     loop-holds
-    mul-one-more
-    shared-slice-read-one-more
+    (λ c. search needs)
+    (λ c. search needs)
     one-more-requires
-    add-i
-    loop-less
+    (λ c. search needs)
+    (λ c. search needs)
     loop-again
     returns)

@@ -26,12 +26,6 @@ join-earlier-requires c κs =
     let h = k .before .before .before .pre in
     (record { fit = h .fit; one-each = k .before .loop .inv .long ∙ h .one-each }, (k .loop-test .taken, c .before .placed-at .ensures))
 
-add-i : tie.Need-add-i Inv-loop μ-loop
-add-i c = search needs
-
-loop-less : tie.Need-loop-less Inv-loop μ-loop
-loop-less c = search needs
-
 loop-again : tie.Need-loop-again Inv-loop μ-loop
 loop-again c =
     let t = c .before .before .before .before .before in
@@ -52,8 +46,8 @@ join-all-spec =
     loop-holds
     placed-at-requires
     join-earlier-requires
-    add-i
-    loop-less
+    (λ c. search needs)
+    (λ c. search needs)
     loop-again
     same-length
     returns)

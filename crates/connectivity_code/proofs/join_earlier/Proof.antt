@@ -35,12 +35,6 @@ join-if-requires c κs =
     let l = h .1 .0 in
     (omega (arith, l, h .0 .one-each, k .before .loop .inv .long), omega (arith, l, h .0 .one-each, k .before .loop .inv .long, k .loop-test .taken))
 
-add-j : tie.Need-add-j Inv-loop μ-loop
-add-j c = search needs
-
-loop-less : tie.Need-loop-less Inv-loop μ-loop
-loop-less c = search needs
-
 loop-again : tie.Need-loop-again Inv-loop μ-loop
 loop-again c =
     let k = c .before .before .before .before in
@@ -66,8 +60,8 @@ join-earlier-spec =
     loop-holds
     touching-at-requires
     join-if-requires
-    add-j
-    loop-less
+    (λ c. search needs)
+    (λ c. search needs)
     loop-again
     same-length
     returns)

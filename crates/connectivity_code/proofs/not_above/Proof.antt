@@ -9,11 +9,8 @@ use Rattle.connectivity_code.proofs.not_above.Tie as tie
 heights-at-requires : tie.Need-heights-at-requires
 heights-at-requires c κs = (c .pre .1, c .pre .0, c .pre .2)
 
-is-less-requires : tie.Need-is-less-requires
-is-less-requires c κs = search needs
-
 returns : tie.Need-returns
 returns c = let s = c .before .before .args in not-above-by (fractionOf (s .x)) (s .l) (s .m) (c .is-less .ensures ∙ ap isLess (c .before .heights-at .ensures))
 
 pub not-above-spec : {M : Type 1} → statement M
-not-above-spec = tie.close (tie.spec heights-at-requires is-less-requires returns)
+not-above-spec = tie.close (tie.spec heights-at-requires (λ c κs. search needs) returns)

@@ -27,12 +27,6 @@ module _ (c : tie.After-is-before2) where
 crossing-of-requires : tie.Need-crossing-of-requires
 crossing-of-requires c κs = (c .pre .2, c .pre .3)
 
-enum-known-c : tie.Need-enum-known-c
-enum-known-c c = search needs
-
-enum-told : tie.Need-enum-told
-enum-told c = search needs
-
 returns : tie.Need-returns
 returns c =
     let s = c .before .before .before .args in
@@ -69,8 +63,8 @@ touches-from-spec =
     tie.close
     (tie.spec
     crossing-of-requires
-    enum-known-c
-    enum-told
+    (λ c. search needs)
+    (λ c. search needs)
     returns
     is-before-requires
     returns-2

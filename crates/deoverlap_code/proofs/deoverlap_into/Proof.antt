@@ -30,12 +30,6 @@ one-by-front-requires c κs =
     let h = l .loop .inv in
     ((placed (c .before .before .placed-at .ensures), h .buffer, l .before .pre .1 .0 .1), (h .blank, h .same))
 
-enum-known-f : tie.Need-enum-known-f Inv-loop μ-loop
-enum-known-f c = search needs
-
-clear-requires : tie.Need-clear-requires Inv-loop μ-loop
-clear-requires c κs = search needs
-
 add-t23 : tie.Need-add-t23 Inv-loop μ-loop
 add-t23 c =
     let o = c .before .before .before .before .before .before .before .before .one-by-front in
@@ -72,9 +66,6 @@ returns c =
     let z = c .before .clear .ensures ∙ ap (λ (n : ℕ). replicate n (pos 0)) (o .kept .1 .1 .0 ∙ h .long) in
     ((deoverlap-short h (p .before .loop-test .taken) (p .placed-at .result .shape) (p .placed-at .ensures .shape) (o .result) (o .last .1 .1 .0) (o .ensures .0) (o .ensures .1 .1 .0) _ (c .before .before .before .before .f .given .1), z), (short-few h (p .before .loop-test .taken) (p .placed-at .result .shape) (p .placed-at .ensures .shape) (o .result) (o .last .1 .1 .0) (o .ensures .0) (o .ensures .1 .1 .0) (s .pre .0 .few) _ (c .before .before .before .before .f .given .1), o .ensures .1 .1 .1))
 
-enum-known-f-2 : tie.Need-enum-known-f-2 Inv-loop μ-loop
-enum-known-f-2 c = search needs
-
 add-k : tie.Need-add-k Inv-loop μ-loop
 add-k c =
     let o = c .before .before .before .before .before .one-by-front in
@@ -92,12 +83,6 @@ add-sum c =
     let h = l .loop .inv in
     let s = l .before in
     omega (arith, turn-few h (p .before .loop-test .taken) (p .placed-at .result .shape) (p .placed-at .ensures .shape) (o .result) (o .last .1 .1 .0) (o .ensures .0) (o .ensures .1 .1 .0) _ _ (c .before .f2 .given .1) (s .pre .0 .few))
-
-add-i : tie.Need-add-i Inv-loop μ-loop
-add-i c = search needs
-
-loop-less : tie.Need-loop-less Inv-loop μ-loop
-loop-less c = search needs
 
 loop-again : tie.Need-loop-again Inv-loop μ-loop
 loop-again c =
@@ -130,17 +115,17 @@ deoverlap-into-spec =
     loop-holds
     placed-at-requires
     one-by-front-requires
-    enum-known-f
-    clear-requires
+    (λ c. search needs)
+    (λ c κs. search needs)
     add-t23
     same-length
     same-length-2
     returns
-    enum-known-f-2
+    (λ c. search needs)
     add-k
     add-sum
-    add-i
-    loop-less
+    (λ c. search needs)
+    (λ c. search needs)
     loop-again
     same-length-3
     same-length-4

@@ -16,9 +16,6 @@ Inv-loop k start n out₀ scratch₀ room end m₀ sum₀ i₀ out scratch m sum
 abbrev μ-loop : tie.MeasureT-loop
 μ-loop k start n out₀ scratch₀ room end m₀ sum₀ i₀ out scratch m sum i = k - i
 
-mul-end : tie.Need-mul-end Inv-loop μ-loop
-mul-end c = search needs
-
 loop-holds : tie.Need-loop-holds Inv-loop μ-loop
 loop-holds c =
     let a = c .args in
@@ -37,9 +34,6 @@ returns c =
     let h = c .before .before .loop .inv in
     (front-none h (c .if1 .taken), (h .same, (front-few h, h .blank)))
 
-slice-reshare-prefix-placed-at : tie.Need-slice-reshare-prefix-placed-at Inv-loop μ-loop
-slice-reshare-prefix-placed-at c = search needs
-
 slice-aggregate-placed-at : tie.Need-slice-aggregate-placed-at Inv-loop μ-loop
 slice-aggregate-placed-at c =
     let l = c .before .before .before in
@@ -50,40 +44,10 @@ placed-at-requires c κs =
     let h = c .before .before .before .loop .inv in
     (front-fit h, front-next h (c .before .before .loop-test .taken))
 
-mul-lessen : tie.Need-mul-lessen Inv-loop μ-loop
-mul-lessen c = search needs
-
-sub-lessen : tie.Need-sub-lessen Inv-loop μ-loop
-sub-lessen c = search needs
-
-part-lessen-start : tie.Need-part-lessen-start Inv-loop μ-loop
-part-lessen-start c = search needs
-
-part-lessen-end : tie.Need-part-lessen-end Inv-loop μ-loop
-part-lessen-end c = search needs
-
-mul-lessen-2 : tie.Need-mul-lessen-2 Inv-loop μ-loop
-mul-lessen-2 c = search needs
-
-sub-lessen-2 : tie.Need-sub-lessen-2 Inv-loop μ-loop
-sub-lessen-2 c = search needs
-
-part-lessen-start-2 : tie.Need-part-lessen-start-2 Inv-loop μ-loop
-part-lessen-start-2 c = search needs
-
-part-lessen-end-2 : tie.Need-part-lessen-end-2 Inv-loop μ-loop
-part-lessen-end-2 c = search needs
-
-sub-lessen-3 : tie.Need-sub-lessen-3 Inv-loop μ-loop
-sub-lessen-3 c = search needs
-
 lessen-requires : tie.Need-lessen-requires Inv-loop μ-loop
 lessen-requires c κs =
     let h = c .before .before .before .before .before .before .loop .inv in
     ((placed (c .before .before .placed-at .ensures), front-remaining h), front-scratch h)
-
-enum-known-f : tie.Need-enum-known-f Inv-loop μ-loop
-enum-known-f c = search needs
 
 add-t30 : tie.Need-add-t30 Inv-loop μ-loop
 add-t30 c =
@@ -118,9 +82,6 @@ returns-2 c =
       (front-stands h (m .last .1 .1 .0), (short-few h l (p .result .shape) (p .ensures .shape) (m .result) (m .last .1 .1 .0) (m .ensures .0) _ (c .before .f .given .1), scratch-blank h (m .last .1 .1 .1 .0) (m .ensures .1))),
     )
 
-enum-known-f-2 : tie.Need-enum-known-f-2 Inv-loop μ-loop
-enum-known-f-2 c = search needs
-
 add-sum : tie.Need-add-sum Inv-loop μ-loop
 add-sum c =
     let m = c .before .before .before .before .before .lessen in
@@ -129,12 +90,6 @@ add-sum c =
     let h = q .before .loop .inv in
     omega (arith, turn-few h (q .loop-test .taken) (p .result .shape) (p .ensures .shape) (m .result) (m .last .1 .1 .0) (m .ensures .0) (m .last .1 .1 .1 .0) (m .ensures .1) (m .kept .1 .1 .0) (m .kept .1 .1 .1 .0) _ _ (c .before .f2 .given .1))
 
-add-i : tie.Need-add-i Inv-loop μ-loop
-add-i c = search needs
-
-loop-less : tie.Need-loop-less Inv-loop μ-loop
-loop-less c = search needs
-
 loop-again : tie.Need-loop-again Inv-loop μ-loop
 loop-again c =
     let m = c .before .before .before .before .before .lessen in
@@ -142,12 +97,6 @@ loop-again c =
     let q = c .before .before .before .before .before .before .before .before .before .before .before in
     let h = q .before .loop .inv in
     front-turn h (q .loop-test .taken) (p .result .shape) (p .ensures .shape) (m .result) (m .last .1 .1 .0) (m .ensures .0) (m .last .1 .1 .1 .0) (m .ensures .1) (m .kept .1 .1 .0) (m .kept .1 .1 .1 .0) _ _ (c .before .f2 .given .1)
-
-same-length-5 : tie.Need-same-length-5 Inv-loop μ-loop
-same-length-5 c = search needs
-
-same-length-6 : tie.Need-same-length-6 Inv-loop μ-loop
-same-length-6 c = search needs
 
 returns-3 : tie.Need-returns-3 Inv-loop μ-loop
 returns-3 c =
@@ -160,34 +109,34 @@ lessen-by-front-spec =
     (tie.spec
     Inv-loop
     μ-loop
-    mul-end
+    (λ c. search needs)
     loop-holds
     same-length
     same-length-2
     returns
-    slice-reshare-prefix-placed-at
+    (λ c. search needs)
     slice-aggregate-placed-at
     placed-at-requires
-    mul-lessen
-    sub-lessen
-    part-lessen-start
-    part-lessen-end
-    mul-lessen-2
-    sub-lessen-2
-    part-lessen-start-2
-    part-lessen-end-2
-    sub-lessen-3
+    (λ c. search needs)
+    (λ c. search needs)
+    (λ c. search needs)
+    (λ c. search needs)
+    (λ c. search needs)
+    (λ c. search needs)
+    (λ c. search needs)
+    (λ c. search needs)
+    (λ c. search needs)
     lessen-requires
-    enum-known-f
+    (λ c. search needs)
     add-t30
     same-length-3
     same-length-4
     returns-2
-    enum-known-f-2
+    (λ c. search needs)
     add-sum
-    add-i
-    loop-less
+    (λ c. search needs)
+    (λ c. search needs)
     loop-again
-    same-length-5
-    same-length-6
+    (λ c. search needs)
+    (λ c. search needs)
     returns-3)

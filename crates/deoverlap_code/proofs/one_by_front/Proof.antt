@@ -11,27 +11,12 @@ use Rattle.deoverlap_code.proofs.Past.{front-layer, past-start, past-up
 use Rattle.deoverlap_code.proofs.one_by_front.Statement.{statement}
 use Rattle.deoverlap_code.proofs.one_by_front.Tie as tie
 
-one-past-requires : tie.Need-one-past-requires
-one-past-requires c κs = search needs
-
-same-length : tie.Need-same-length
-same-length c = search needs
-
-same-length-2 : tie.Need-same-length-2
-same-length-2 c = search needs
-
 returns : tie.Need-returns
 returns c =
     let f = c .before .before .one-past in
     let s = c .before .before .before .before .before .before in
     let a = s .args in
     (past-start (a .out .now) (a .k) (a .room) (s .pre .0 .1) (a .a .shape) (f .result) _ (f .ensures .0), (f .ensures .1 .0, (f .ensures .1 .1 .0, f .ensures .1 .1 .1)))
-
-mul-end : tie.Need-mul-end
-mul-end c = search needs
-
-slice-reshare-prefix-first-overlapping : tie.Need-slice-reshare-prefix-first-overlapping
-slice-reshare-prefix-first-overlapping c = search needs
 
 slice-aggregate-first-overlapping : tie.Need-slice-aggregate-first-overlapping
 slice-aggregate-first-overlapping c =
@@ -45,9 +30,6 @@ first-overlapping-requires c κs =
     let a = s .args in
     (s .pre .0 .0, front-layer (a .out .now) (a .k) (a .room) (s .pre .0 .1) (s .pre .0 .2) .fit)
 
-one-past-requires-2 : tie.Need-one-past-requires-2
-one-past-requires-2 c κs = search needs
-
 more-overlays-requires : tie.Need-more-overlays-requires
 more-overlays-requires c κs =
     let f = c .before .before .one-past2 in
@@ -55,12 +37,6 @@ more-overlays-requires c κs =
     let s = c .before .before .before .before .before .before .before .before in
     let a = s .args in
     (omega (arith, past-upto (a .out .now) (a .k) (a .room) (s .pre .0 .1) (a .a .shape) (v .result) (v .ensures), s .pre .0 .1 .within, s .pre .0 .2), within-least (maxRecords * (maxRecords - v .result) + 1) maxOverlays (f .result) (omega arith) (f .ensures .1 .1 .0))
-
-same-length-3 : tie.Need-same-length-3
-same-length-3 c = search needs
-
-same-length-4 : tie.Need-same-length-4
-same-length-4 c = search needs
 
 returns-2 : tie.Need-returns-2
 returns-2 c =
@@ -82,16 +58,16 @@ pub one-by-front-spec : {M : Type 1} → statement M
 one-by-front-spec =
     tie.close
     (tie.spec
-    one-past-requires
-    same-length
-    same-length-2
+    (λ c κs. search needs)
+    (λ c. search needs)
+    (λ c. search needs)
     returns
-    mul-end
-    slice-reshare-prefix-first-overlapping
+    (λ c. search needs)
+    (λ c. search needs)
     slice-aggregate-first-overlapping
     first-overlapping-requires
-    one-past-requires-2
+    (λ c κs. search needs)
     more-overlays-requires
-    same-length-3
-    same-length-4
+    (λ c. search needs)
+    (λ c. search needs)
     returns-2)

@@ -18,32 +18,11 @@ use Rattle.deoverlap_code.proofs.Past.{front-layer, past-borrowed, past
 use Rattle.deoverlap_code.proofs.one_past.Statement.{statement}
 use Rattle.deoverlap_code.proofs.one_past.Tie as tie
 
-mul-end : tie.Need-mul-end
-mul-end c = search needs
-
-mul-add-whole : tie.Need-mul-add-whole
-mul-add-whole c = search needs
-
-sub-add-whole : tie.Need-sub-add-whole
-sub-add-whole c = search needs
-
-part-add-whole-start : tie.Need-part-add-whole-start
-part-add-whole-start c = search needs
-
-part-add-whole-end : tie.Need-part-add-whole-end
-part-add-whole-end c = search needs
-
-sub-add-whole-2 : tie.Need-sub-add-whole-2
-sub-add-whole-2 c = search needs
-
 add-whole-requires : tie.Need-add-whole-requires
 add-whole-requires c κs =
     let s = c .before .before in
     let a = s .args in
     past-borrowed (a .out .now) (a .k) (a .room) (s .pre .0 .1)
-
-same-length : tie.Need-same-length
-same-length c = search needs
 
 returns : tie.Need-returns
 returns c =
@@ -59,9 +38,6 @@ returns c =
       ),
     )
 
-slice-reshare-prefix-placed-at : tie.Need-slice-reshare-prefix-placed-at
-slice-reshare-prefix-placed-at c = search needs
-
 slice-aggregate-placed-at : tie.Need-slice-aggregate-placed-at
 slice-aggregate-placed-at c =
     let s = c .before .before in
@@ -75,35 +51,11 @@ placed-at-requires c κs =
     let n = front-count (a .out .now) (a .k) (held-fits (a .out .now) (a .k) (a .room) (s .pre .0 .1)) in
     (front-layer (a .out .now) (a .k) (a .room) (s .pre .0 .1) (s .pre .0 .2) .fit, omega (arith, n, c .before .if1 .left))
 
-mul-first-into : tie.Need-mul-first-into
-mul-first-into c = search needs
-
-sub-first-into : tie.Need-sub-first-into
-sub-first-into c = search needs
-
-part-first-into-start : tie.Need-part-first-into-start
-part-first-into-start c = search needs
-
-part-first-into-end : tie.Need-part-first-into-end
-part-first-into-end c = search needs
-
-sub-first-into-2 : tie.Need-sub-first-into-2
-sub-first-into-2 c = search needs
-
 first-into-requires : tie.Need-first-into-requires
 first-into-requires c κs =
     let s = c .before .before .before .before in
     let a = s .args in
     (record { first = s .pre .0 .0; second = placed (c .before .placed-at .ensures) }, past-borrowed (a .out .now) (a .k) (a .room) (s .pre .0 .1))
-
-enum-known-f : tie.Need-enum-known-f
-enum-known-f c = search needs
-
-enum-told : tie.Need-enum-told
-enum-told c = search needs
-
-same-length-2 : tie.Need-same-length-2
-same-length-2 c = search needs
 
 returns-2 : tie.Need-returns-2
 returns-2 c =
@@ -121,9 +73,6 @@ returns-2 c =
         (within-least 1 (maxRecords * (maxRecords - a .j) + 1) (f .result) (omega arith) (past-few d (a .k) (a .room) (s .pre .0 .1) (a .a .shape) (a .j) l (p .result .shape) (p .ensures .shape) (f .result) t (f .ensures)), s .pre .1 .0),
       ),
     )
-
-add-lessen-by-front : tie.Need-add-lessen-by-front
-add-lessen-by-front c = search needs
 
 lessen-by-front-requires : tie.Need-lessen-by-front-requires
 lessen-by-front-requires c κs =
@@ -157,12 +106,6 @@ more-overlays-requires c κs =
     let u = past-few (a .out .now) (a .k) (a .room) (s .pre .0 .1) (a .a .shape) (a .j) (omega (arith, i .if1 .left)) (p .result .shape) (p .ensures .shape) (f .result) (f .last .1 .1 .0) (f .ensures) in
     (omega (arith, within-done 1 _ _ (f .result) (k .before .f .given .1) u), within-least (maxRecords * (maxRecords - (a .j + 1))) maxOverlays (q .result) (omega arith) (q .ensures .1 .1 .0))
 
-same-length-3 : tie.Need-same-length-3
-same-length-3 c = search needs
-
-same-length-4 : tie.Need-same-length-4
-same-length-4 c = search needs
-
 returns-3 : tie.Need-returns-3
 returns-3 c =
     let q = c .before .before .before .lessen-by-front in
@@ -187,31 +130,31 @@ pub one-past-spec : {M : Type 1} → statement M
 one-past-spec =
     tie.close
     (tie.spec
-    mul-end
-    mul-add-whole
-    sub-add-whole
-    part-add-whole-start
-    part-add-whole-end
-    sub-add-whole-2
+    (λ c. search needs)
+    (λ c. search needs)
+    (λ c. search needs)
+    (λ c. search needs)
+    (λ c. search needs)
+    (λ c. search needs)
     add-whole-requires
-    same-length
+    (λ c. search needs)
     returns
-    slice-reshare-prefix-placed-at
+    (λ c. search needs)
     slice-aggregate-placed-at
     placed-at-requires
-    mul-first-into
-    sub-first-into
-    part-first-into-start
-    part-first-into-end
-    sub-first-into-2
+    (λ c. search needs)
+    (λ c. search needs)
+    (λ c. search needs)
+    (λ c. search needs)
+    (λ c. search needs)
     first-into-requires
-    enum-known-f
-    enum-told
-    same-length-2
+    (λ c. search needs)
+    (λ c. search needs)
+    (λ c. search needs)
     returns-2
-    add-lessen-by-front
+    (λ c. search needs)
     lessen-by-front-requires
     more-overlays-requires
-    same-length-3
-    same-length-4
+    (λ c. search needs)
+    (λ c. search needs)
     returns-3)

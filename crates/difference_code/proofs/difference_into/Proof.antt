@@ -46,9 +46,6 @@ sub-one-into : tie.Need-sub-one-into Inv-loop μ-loop
 sub-one-into c =
     omega (arith, subtract-words (c .before .before .loop .inv))
 
-part-one-into-start : tie.Need-part-one-into-start Inv-loop μ-loop
-part-one-into-start c = search needs
-
 part-one-into-end : tie.Need-part-one-into-end Inv-loop μ-loop
 part-one-into-end c =
     omega (arith, subtract-words (c .before .before .loop .inv))
@@ -61,9 +58,6 @@ mul-one-into-2 c =
 sub-one-into-2 : tie.Need-sub-one-into-2 Inv-loop μ-loop
 sub-one-into-2 c =
     omega (arith, subtract-scratch (c .before .before .before .loop .inv))
-
-part-one-into-start-2 : tie.Need-part-one-into-start-2 Inv-loop μ-loop
-part-one-into-start-2 c = search needs
 
 part-one-into-end-2 : tie.Need-part-one-into-end-2 Inv-loop μ-loop
 part-one-into-end-2 c =
@@ -79,12 +73,6 @@ one-into-requires c κs =
     let s = l .before in
     let h = l .loop .inv in
     ((placed (c .before .before .placed-at .ensures), s .pre .0 .1, subtract-borrowed h, omega (arith, s .pre .0 .3)), (subtract-blank h, subtract-same h))
-
-enum-known-f : tie.Need-enum-known-f Inv-loop μ-loop
-enum-known-f c = search needs
-
-clear-requires : tie.Need-clear-requires Inv-loop μ-loop
-clear-requires c κs = search needs
 
 add-t33 : tie.Need-add-t33 Inv-loop μ-loop
 add-t33 c =
@@ -125,9 +113,6 @@ returns c =
       (omega (arith, u, h .few, t, s .pre .0 .0 .few), scratch-back (l .scratch) (l .k) (h .blank) (subtract-scratch h) (o .last .1 .1 .1 .0) (o .ensures .1 .1) (o .kept .1 .1 .1 .0)),
     )
 
-enum-known-f-2 : tie.Need-enum-known-f-2 Inv-loop μ-loop
-enum-known-f-2 c = search needs
-
 add-k : tie.Need-add-k Inv-loop μ-loop
 add-k c =
     let o = c .before .before .before .before .before .one-into in
@@ -149,12 +134,6 @@ add-made c =
     let h = l .inv in
     let u = within-done overlaysOfOne _ _ (o .result) (c .before .f2 .given .1) (o .ensures .1 .0) in
     omega (arith, u, h .few, t, s .pre .0 .0 .few)
-
-add-i : tie.Need-add-i Inv-loop μ-loop
-add-i c = search needs
-
-loop-less : tie.Need-loop-less Inv-loop μ-loop
-loop-less c = search needs
 
 loop-again : tie.Need-loop-again Inv-loop μ-loop
 loop-again c =
@@ -193,25 +172,25 @@ difference-into-spec =
     mul-free
     mul-one-into
     sub-one-into
-    part-one-into-start
+    (λ c. search needs)
     part-one-into-end
     mul-one-into-2
     sub-one-into-2
-    part-one-into-start-2
+    (λ c. search needs)
     part-one-into-end-2
     sub-one-into-3
     one-into-requires
-    enum-known-f
-    clear-requires
+    (λ c. search needs)
+    (λ c κs. search needs)
     add-t33
     same-length
     same-length-2
     returns
-    enum-known-f-2
+    (λ c. search needs)
     add-k
     add-made
-    add-i
-    loop-less
+    (λ c. search needs)
+    (λ c. search needs)
     loop-again
     same-length-3
     same-length-4

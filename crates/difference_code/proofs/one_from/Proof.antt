@@ -13,12 +13,6 @@ use Rattle.remainder_code.proofs.One.{one-whole, first-few, one-refused, one-re
 use Rattle.difference_code.proofs.one_from.Statement.{statement}
 use Rattle.difference_code.proofs.one_from.Tie as tie
 
-add-whole-requires : tie.Need-add-whole-requires
-add-whole-requires c κs = search needs
-
-same-length : tie.Need-same-length
-same-length c = search needs
-
 returns : tie.Need-returns
 returns c =
     let s = c .before .before .before .before in
@@ -29,22 +23,10 @@ returns c =
       (within-least 1 (maxRecords * (maxRecords - a .j) + 1) (w .result) (omega arith) (folded-within (length (a .out .now)) (a .room) (a .a .shape ∷ []) (addition 1 ∷ []) (w .result) t (w .ensures)), s .pre .1 .0),
     )
 
-placed-at-requires : tie.Need-placed-at-requires
-placed-at-requires c κs = search needs
-
 first-into-requires : tie.Need-first-into-requires
 first-into-requires c κs =
     let s = c .before .before .before in
     (record { first = s .pre .0 .0; second = placed (c .before .placed-at .ensures) }, s .pre .0 .2)
-
-enum-known-f : tie.Need-enum-known-f
-enum-known-f c = search needs
-
-enum-told : tie.Need-enum-told
-enum-told c = search needs
-
-same-length-2 : tie.Need-same-length-2
-same-length-2 c = search needs
 
 returns-2 : tie.Need-returns-2
 returns-2 c =
@@ -57,9 +39,6 @@ returns-2 c =
       one-refused (length (a .out .now)) (a .room) (a .a .shape) (p .result .shape) (a .layer .now) (a .j) (omega (arith, l)) (p .ensures .shape) (f .result) t (f .ensures) _ (c .enum-told .given .1),
       (within-least 1 (maxRecords * (maxRecords - a .j) + 1) (f .result) (omega arith) (first-few (length (a .out .now)) (a .room) (a .a .shape) (p .result .shape) (a .layer .now) (a .j) (omega (arith, l)) (p .ensures .shape) (f .result) t (f .ensures)), s .pre .1 .0),
     )
-
-add-lessen-by-rest : tie.Need-add-lessen-by-rest
-add-lessen-by-rest c = search needs
 
 lessen-by-rest-requires : tie.Need-lessen-by-rest-requires
 lessen-by-rest-requires c κs =
@@ -85,12 +64,6 @@ more-overlays-requires c κs =
     let u = first-few (length (a .out .now)) (a .room) (a .a .shape) (p .result .shape) (a .layer .now) (a .j) (omega (arith, i .if1 .left)) (p .ensures .shape) (f .result) (f .last .1 .1 .0) (f .ensures) in
     (omega (arith, within-done 1 _ _ (f .result) (k .before .f .given .1) u), within-least (maxRecords * (maxRecords - (a .j + 1))) maxOverlays (q .result) (omega arith) (q .ensures .1 .0))
 
-same-length-3 : tie.Need-same-length-3
-same-length-3 c = search needs
-
-same-length-4 : tie.Need-same-length-4
-same-length-4 c = search needs
-
 returns-3 : tie.Need-returns-3
 returns-3 c =
     let q = c .before .before .before .lessen-by-rest in
@@ -111,18 +84,18 @@ pub one-from-spec : {M : Type 1} → statement M
 one-from-spec =
     tie.close
     (tie.spec
-    add-whole-requires
-    same-length
+    (λ c κs. search needs)
+    (λ c. search needs)
     returns
-    placed-at-requires
+    (λ c κs. search needs)
     first-into-requires
-    enum-known-f
-    enum-told
-    same-length-2
+    (λ c. search needs)
+    (λ c. search needs)
+    (λ c. search needs)
     returns-2
-    add-lessen-by-rest
+    (λ c. search needs)
     lessen-by-rest-requires
     more-overlays-requires
-    same-length-3
-    same-length-4
+    (λ c. search needs)
+    (λ c. search needs)
     returns-3)

@@ -10,26 +10,11 @@ use Rattle.remainder_code.proofs.One.{one-start, skip-upto, one-skip}
 use Rattle.difference_code.proofs.one_into.Statement.{statement}
 use Rattle.difference_code.proofs.one_into.Tie as tie
 
-one-from-requires : tie.Need-one-from-requires
-one-from-requires c κs = search needs
-
-same-length : tie.Need-same-length
-same-length c = search needs
-
-same-length-2 : tie.Need-same-length-2
-same-length-2 c = search needs
-
 returns : tie.Need-returns
 returns c =
     let f = c .before .before .one-from in
     let a = c .before .before .before .before .before .before .args in
     (one-start (length (a .out .now)) (a .room) (a .a .shape) (a .layer .now) (f .result) (f .last .1 .1 .1 .0) (f .ensures .0), (f .ensures .1 .0, f .ensures .1 .1))
-
-first-overlapping-requires : tie.Need-first-overlapping-requires
-first-overlapping-requires c κs = search needs
-
-one-from-requires-2 : tie.Need-one-from-requires-2
-one-from-requires-2 c κs = search needs
 
 more-overlays-requires : tie.Need-more-overlays-requires
 more-overlays-requires c κs =
@@ -38,12 +23,6 @@ more-overlays-requires c κs =
     let s = c .before .before .before .before .before .before .before in
     let a = s .args in
     (omega (arith, skip-upto (length (a .out .now)) (a .room) (a .a .shape) (a .layer .now) (v .result) (v .ensures), s .pre .0 .1 .few), within-least (maxRecords * (maxRecords - v .result) + 1) maxOverlays (f .result) (omega arith) (f .ensures .1 .0))
-
-same-length-3 : tie.Need-same-length-3
-same-length-3 c = search needs
-
-same-length-4 : tie.Need-same-length-4
-same-length-4 c = search needs
 
 returns-2 : tie.Need-returns-2
 returns-2 c =
@@ -63,13 +42,13 @@ pub one-into-spec : {M : Type 1} → statement M
 one-into-spec =
     tie.close
     (tie.spec
-    one-from-requires
-    same-length
-    same-length-2
+    (λ c κs. search needs)
+    (λ c. search needs)
+    (λ c. search needs)
     returns
-    first-overlapping-requires
-    one-from-requires-2
+    (λ c κs. search needs)
+    (λ c κs. search needs)
     more-overlays-requires
-    same-length-3
-    same-length-4
+    (λ c. search needs)
+    (λ c. search needs)
     returns-2)

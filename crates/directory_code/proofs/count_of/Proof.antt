@@ -7,15 +7,6 @@ use Rattle.files.proofs.Numbers.{number, none-complete, incomplete, completed}
 use Rattle.directory_code.proofs.count_of.Statement.{statement}
 use Rattle.directory_code.proofs.count_of.Tie as tie
 
-number-from-requires : tie.Need-number-from-requires
-number-from-requires c κs = search needs
-
-enum-known-k : tie.Need-enum-known-k
-enum-known-k c = search needs
-
-enum-told : tie.Need-enum-told
-enum-told c = search needs
-
 returns : tie.Need-returns
 returns c =
     let s = c .before .before .before .args in
@@ -47,9 +38,9 @@ pub count-of-spec : {M : Type 1} → statement M
 count-of-spec =
     tie.close
     (tie.spec
-    number-from-requires
-    enum-known-k
-    enum-told
+    (λ c κs. search needs)
+    (λ c. search needs)
+    (λ c. search needs)
     returns
     mul-if1
     add-if1

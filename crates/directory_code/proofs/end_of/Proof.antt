@@ -7,12 +7,6 @@ use Rattle.files.specs.Directory.{endOf}
 use Rattle.directory_code.proofs.end_of.Statement.{statement}
 use Rattle.directory_code.proofs.end_of.Tie as tie
 
-mul-if1 : tie.Need-mul-if1
-mul-if1 c = search needs
-
-add-if1 : tie.Need-add-if1
-add-if1 c = search needs
-
 mul-if1-2 : tie.Need-mul-if1-2
 mul-if1-2 c =
     let h : c .args .f .unit * c .args .total ≤ 64 * 2048 = mul-le-mul (c .pre .0 .unit) (c .pre .2) in
@@ -36,4 +30,4 @@ returns-2 c =
     rw (ne-eqb (2 * s .n + 1 + s .f .unit * s .total) (s .words) (c .if1 .left))
 
 pub end-of-spec : {M : Type 1} → statement M
-end-of-spec = tie.close (tie.spec mul-if1 add-if1 mul-if1-2 add-if1-2 returns returns-2)
+end-of-spec = tie.close (tie.spec (λ c. search needs) (λ c. search needs) mul-if1-2 add-if1-2 returns returns-2)

@@ -13,18 +13,6 @@ returns c =
     let s = c .before .before in
     directory-empty (s .args .f) (fileWords (s .args .file .now)) (length-file (s .args .file .now) ∙ c .if1 .taken)
 
-word-at-requires : tie.Need-word-at-requires
-word-at-requires c κs = search needs
-
-count-of-requires : tie.Need-count-of-requires
-count-of-requires c κs = search needs
-
-enum-known-c : tie.Need-enum-known-c
-enum-known-c c = search needs
-
-enum-told : tie.Need-enum-told
-enum-told c = search needs
-
 returns-2 : tie.Need-returns-2
 returns-2 c =
     let s = c .before .before .before .before .before .before in
@@ -48,10 +36,10 @@ file-directory-spec =
     tie.close
     (tie.spec
     returns
-    word-at-requires
-    count-of-requires
-    enum-known-c
-    enum-told
+    (λ c κs. search needs)
+    (λ c κs. search needs)
+    (λ c. search needs)
+    (λ c. search needs)
     returns-2
     file-pairs-requires
     returns-3)

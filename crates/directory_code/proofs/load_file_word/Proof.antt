@@ -5,13 +5,10 @@ use Rattle.files.proofs.Reading.{word-is}
 use Rattle.directory_code.proofs.load_file_word.Statement.{statement}
 use Rattle.directory_code.proofs.load_file_word.Tie as tie
 
-load-word-requires : tie.Need-load-word-requires
-load-word-requires c κs = search needs
-
 returns : tie.Need-returns
 returns c =
     let s = c .before .before in
     toZ-ofZ (sfits-of (c .load-word .ok)) ∙ c .load-word .ensures ∙ sym (word-is (s .args .file .now) (s .args .i) (s .pre))
 
 pub load-file-word-spec : {M : Type 1} → statement M
-load-file-word-spec = tie.close (tie.spec load-word-requires returns)
+load-file-word-spec = tie.close (tie.spec (λ c κs. search needs) returns)

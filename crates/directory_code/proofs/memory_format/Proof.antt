@@ -1,14 +1,12 @@
 use borrow.Author.Needs.{needs}
+use Rattle.records.specs.Limits.{memoryWidth}
 use Rattle.directory_code.proofs.memory_format.Statement.{statement}
 use Rattle.directory_code.proofs.memory_format.Tie as tie
-
-layer-format-requires : tie.Need-layer-format-requires
-layer-format-requires c κs = search needs
 
 returns : tie.Need-returns
 returns c =
     let e = c .layer-format .ensures in
-    λ j. record { unit = 24; count = e j .count; least = e j .least; most = e j .most; total = e j .total }
+    λ j. record { unit = memoryWidth; count = e j .count; least = e j .least; most = e j .most; total = e j .total }
 
 pub memory-format-spec : {M : Type 1} → statement M
-memory-format-spec = tie.close (tie.spec layer-format-requires returns)
+memory-format-spec = tie.close (tie.spec (λ c κs. search needs) returns)

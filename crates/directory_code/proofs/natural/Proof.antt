@@ -7,12 +7,6 @@ use Rattle.files.proofs.Numbers.{negative, kept, natural}
 use Rattle.directory_code.proofs.natural.Statement.{statement}
 use Rattle.directory_code.proofs.natural.Tie as tie
 
-of-requires : tie.Need-of-requires
-of-requires c κs = search needs
-
-less-requires : tie.Need-less-requires
-less-requires c κs = search needs
-
 returns : tie.Need-returns
 returns c =
     let x = c .before .before .before .args .x .v in
@@ -29,4 +23,4 @@ returns-2 c =
     natural (s .args .x .v) (search needs) (let e : ltZ (s .args .x .v) (pos 0) ≡ false = cc in e)
 
 pub natural-spec : {M : Type 1} → statement M
-natural-spec = tie.close (tie.spec of-requires less-requires returns cast-t4 returns-2)
+natural-spec = tie.close (tie.spec (λ c κs. search needs) (λ c κs. search needs) returns cast-t4 returns-2)

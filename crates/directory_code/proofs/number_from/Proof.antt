@@ -6,15 +6,6 @@ use Rattle.files.proofs.Numbers.{no-number, too-low, too-high, in-range}
 use Rattle.directory_code.proofs.number_from.Statement.{statement}
 use Rattle.directory_code.proofs.number_from.Tie as tie
 
-natural-requires : tie.Need-natural-requires
-natural-requires c κs = search needs
-
-enum-known-k : tie.Need-enum-known-k
-enum-known-k c = search needs
-
-enum-told : tie.Need-enum-told
-enum-told c = search needs
-
 returns : tie.Need-returns
 returns c =
     let s = c .before .before .before .args in
@@ -41,4 +32,4 @@ returns-4 c =
 pub number-from-spec : {M : Type 1} → statement M
 number-from-spec =
     tie.close
-    (tie.spec natural-requires enum-known-k enum-told returns returns-2 returns-3 returns-4)
+    (tie.spec (λ c κs. search needs) (λ c. search needs) (λ c. search needs) returns returns-2 returns-3 returns-4)

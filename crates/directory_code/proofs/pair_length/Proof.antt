@@ -7,37 +7,16 @@ use Rattle.files.proofs.Numbers.{wrong-offset, wrong-length, above-total, right
 use Rattle.directory_code.proofs.pair_length.Statement.{statement}
 use Rattle.directory_code.proofs.pair_length.Tie as tie
 
-number-from-requires : tie.Need-number-from-requires
-number-from-requires c κs = search needs
-
-enum-told : tie.Need-enum-told
-enum-told c = search needs
-
-enum-told-2 : tie.Need-enum-told-2
-enum-told-2 c = search needs
-
 returns : tie.Need-returns
 returns c =
     let s = c .before .before .before .args in
     wrong-offset (s .f) (s .before) (s .offset .v) (s .len .v) (let e : numberFrom (s .before) (s .before) (s .offset .v) ≡ Outside = cc in e)
-
-number-from-requires-2 : tie.Need-number-from-requires-2
-number-from-requires-2 c κs = search needs
-
-enum-known-k : tie.Need-enum-known-k
-enum-known-k c = search needs
-
-enum-told-3 : tie.Need-enum-told-3
-enum-told-3 c = search needs
 
 returns-2 : tie.Need-returns-2
 returns-2 c =
     let q = c .before .before .before in
     let s = q .before .before .before .args in
     wrong-length (s .f) (s .before) (s .offset .v) (s .len .v) (sym (q .before .before .number-from .ensures) ∙ q .enum-told .given .1) (let e : numberFrom (s .f .least) (s .f .most) (s .len .v) ≡ Outside = cc in e)
-
-sub-if1 : tie.Need-sub-if1
-sub-if1 c = search needs
 
 returns-3 : tie.Need-returns-3
 returns-3 c =
@@ -57,14 +36,14 @@ pub pair-length-spec : {M : Type 1} → statement M
 pair-length-spec =
     tie.close
     (tie.spec
-    number-from-requires
-    enum-told
-    enum-told-2
+    (λ c κs. search needs)
+    (λ c. search needs)
+    (λ c. search needs)
     returns
-    number-from-requires-2
-    enum-known-k
-    enum-told-3
+    (λ c κs. search needs)
+    (λ c. search needs)
+    (λ c. search needs)
     returns-2
-    sub-if1
+    (λ c. search needs)
     returns-3
     returns-4)

@@ -4,14 +4,8 @@ use borrow.Author.Needs.{needs, sfits-of}
 use Rattle.directory_code.proofs.word_at.Statement.{statement}
 use Rattle.directory_code.proofs.word_at.Tie as tie
 
-load-file-word-requires : tie.Need-load-file-word-requires
-load-file-word-requires c κs = search needs
-
-widen-requires : tie.Need-widen-requires
-widen-requires c κs = search needs
-
 returns : tie.Need-returns
 returns c = c .widen .ensures .0 ∙ toZ-ofZ (sfits-of (c .before .load-file-word .ok)) ∙ c .before .load-file-word .ensures
 
 pub word-at-spec : {M : Type 1} → statement M
-word-at-spec = tie.close (tie.spec load-file-word-requires widen-requires returns)
+word-at-spec = tie.close (tie.spec (λ c κs. search needs) (λ c κs. search needs) returns)

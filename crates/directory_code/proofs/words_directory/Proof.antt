@@ -9,18 +9,6 @@ use Rattle.directory_code.proofs.words_directory.Tie as tie
 returns : tie.Need-returns
 returns c = let s = c .before in directory-empty (s .args .f) (s .args .words .now) (c .if1 .taken)
 
-get-requires : tie.Need-get-requires
-get-requires c κs = search needs
-
-count-of-requires : tie.Need-count-of-requires
-count-of-requires c κs = search needs
-
-enum-known-c : tie.Need-enum-known-c
-enum-known-c c = search needs
-
-enum-told : tie.Need-enum-told
-enum-told c = search needs
-
 returns-2 : tie.Need-returns-2
 returns-2 c =
     let s = c .before .before .before .before .before in
@@ -44,10 +32,10 @@ words-directory-spec =
     tie.close
     (tie.spec
     returns
-    get-requires
-    count-of-requires
-    enum-known-c
-    enum-told
+    (λ c κs. search needs)
+    (λ c κs. search needs)
+    (λ c. search needs)
+    (λ c. search needs)
     returns-2
     words-pairs-requires
     returns-3)

@@ -16,32 +16,8 @@ abbrev μ-loop : tie.MeasureT-loop
 loop-holds : tie.Need-loop-holds Inv-loop μ-loop
 loop-holds c = let s = c in walk-start (s .args .f) (s .args .words .now) (s .args .n)
 
-mul-get : tie.Need-mul-get Inv-loop μ-loop
-mul-get c = search needs
-
-add-get : tie.Need-add-get Inv-loop μ-loop
-add-get c = search needs
-
-get-requires : tie.Need-get-requires Inv-loop μ-loop
-get-requires c κs = search needs
-
-mul-get-2 : tie.Need-mul-get-2 Inv-loop μ-loop
-mul-get-2 c = search needs
-
-add-get-2 : tie.Need-add-get-2 Inv-loop μ-loop
-add-get-2 c = search needs
-
-get-requires-2 : tie.Need-get-requires-2 Inv-loop μ-loop
-get-requires-2 c κs = search needs
-
 pair-length-requires : tie.Need-pair-length-requires Inv-loop μ-loop
 pair-length-requires c κs = (c .before .before .before .before .pre .0, c .before .before .before .loop .inv .units)
-
-enum-known-p : tie.Need-enum-known-p Inv-loop μ-loop
-enum-known-p c = search needs
-
-enum-told : tie.Need-enum-told Inv-loop μ-loop
-enum-told c = search needs
 
 returns : tie.Need-returns Inv-loop μ-loop
 returns c =
@@ -54,12 +30,6 @@ add-total c =
     let k = c .before in
     let u = pair _ _ _ _ (sym (k .before .before .pair-length .ensures) ∙ k .p .given .1) .total in
     record { fits = omega arith }
-
-add-i : tie.Need-add-i Inv-loop μ-loop
-add-i c = search needs
-
-loop-less : tie.Need-loop-less Inv-loop μ-loop
-loop-less c = search needs
 
 loop-again : tie.Need-loop-again Inv-loop μ-loop
 loop-again c =
@@ -81,19 +51,19 @@ words-pairs-spec =
     Inv-loop
     μ-loop
     loop-holds
-    mul-get
-    add-get
-    get-requires
-    mul-get-2
-    add-get-2
-    get-requires-2
+    (λ c. search needs)
+    (λ c. search needs)
+    (λ c κs. search needs)
+    (λ c. search needs)
+    (λ c. search needs)
+    (λ c κs. search needs)
     pair-length-requires
-    enum-known-p
-    enum-told
+    (λ c. search needs)
+    (λ c. search needs)
     returns
     add-total
-    add-i
-    loop-less
+    (λ c. search needs)
+    (λ c. search needs)
     loop-again
     end-of-requires
     returns-2)

@@ -25,27 +25,12 @@ loop-holds c = begin coordinateLimit 0 (fileWords (c .before .args .body .now))
 load-file-trapezoid-requires : tie.Need-load-file-trapezoid-requires Inv-loop μ-loop
 load-file-trapezoid-requires c κs = omega (arith, c .loop-test .taken)
 
-judge-requires : tie.Need-judge-requires Inv-loop μ-loop
-judge-requires c κs = search needs
-
-enum-told : tie.Need-enum-told Inv-loop μ-loop
-enum-told c = search needs
-
-enum-known-v : tie.Need-enum-known-v Inv-loop μ-loop
-enum-known-v c = search needs
-
 returns : tie.Need-returns Inv-loop μ-loop
 returns c =
     let k = c .before in
     let s = k .before .before .before .before .before .before .before in
     let l = below-count (s .args .body .now) (k .before .before .before .before .loop-test .taken) in
     ap (λ (m : ℕ). Refused (k .v .given .0 .0) m) (sym (zero-add (k .before .before .before .before .before .loop .i))) ∙ refused (k .before .before .before .before .before .loop .inv) l (ap (verdict _) (sym (k .before .before .before .load-file-trapezoid .ensures)) ∙ sym (k .before .before .judge .ensures) ∙ k .v .given .1)
-
-add-i : tie.Need-add-i Inv-loop μ-loop
-add-i c = search needs
-
-loop-less : tie.Need-loop-less Inv-loop μ-loop
-loop-less c = search needs
 
 loop-again : tie.Need-loop-again Inv-loop μ-loop
 loop-again c =
@@ -66,11 +51,11 @@ body-refused-spec =
     μ-loop
     loop-holds
     load-file-trapezoid-requires
-    judge-requires
-    enum-told
-    enum-known-v
+    (λ c κs. search needs)
+    (λ c. search needs)
+    (λ c. search needs)
     returns
-    add-i
-    loop-less
+    (λ c. search needs)
+    (λ c. search needs)
     loop-again
     returns-2)

@@ -21,17 +21,8 @@ module _ (c : tie.After-known-told2) where
   is-right : IsRight layerWords (c .before .before .before .before .before .args .words .now) (c .before .d2 .given .0 .0) (c .before .d2 .given .0 .1 .0)
   is-right = right layerWords (c .before .before .before .before .before .args .words .now) found
 
-memory-format-requires : tie.Need-memory-format-requires
-memory-format-requires c κs = search needs
-
 words-directory-requires : tie.Need-words-directory-requires
 words-directory-requires c κs = rw (c .memory-format .ensures) memory-modest
-
-enum-known-d : tie.Need-enum-known-d
-enum-known-d c = search needs
-
-enum-known-d-2 : tie.Need-enum-known-d-2
-enum-known-d-2 c = search needs
 
 mul-start : tie.Need-mul-start
 mul-start c = record { fits = omega (arith, is-right c .most) }
@@ -47,12 +38,6 @@ sub-first-refused c = is-right c .fit
 
 part-first-refused-start : tie.Need-part-first-refused-start
 part-first-refused-start c = is-right c .fit
-
-part-first-refused-end : tie.Need-part-first-refused-end
-part-first-refused-end c = search needs
-
-first-refused-requires : tie.Need-first-refused-requires
-first-refused-requires c κs = search needs
 
 returns : tie.Need-returns
 returns c =
@@ -70,16 +55,16 @@ pub check-layer-words-spec : {M : Type 1} → statement M
 check-layer-words-spec =
     tie.close
     (tie.spec
-    memory-format-requires
+    (λ c κs. search needs)
     words-directory-requires
-    enum-known-d
-    enum-known-d-2
+    (λ c. search needs)
+    (λ c. search needs)
     mul-start
     add-start
     mul-first-refused
     sub-first-refused
     part-first-refused-start
-    part-first-refused-end
-    first-refused-requires
+    (λ c. search needs)
+    (λ c κs. search needs)
     returns
     returns-2)

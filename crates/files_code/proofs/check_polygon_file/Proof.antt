@@ -4,12 +4,6 @@ use Rattle.files.specs.Rows.{polygonFileChecked}
 use Rattle.files_code.proofs.check_polygon_file.Statement.{statement}
 use Rattle.files_code.proofs.check_polygon_file.Tie as tie
 
-file-sized-requires : tie.Need-file-sized-requires
-file-sized-requires c κs = search needs
-
-file-polygons-requires : tie.Need-file-polygons-requires
-file-polygons-requires c κs = search needs
-
 returns : tie.Need-returns
 unfolding polygonFileChecked
 returns c = c .file-polygons .ensures ∙ rw (sym (c .before .before .file-sized .ensures) ∙ c .before .if1 .taken)
@@ -20,4 +14,4 @@ returns-2 c = rw (sym (c .before .file-sized .ensures) ∙ c .if1 .left)
 
 pub check-polygon-file-spec : {M : Type 1} → statement M
 check-polygon-file-spec =
-    tie.close (tie.spec file-sized-requires file-polygons-requires returns returns-2)
+    tie.close (tie.spec (λ c κs. search needs) (λ c κs. search needs) returns returns-2)

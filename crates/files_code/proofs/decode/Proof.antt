@@ -23,20 +23,8 @@ loop-holds c =
     let s = c .before in
     lay-start (fileWords (s .args .file .now)) (s .args .out .now) (omega (arith, length-file (s .args .file .now), s .pre))
 
-load-file-word-requires : tie.Need-load-file-word-requires Inv-loop μ-loop
-load-file-word-requires c κs = search needs
-
-mul-w : tie.Need-mul-w Inv-loop μ-loop
-mul-w c = search needs
-
 slice-set-from-w : tie.Need-slice-set-from-w Inv-loop μ-loop
 slice-set-from-w c = omega (arith, c .before .before .loop .inv .long, c .before .loop-test .taken, c .before .before .before .before .pre)
-
-add-i : tie.Need-add-i Inv-loop μ-loop
-add-i c = search needs
-
-loop-less : tie.Need-loop-less Inv-loop μ-loop
-loop-less c = search needs
 
 loop-again : tie.Need-loop-again Inv-loop μ-loop
 loop-again c =
@@ -58,11 +46,11 @@ decode-spec =
     Inv-loop
     μ-loop
     loop-holds
-    load-file-word-requires
-    mul-w
+    (λ c κs. search needs)
+    (λ c. search needs)
     slice-set-from-w
-    add-i
-    loop-less
+    (λ c. search needs)
+    (λ c. search needs)
     loop-again
     same-length
     returns)

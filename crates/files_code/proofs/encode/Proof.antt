@@ -16,22 +16,10 @@ abbrev μ-loop : tie.MeasureT-loop
 loop-holds : tie.Need-loop-holds Inv-loop μ-loop
 loop-holds c = let s = c .before in store-start (s .args .words .now) (s .args .out .now) (s .pre)
 
-mul-w : tie.Need-mul-w Inv-loop μ-loop
-mul-w c = search needs
-
-shared-slice-copy-out-w : tie.Need-shared-slice-copy-out-w Inv-loop μ-loop
-shared-slice-copy-out-w c = search needs
-
 store-word-requires : tie.Need-store-word-requires Inv-loop μ-loop
 store-word-requires c κs =
     let h = c .before .before .before .loop .inv in
     omega (arith, h .long, h .room, c .before .before .loop-test .taken)
-
-add-i : tie.Need-add-i Inv-loop μ-loop
-add-i c = search needs
-
-loop-less : tie.Need-loop-less Inv-loop μ-loop
-loop-less c = search needs
 
 loop-again : tie.Need-loop-again Inv-loop μ-loop
 loop-again c =
@@ -51,11 +39,11 @@ encode-spec =
     Inv-loop
     μ-loop
     loop-holds
-    mul-w
-    shared-slice-copy-out-w
+    (λ c. search needs)
+    (λ c. search needs)
     store-word-requires
-    add-i
-    loop-less
+    (λ c. search needs)
+    (λ c. search needs)
     loop-again
     same-length
     returns)

@@ -26,17 +26,8 @@ module _ (c : tie.After-known-told2) where
   in-file : 2 * c .before .d2 .given .0 .0 + 1 ≤ length (c .before .before .before .before .before .before .args .file .now) / 4
   in-file = omega (arith, is-right .fit, length-file (c .before .before .before .before .before .before .args .file .now))
 
-layer-format-requires : tie.Need-layer-format-requires
-layer-format-requires c κs = search needs
-
 file-directory-requires : tie.Need-file-directory-requires
 file-directory-requires c κs = rw (c .layer-format .ensures) layer-modest
-
-enum-known-d : tie.Need-enum-known-d
-enum-known-d c = search needs
-
-enum-known-d-2 : tie.Need-enum-known-d-2
-enum-known-d-2 c = search needs
 
 mul-start : tie.Need-mul-start
 mul-start c = record { fits = omega (arith, is-right c .most) }
@@ -52,12 +43,6 @@ sub-body-refused c = omega (arith, in-file c)
 
 part-body-refused-start : tie.Need-part-body-refused-start
 part-body-refused-start c = omega (arith, in-file c)
-
-part-body-refused-end : tie.Need-part-body-refused-end
-part-body-refused-end c = search needs
-
-body-refused-requires : tie.Need-body-refused-requires
-body-refused-requires c κs = search needs
 
 returns : tie.Need-returns
 returns c =
@@ -76,16 +61,16 @@ pub file-layers-spec : {M : Type 1} → statement M
 file-layers-spec =
     tie.close
     (tie.spec
-    layer-format-requires
+    (λ c κs. search needs)
     file-directory-requires
-    enum-known-d
-    enum-known-d-2
+    (λ c. search needs)
+    (λ c. search needs)
     mul-start
     add-start
     mul-start-2
     sub-body-refused
     part-body-refused-start
-    part-body-refused-end
-    body-refused-requires
+    (λ c. search needs)
+    (λ c κs. search needs)
     returns
     returns-2)

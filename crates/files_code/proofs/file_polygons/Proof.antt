@@ -7,17 +7,8 @@ use Rattle.files.proofs.Layers.{polygon-modest}
 use Rattle.files_code.proofs.file_polygons.Statement.{statement}
 use Rattle.files_code.proofs.file_polygons.Tie as tie
 
-polygon-format-requires : tie.Need-polygon-format-requires
-polygon-format-requires c κs = search needs
-
 file-directory-requires : tie.Need-file-directory-requires
 file-directory-requires c κs = rw (c .polygon-format .ensures) polygon-modest
-
-enum-known-d : tie.Need-enum-known-d
-enum-known-d c = search needs
-
-enum-known-d-2 : tie.Need-enum-known-d-2
-enum-known-d-2 c = search needs
 
 polygons-on-grid-requires : tie.Need-polygons-on-grid-requires
 polygons-on-grid-requires c κs =
@@ -41,10 +32,10 @@ pub file-polygons-spec : {M : Type 1} → statement M
 file-polygons-spec =
     tie.close
     (tie.spec
-    polygon-format-requires
+    (λ c κs. search needs)
     file-directory-requires
-    enum-known-d
-    enum-known-d-2
+    (λ c. search needs)
+    (λ c. search needs)
     polygons-on-grid-requires
     returns
     returns-2)

@@ -8,12 +8,6 @@ use Rattle.files.proofs.Bounds.{units-count}
 use Rattle.files_code.proofs.file_trapezoids.Statement.{statement}
 use Rattle.files_code.proofs.file_trapezoids.Tie as tie
 
-word-at-requires : tie.Need-word-at-requires
-word-at-requires c κs = search needs
-
-amount-of-requires : tie.Need-amount-of-requires
-amount-of-requires c κs = search needs
-
 mul-start : tie.Need-mul-start
 mul-start c =
     let s = c .before .before .before in
@@ -40,4 +34,4 @@ returns c =
 
 pub file-trapezoids-spec : {M : Type 1} → statement M
 file-trapezoids-spec =
-    tie.close (tie.spec word-at-requires amount-of-requires mul-start add-start sub-result returns)
+    tie.close (tie.spec (λ c κs. search needs) (λ c κs. search needs) mul-start add-start sub-result returns)

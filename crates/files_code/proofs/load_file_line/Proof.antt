@@ -4,27 +4,6 @@ use borrow.Author.Needs.{needs, sfits-of}
 use Rattle.files_code.proofs.load_file_line.Statement.{statement}
 use Rattle.files_code.proofs.load_file_line.Tie as tie
 
-load-file-word-requires : tie.Need-load-file-word-requires
-load-file-word-requires c κs = search needs
-
-add-load-file-word : tie.Need-add-load-file-word
-add-load-file-word c = search needs
-
-load-file-word-requires-2 : tie.Need-load-file-word-requires-2
-load-file-word-requires-2 c κs = search needs
-
-add-load-file-word-2 : tie.Need-add-load-file-word-2
-add-load-file-word-2 c = search needs
-
-load-file-word-requires-3 : tie.Need-load-file-word-requires-3
-load-file-word-requires-3 c κs = search needs
-
-add-load-file-word-3 : tie.Need-add-load-file-word-3
-add-load-file-word-3 c = search needs
-
-load-file-word-requires-4 : tie.Need-load-file-word-requires-4
-load-file-word-requires-4 c κs = search needs
-
 returns : tie.Need-returns
 returns c =
     let p = toZ-ofZ (sfits-of (c .before .before .before .load-file-word .ok)) ∙ c .before .before .before .load-file-word .ensures in
@@ -37,11 +16,11 @@ pub load-file-line-spec : {M : Type 1} → statement M
 load-file-line-spec =
     tie.close
     (tie.spec
-    load-file-word-requires
-    add-load-file-word
-    load-file-word-requires-2
-    add-load-file-word-2
-    load-file-word-requires-3
-    add-load-file-word-3
-    load-file-word-requires-4
+    (λ c κs. search needs)
+    (λ c. search needs)
+    (λ c κs. search needs)
+    (λ c. search needs)
+    (λ c κs. search needs)
+    (λ c. search needs)
+    (λ c κs. search needs)
     returns)

@@ -36,9 +36,6 @@ mul-x c =
     let s = c .before .before .before .before .before .before in
     record { fits = omega (arith, l .loop-test .taken, s .pre .2) }
 
-mul-x-2 : tie.Need-mul-x-2 Inv-loop μ-loop
-mul-x-2 c = search needs
-
 slice-set-from-x : tie.Need-slice-set-from-x Inv-loop μ-loop
 slice-set-from-x c =
     let l = c .before .before .before in
@@ -57,9 +54,6 @@ add-y c =
     let s = c .before .before .before .before .before .before in
     record { fits = omega (arith, l .loop-test .taken, s .pre .2) }
 
-mul-y-2 : tie.Need-mul-y-2 Inv-loop μ-loop
-mul-y-2 c = search needs
-
 slice-set-from-y : tie.Need-slice-set-from-y Inv-loop μ-loop
 slice-set-from-y c =
     let v = c .before .before in
@@ -67,12 +61,6 @@ slice-set-from-y c =
     let s = c .before .before .before .before .before .before in
     let m = length-set (l .before .loop .words) (2 * l .before .loop .k) (toZ w32 (ofZ w32 (v .polygon-vertex .result .x))) in
     omega (arith, m, l .loop-test .taken, l .before .loop .inv .long, s .pre .2, s .pre .4)
-
-add-k : tie.Need-add-k Inv-loop μ-loop
-add-k c = search needs
-
-loop-less : tie.Need-loop-less Inv-loop μ-loop
-loop-less c = search needs
 
 loop-again : tie.Need-loop-again Inv-loop μ-loop
 loop-again c =
@@ -97,14 +85,14 @@ load-polygon-spec =
     add-polygon-vertex
     polygon-vertex-requires
     mul-x
-    mul-x-2
+    (λ c. search needs)
     slice-set-from-x
     mul-y
     add-y
-    mul-y-2
+    (λ c. search needs)
     slice-set-from-y
-    add-k
-    loop-less
+    (λ c. search needs)
+    (λ c. search needs)
     loop-again
     same-length
     returns)

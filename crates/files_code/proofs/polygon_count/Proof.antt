@@ -9,9 +9,6 @@ use Rattle.files_code.proofs.polygon_count.Tie as tie
 word-at-requires : tie.Need-word-at-requires
 word-at-requires c κs = let s = c .before in omega (arith, in-directory (s .args .file .now) (s .pre))
 
-amount-of-requires : tie.Need-amount-of-requires
-amount-of-requires c κs = search needs
-
 returns : tie.Need-returns
 returns c =
     let s = c .before .before .before in
@@ -19,4 +16,4 @@ returns c =
     (e, omega (arith, e, few (s .args .file .now) (s .pre)))
 
 pub polygon-count-spec : {M : Type 1} → statement M
-polygon-count-spec = tie.close (tie.spec word-at-requires amount-of-requires returns)
+polygon-count-spec = tie.close (tie.spec word-at-requires (λ c κs. search needs) returns)

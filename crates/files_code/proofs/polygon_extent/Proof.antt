@@ -22,9 +22,6 @@ word-at-requires c κs =
     let s = c .before in
     omega (arith, in-directory (s .args .file .now) (s .pre .0), s .pre .1)
 
-amount-of-requires : tie.Need-amount-of-requires
-amount-of-requires c κs = search needs
-
 mul-word-at-2 : tie.Need-mul-word-at-2
 mul-word-at-2 c =
     let s = c .before .before .before in
@@ -40,9 +37,6 @@ word-at-requires-2 c κs =
     let s = c .before .before .before in
     omega (arith, in-directory (s .args .file .now) (s .pre .0), s .pre .1)
 
-amount-of-requires-2 : tie.Need-amount-of-requires-2
-amount-of-requires-2 c κs = search needs
-
 returns : tie.Need-returns
 returns c =
     let s = c .before .before .before .before .before in
@@ -55,9 +49,9 @@ polygon-extent-spec =
     mul-word-at
     add-word-at
     word-at-requires
-    amount-of-requires
+    (λ c κs. search needs)
     mul-word-at-2
     add-word-at-2
     word-at-requires-2
-    amount-of-requires-2
+    (λ c κs. search needs)
     returns)

@@ -28,12 +28,6 @@ returns c =
     let s = c .before .before .before .before .before in
     pass-fail (vertexOnGrid (s .args .limit)) (fileWords (s .args .body .now)) (s .args .from) (s .args .to) (c .before .before .before .loop .inv) (c .before .before .loop-test .taken) (sym (c .before .vertex-on-grid .ensures) ∙ not-true (c .before .vertex-on-grid .result) (c .if1 .taken))
 
-add-i : tie.Need-add-i Inv-loop μ-loop
-add-i c = search needs
-
-loop-less : tie.Need-loop-less Inv-loop μ-loop
-loop-less c = search needs
-
 loop-again : tie.Need-loop-again Inv-loop μ-loop
 loop-again c =
     let s = c .before .before .before .before .before in
@@ -53,7 +47,7 @@ polygon-on-grid-spec =
     loop-holds
     vertex-on-grid-requires
     returns
-    add-i
-    loop-less
+    (λ c. search needs)
+    (λ c. search needs)
     loop-again
     returns-2)

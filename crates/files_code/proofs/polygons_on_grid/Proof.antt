@@ -45,9 +45,6 @@ add-word-at c = record { fits = omega (arith, is-right (c .before .before .befor
 word-at-requires : tie.Need-word-at-requires Inv-loop μ-loop
 word-at-requires c κs = omega (arith, in-file (c .before .before .before .args .file .now) (is-right (c .before .before .before)), c .loop-test .taken)
 
-amount-of-requires : tie.Need-amount-of-requires Inv-loop μ-loop
-amount-of-requires c κs = search needs
-
 add-to : tie.Need-add-to Inv-loop μ-loop
 add-to c =
     let u = in-units (c .before .before .before .loop .inv) (c .before .before .loop-test .taken) in
@@ -59,9 +56,6 @@ sub-polygon-on-grid c = omega (arith, in-file (c .before .before .before .before
 
 part-polygon-on-grid-start : tie.Need-part-polygon-on-grid-start Inv-loop μ-loop
 part-polygon-on-grid-start c = omega (arith, in-file (c .before .before .before .before .before .args .file .now) (is-right (c .before .before .before .before .before)))
-
-part-polygon-on-grid-end : tie.Need-part-polygon-on-grid-end Inv-loop μ-loop
-part-polygon-on-grid-end c = search needs
 
 polygon-on-grid-requires : tie.Need-polygon-on-grid-requires Inv-loop μ-loop
 polygon-on-grid-requires c κs =
@@ -80,12 +74,6 @@ returns c =
     let l = k .before .before .loop-test .taken in
     let e = ap (λ (m : ℕ). k .before .before .before .loop .from + m) (k .amount-of .ensures ∙ ap amountOf (k .before .word-at .ensures)) in
     cut-off h l e (file-body (s .args .file .now) (is-right s)) (sym (c .before .polygon-on-grid .ensures) ∙ not-true (c .before .polygon-on-grid .result) (c .if1 .taken))
-
-add-i : tie.Need-add-i Inv-loop μ-loop
-add-i c = search needs
-
-loop-less : tie.Need-loop-less Inv-loop μ-loop
-loop-less c = search needs
 
 loop-again : tie.Need-loop-again Inv-loop μ-loop
 loop-again c =
@@ -112,14 +100,14 @@ polygons-on-grid-spec =
     mul-word-at
     add-word-at
     word-at-requires
-    amount-of-requires
+    (λ c κs. search needs)
     add-to
     sub-polygon-on-grid
     part-polygon-on-grid-start
-    part-polygon-on-grid-end
+    (λ c. search needs)
     polygon-on-grid-requires
     returns
-    add-i
-    loop-less
+    (λ c. search needs)
+    (λ c. search needs)
     loop-again
     returns-2)

@@ -5,27 +5,6 @@ use Rattle.files.proofs.Polygons.{vertex-off, vertex-by}
 use Rattle.files_code.proofs.vertex_on_grid.Statement.{statement}
 use Rattle.files_code.proofs.vertex_on_grid.Tie as tie
 
-mul-word-at : tie.Need-mul-word-at
-mul-word-at c = search needs
-
-word-at-requires : tie.Need-word-at-requires
-word-at-requires c κs = search needs
-
-within-requires : tie.Need-within-requires
-within-requires c κs = search needs
-
-mul-word-at-2 : tie.Need-mul-word-at-2
-mul-word-at-2 c = search needs
-
-add-word-at : tie.Need-add-word-at
-add-word-at c = search needs
-
-word-at-requires-2 : tie.Need-word-at-requires-2
-word-at-requires-2 c κs = search needs
-
-within-requires-2 : tie.Need-within-requires-2
-within-requires-2 c κs = search needs
-
 returns : tie.Need-returns
 returns c =
     let k = c .before .before in
@@ -41,12 +20,12 @@ pub vertex-on-grid-spec : {M : Type 1} → statement M
 vertex-on-grid-spec =
     tie.close
     (tie.spec
-    mul-word-at
-    word-at-requires
-    within-requires
-    mul-word-at-2
-    add-word-at
-    word-at-requires-2
-    within-requires-2
+    (λ c. search needs)
+    (λ c κs. search needs)
+    (λ c κs. search needs)
+    (λ c. search needs)
+    (λ c. search needs)
+    (λ c κs. search needs)
+    (λ c κs. search needs)
     returns
     returns-2)

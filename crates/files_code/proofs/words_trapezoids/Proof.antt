@@ -7,12 +7,6 @@ use Rattle.files.proofs.Bounds.{units-count}
 use Rattle.files_code.proofs.words_trapezoids.Statement.{statement}
 use Rattle.files_code.proofs.words_trapezoids.Tie as tie
 
-get-requires : tie.Need-get-requires
-get-requires c κs = search needs
-
-amount-of-requires : tie.Need-amount-of-requires
-amount-of-requires c κs = search needs
-
 mul-start : tie.Need-mul-start
 mul-start c =
     let s = c .before .before in
@@ -39,4 +33,4 @@ returns c =
 
 pub words-trapezoids-spec : {M : Type 1} → statement M
 words-trapezoids-spec =
-    tie.close (tie.spec get-requires amount-of-requires mul-start add-start sub-result returns)
+    tie.close (tie.spec (λ c κs. search needs) (λ c κs. search needs) mul-start add-start sub-result returns)

@@ -23,26 +23,11 @@ load-requires c κs = omega (arith, c .loop-test .taken)
 judge-requires : tie.Need-judge-requires Inv-loop μ-loop
 judge-requires c κs = c .before .before .before .pre .0
 
-enum-told : tie.Need-enum-told Inv-loop μ-loop
-enum-told c = search needs
-
-enum-known-v : tie.Need-enum-known-v Inv-loop μ-loop
-enum-known-v c = search needs
-
-add-t11 : tie.Need-add-t11 Inv-loop μ-loop
-add-t11 c = search needs
-
 returns : tie.Need-returns Inv-loop μ-loop
 returns c =
     let l = c .before .before .before .before .before .loop-test .taken in
     let j = c .before .before .before .judge in
     refused (c .before .before .before .before .before .before .loop .inv) l (ap (verdict _) (sym (c .before .before .before .before .load .ensures)) ∙ sym (j .ensures) ∙ c .before .v .given .1)
-
-add-i : tie.Need-add-i Inv-loop μ-loop
-add-i c = search needs
-
-loop-less : tie.Need-loop-less Inv-loop μ-loop
-loop-less c = search needs
 
 loop-again : tie.Need-loop-again Inv-loop μ-loop
 loop-again c =
@@ -56,4 +41,4 @@ returns-2 c = passed (c .before .loop .inv) (c .loop-test .left)
 pub first-refused-spec : {M : Type 1} → statement M
 first-refused-spec =
     tie.close
-    (tie.spec Inv-loop μ-loop loop-holds load-requires judge-requires enum-told enum-known-v add-t11 returns add-i loop-less loop-again returns-2)
+    (tie.spec Inv-loop μ-loop loop-holds load-requires judge-requires (λ c. search needs) (λ c. search needs) (λ c. search needs) returns (λ c. search needs) (λ c. search needs) loop-again returns-2)

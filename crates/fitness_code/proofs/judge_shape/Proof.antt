@@ -31,12 +31,6 @@ module _ (c : tie.After-below-between) where
 crossing-of-requires : tie.Need-crossing-of-requires
 crossing-of-requires c κs = let h = c .before .before .before .before .pre in (h .0, h .1 .0)
 
-enum-known-a : tie.Need-enum-known-a
-enum-known-a c = search needs
-
-enum-told : tie.Need-enum-told
-enum-told c = search needs
-
 returns : tie.Need-returns
 returns c =
     let t = c .before .before .before .before .before .before .before .args .t in
@@ -45,12 +39,6 @@ returns c =
 
 crossing-of-requires-2 : tie.Need-crossing-of-requires-2
 crossing-of-requires-2 c κs = let h = c .before .before .before .before .before .before .before .before .pre in (h .1 .1 .0, h .1 .1 .1 .0)
-
-enum-known-b : tie.Need-enum-known-b
-enum-known-b c = search needs
-
-enum-told-2 : tie.Need-enum-told-2
-enum-told-2 c = search needs
 
 returns-2 : tie.Need-returns-2
 returns-2 c =
@@ -86,4 +74,4 @@ returns-5 c =
 pub judge-shape-spec : {M : Type 1} → statement M
 judge-shape-spec =
     tie.close
-    (tie.spec crossing-of-requires enum-known-a enum-told returns crossing-of-requires-2 enum-known-b enum-told-2 returns-2 is-before-requires below-between-requires returns-3 returns-4 returns-5)
+    (tie.spec crossing-of-requires (λ c. search needs) (λ c. search needs) returns crossing-of-requires-2 (λ c. search needs) (λ c. search needs) returns-2 is-before-requires below-between-requires returns-3 returns-4 returns-5)

@@ -19,9 +19,6 @@ Inv-loop v out₀ room at left right g₀ lower₀ started₀ begun₀ n₀ out 
 abbrev μ-loop : tie.MeasureT-loop
 μ-loop v out₀ room at left right g₀ lower₀ started₀ begun₀ n₀ out g lower started begun n = groups v left right started g
 
-axis-side-requires : tie.Need-axis-side-requires Inv-loop μ-loop
-axis-side-requires c κs = search needs
-
 loop-holds : tie.Need-loop-holds Inv-loop μ-loop
 loop-holds c =
     let s = c .before .before .before .before in
@@ -31,12 +28,6 @@ next-group-requires : tie.Need-next-group-requires Inv-loop μ-loop
 next-group-requires c κs =
     let s = c .before .before .before .before .before in
     (s .pre .0, s .pre .2 .small, c .loop .inv .grid)
-
-enum-known-next : tie.Need-enum-known-next Inv-loop μ-loop
-enum-known-next c = search needs
-
-enum-told : tie.Need-enum-told Inv-loop μ-loop
-enum-told c = search needs
 
 same-length : tie.Need-same-length Inv-loop μ-loop
 same-length c =
@@ -56,9 +47,6 @@ is-outside-requires c κs =
     let j = k .before .before in
     let s = j .before .before .before .before .before .before in
     (s .pre .0, s .pre .2 .small, group-found _ _ (k .next .given .1) (j .next-group .ensures .grid))
-
-closes-requires : tie.Need-closes-requires Inv-loop μ-loop
-closes-requires c κs = search needs
 
 mul-put-if : tie.Need-mul-put-if Inv-loop μ-loop
 mul-put-if c =
@@ -80,9 +68,6 @@ sub-put-if c =
     let h = l .loop .inv .writing in
     omega (arith, h .long, h .wide, h .upto)
 
-part-put-if-start : tie.Need-part-put-if-start Inv-loop μ-loop
-part-put-if-start c = search needs
-
 part-put-if-end : tie.Need-part-put-if-end Inv-loop μ-loop
 part-put-if-end c =
     let l = c .before .before .before .before .before .before .before .before in
@@ -98,15 +83,6 @@ put-if-requires : tie.Need-put-if-requires Inv-loop μ-loop
 put-if-requires c κs =
     let l = c .before .before .before .before .before .before .before .before .before in
     write-borrowed (l .loop .inv .writing)
-
-enum-known-f : tie.Need-enum-known-f Inv-loop μ-loop
-enum-known-f c = search needs
-
-enum-told-2 : tie.Need-enum-told-2 Inv-loop μ-loop
-enum-told-2 c = search needs
-
-clear-requires : tie.Need-clear-requires Inv-loop μ-loop
-clear-requires c κs = search needs
 
 same-length-2 : tie.Need-same-length-2 Inv-loop μ-loop
 same-length-2 c =
@@ -143,9 +119,6 @@ add-n c =
     let e = stacked-upto (s .args .v) _ _ (s .pre .1) (l .loop .inv) (fractionOf (s .args .p .at)) (s .pre .2 .is) _ (j .next-group .ensures) _ (k .next .given .1) _ _ (u .is-outside .ensures) (w .closes .ensures) _ _ (o .put-if .ensures) _ (b .f .given .1) in
     omega (arith, e, l .loop .inv .writing .wide, s .good .1 .1 .1 .0)
 
-bottom-of-requires : tie.Need-bottom-of-requires Inv-loop μ-loop
-bottom-of-requires c κs = search needs
-
 loop-less : tie.Need-loop-less Inv-loop μ-loop
 loop-less c =
     let k = c .before .before .before .before .before .before .before .before .before .before .before .before in
@@ -172,28 +145,28 @@ fill-column-spec =
     (tie.spec
     Inv-loop
     μ-loop
-    axis-side-requires
+    (λ c κs. search needs)
     loop-holds
     next-group-requires
-    enum-known-next
-    enum-told
+    (λ c. search needs)
+    (λ c. search needs)
     same-length
     returns
     is-outside-requires
-    closes-requires
+    (λ c κs. search needs)
     mul-put-if
     mul-put-if-2
     sub-put-if
-    part-put-if-start
+    (λ c. search needs)
     part-put-if-end
     sub-put-if-2
     put-if-requires
-    enum-known-f
-    enum-told-2
-    clear-requires
+    (λ c. search needs)
+    (λ c. search needs)
+    (λ c κs. search needs)
     same-length-2
     returns-2
     add-n
-    bottom-of-requires
+    (λ c κs. search needs)
     loop-less
     loop-again)

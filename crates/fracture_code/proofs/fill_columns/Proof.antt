@@ -19,9 +19,6 @@ Inv-loop words v limit out₀ room p₀ n₀ out p n = Sweeping limit (polygonOf
 abbrev μ-loop : tie.MeasureT-loop
 μ-loop words v limit out₀ room p₀ n₀ out p n = later limit (polygonOf words) (p .base)
 
-of-requires : tie.Need-of-requires Inv-loop μ-loop
-of-requires c κs = search needs
-
 mark-at-requires : tie.Need-mark-at-requires Inv-loop μ-loop
 mark-at-requires c κs =
     let s = c .before in
@@ -31,12 +28,6 @@ next-event-requires : tie.Need-next-event-requires Inv-loop μ-loop
 next-event-requires c κs =
     let s = c .before .before in
     (s .pre .0, s .pre .1, s .pre .2 .well, c .mark-at .ensures .event)
-
-enum-known-first : tie.Need-enum-known-first Inv-loop μ-loop
-enum-known-first c = search needs
-
-enum-told : tie.Need-enum-told Inv-loop μ-loop
-enum-told c = search needs
 
 returns : tie.Need-returns Inv-loop μ-loop
 returns c =
@@ -57,12 +48,6 @@ next-event-requires-2 : tie.Need-next-event-requires-2 Inv-loop μ-loop
 next-event-requires-2 c κs =
     let s = c .before .before .before .before .before .before .before in
     (s .pre .0, s .pre .1, s .pre .2 .well, c .loop .inv .event)
-
-enum-known-next : tie.Need-enum-known-next Inv-loop μ-loop
-enum-known-next c = search needs
-
-enum-told-2 : tie.Need-enum-told-2 Inv-loop μ-loop
-enum-told-2 c = search needs
 
 same-length : tie.Need-same-length Inv-loop μ-loop
 same-length c =
@@ -96,9 +81,6 @@ sub-fill-column c =
     let h = l .loop .inv .writing in
     omega (arith, h .long, h .wide, h .upto)
 
-part-fill-column-start : tie.Need-part-fill-column-start Inv-loop μ-loop
-part-fill-column-start c = search needs
-
 part-fill-column-end : tie.Need-part-fill-column-end Inv-loop μ-loop
 part-fill-column-end c =
     let l = c .before .before .before .before in
@@ -115,15 +97,6 @@ fill-column-requires c κs =
     let l = c .before .before .before .before .before in
     let s = l .before .before .before .before .before .before .before in
     (s .pre .2 .well, sides-lines (s .args .limit) (polygonOf (s .args .words .now)) (s .args .v) (s .pre .2), l .loop .inv .event, write-borrowed (l .loop .inv .writing))
-
-enum-known-f : tie.Need-enum-known-f Inv-loop μ-loop
-enum-known-f c = search needs
-
-enum-told-3 : tie.Need-enum-told-3 Inv-loop μ-loop
-enum-told-3 c = search needs
-
-clear-requires : tie.Need-clear-requires Inv-loop μ-loop
-clear-requires c κs = search needs
 
 same-length-2 : tie.Need-same-length-2 Inv-loop μ-loop
 same-length-2 c =
@@ -185,28 +158,28 @@ fill-columns-spec =
     (tie.spec
     Inv-loop
     μ-loop
-    of-requires
+    (λ c κs. search needs)
     mark-at-requires
     next-event-requires
-    enum-known-first
-    enum-told
+    (λ c. search needs)
+    (λ c. search needs)
     returns
     loop-holds
     next-event-requires-2
-    enum-known-next
-    enum-told-2
+    (λ c. search needs)
+    (λ c. search needs)
     same-length
     returns-2
     mul-fill-column
     mul-fill-column-2
     sub-fill-column
-    part-fill-column-start
+    (λ c. search needs)
     part-fill-column-end
     sub-fill-column-2
     fill-column-requires
-    enum-known-f
-    enum-told-3
-    clear-requires
+    (λ c. search needs)
+    (λ c. search needs)
+    (λ c κs. search needs)
     same-length-2
     returns-3
     add-n

@@ -7,15 +7,6 @@ use Rattle.fracture_code.proofs.fracture_polygon.Tie as tie
 sides-of-requires : tie.Need-sides-of-requires
 sides-of-requires c κs = (grid-wider (c .args .limit) (polygonOf (c .args .words .now)) (c .pre .1) (c .pre .0), c .pre .2)
 
-fill-columns-requires : tie.Need-fill-columns-requires
-fill-columns-requires c κs = search needs
-
-same-length : tie.Need-same-length
-same-length c = search needs
-
-returns : tie.Need-returns
-returns c = search needs
-
 pub fracture-polygon-spec : {M : Type 1} → statement M
 fracture-polygon-spec =
-    tie.close (tie.spec sides-of-requires fill-columns-requires same-length returns)
+    tie.close (tie.spec sides-of-requires (λ c κs. search needs) (λ c. search needs) (λ c. search needs))

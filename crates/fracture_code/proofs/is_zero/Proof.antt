@@ -6,19 +6,10 @@ use Rattle.fracture_code.proofs.Groups.{zero-negative, zero-positive, z
 use Rattle.fracture_code.proofs.is_zero.Statement.{statement}
 use Rattle.fracture_code.proofs.is_zero.Tie as tie
 
-of-requires : tie.Need-of-requires
-of-requires c κs = search needs
-
-less-requires : tie.Need-less-requires
-less-requires c κs = search needs
-
 returns : tie.Need-returns
 returns c =
     let s = c .before .before .before in
     zero-negative (s .args .x .v) (sym (c .before .less .ensures ∙ ap (ltZ (s .args .x .v)) (c .before .before .of .ensures .0)) ∙ c .if1 .taken)
-
-less-requires-2 : tie.Need-less-requires-2
-less-requires-2 c κs = search needs
 
 returns-2 : tie.Need-returns-2
 returns-2 c =
@@ -34,4 +25,4 @@ returns-3 c =
 
 pub is-zero-spec : {M : Type 1} → statement M
 is-zero-spec =
-    tie.close (tie.spec of-requires less-requires returns less-requires-2 returns-2 returns-3)
+    tie.close (tie.spec (λ c κs. search needs) (λ c κs. search needs) returns (λ c κs. search needs) returns-2 returns-3)

@@ -6,12 +6,6 @@ use Rattle.fracture_code.proofs.Groups.{group-at, lowest-none, lowest-n
 use Rattle.fracture_code.proofs.lowest.Statement.{statement}
 use Rattle.fracture_code.proofs.lowest.Tie as tie
 
-enum-known-best : tie.Need-enum-known-best
-enum-known-best c = search needs
-
-enum-told : tie.Need-enum-told
-enum-told c = search needs
-
 returns : tie.Need-returns
 returns c =
     let s = c .before .before in
@@ -37,4 +31,4 @@ returns-3 c =
 
 pub lowest-spec : {M : Type 1} → statement M
 lowest-spec =
-    tie.close (tie.spec enum-known-best enum-told returns is-below-requires returns-2 returns-3)
+    tie.close (tie.spec (λ c. search needs) (λ c. search needs) returns is-below-requires returns-2 returns-3)

@@ -16,9 +16,6 @@ abbrev μ-loop : tie.MeasureT-loop
 loop-holds : tie.Need-loop-holds Inv-loop μ-loop
 loop-holds c = let s = c .before in looking-start (s .args .v) (fractionOf (s .args .at)) (past (s .args .started) (s .args .g)) (s .pre .0)
 
-mul-e : tie.Need-mul-e Inv-loop μ-loop
-mul-e c = search needs
-
 array-copy-out-e : tie.Need-array-copy-out-e Inv-loop μ-loop
 array-copy-out-e c = omega (arith, c .before .loop .inv .well .few, c .loop-test .taken)
 
@@ -27,12 +24,6 @@ with-side-requires c κs =
     let h = c .before .before .loop .inv in
     let s = c .before .before .before .before in
     (h .grid, s .pre .2, looking-grid _ _ _ _ _ h _ (c .before .loop-test .taken), s .pre .1)
-
-add-i : tie.Need-add-i Inv-loop μ-loop
-add-i c = search needs
-
-loop-less : tie.Need-loop-less Inv-loop μ-loop
-loop-less c = search needs
 
 loop-again : tie.Need-loop-again Inv-loop μ-loop
 loop-again c = looking-next _ _ _ _ _ (c .before .before .before .loop .inv) _ (c .before .before .loop-test .taken) _ (c .with-side .ensures)
@@ -47,10 +38,10 @@ next-group-spec =
     Inv-loop
     μ-loop
     loop-holds
-    mul-e
+    (λ c. search needs)
     array-copy-out-e
     with-side-requires
-    add-i
-    loop-less
+    (λ c. search needs)
+    (λ c. search needs)
     loop-again
     returns)

@@ -11,9 +11,6 @@ Inv-loop words n v₀ k₀ v k = Building words v k
 abbrev μ-loop : tie.MeasureT-loop
 μ-loop words n v₀ k₀ v k = n - k
 
-no-sides-requires : tie.Need-no-sides-requires Inv-loop μ-loop
-no-sides-requires c κs = search needs
-
 returns : tie.Need-returns Inv-loop μ-loop
 returns c =
     let s = c .before .before in
@@ -62,7 +59,7 @@ sides-of-spec =
     (tie.spec
     Inv-loop
     μ-loop
-    no-sides-requires
+    (λ c κs. search needs)
     returns
     loop-holds
     add-loop

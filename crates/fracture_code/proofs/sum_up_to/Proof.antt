@@ -12,14 +12,8 @@ Inv-loop at g list n sum₀ i₀ sum i = Adding (record { n = n; list = list }) 
 abbrev μ-loop : tie.MeasureT-loop
 μ-loop at g list n sum₀ i₀ sum i = n - i
 
-of-requires : tie.Need-of-requires Inv-loop μ-loop
-of-requires c κs = search needs
-
 loop-holds : tie.Need-loop-holds Inv-loop μ-loop
 loop-holds c = let s = c .before .before in adding-start (s .args .v) (fractionOf (s .args .at)) (s .args .g) (s .pre .0) _ (c .of .ensures .0)
-
-mul-e : tie.Need-mul-e Inv-loop μ-loop
-mul-e c = search needs
 
 array-copy-out-e : tie.Need-array-copy-out-e Inv-loop μ-loop
 array-copy-out-e c = omega (arith, c .before .loop .inv .well .few, c .loop-test .taken)
@@ -29,12 +23,6 @@ with-direction-requires c κs =
     let h = c .before .before .loop .inv in
     let s = c .before .before .before .before .before in
     (omega (arith, h .small, h .well .few, c .before .loop-test .taken), s .pre .2, adding-grid _ _ _ _ _ h _ (c .before .loop-test .taken), s .pre .1)
-
-add-i : tie.Need-add-i Inv-loop μ-loop
-add-i c = search needs
-
-loop-less : tie.Need-loop-less Inv-loop μ-loop
-loop-less c = search needs
 
 loop-again : tie.Need-loop-again Inv-loop μ-loop
 loop-again c = adding-next _ _ _ _ _ (c .before .before .before .loop .inv) _ (c .before .before .loop-test .taken) _ (c .with-direction .ensures)
@@ -48,12 +36,12 @@ sum-up-to-spec =
     (tie.spec
     Inv-loop
     μ-loop
-    of-requires
+    (λ c κs. search needs)
     loop-holds
-    mul-e
+    (λ c. search needs)
     array-copy-out-e
     with-direction-requires
-    add-i
-    loop-less
+    (λ c. search needs)
+    (λ c. search needs)
     loop-again
     returns)

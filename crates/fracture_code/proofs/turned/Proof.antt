@@ -4,19 +4,10 @@ use Rattle.fracture_code.proofs.Groups.{turned-right, turned-left}
 use Rattle.fracture_code.proofs.turned.Statement.{statement}
 use Rattle.fracture_code.proofs.turned.Tie as tie
 
-of-requires : tie.Need-of-requires
-of-requires c κs = search needs
-
-add-requires : tie.Need-add-requires
-add-requires c κs = search needs
-
 returns : tie.Need-returns
 returns c =
     let s = c .before .before .before in
     (turned-right (s .args .rightward) (s .args .sum .v) _ _ (c .before .if1 .taken) (c .before .before .of .ensures .0) (c .add .ensures .0), omega (arith, c .add .ensures .1, c .before .before .of .ensures .1))
-
-sub-requires : tie.Need-sub-requires
-sub-requires c κs = search needs
 
 returns-2 : tie.Need-returns-2
 returns-2 c =
@@ -24,4 +15,4 @@ returns-2 c =
     (turned-left (s .args .rightward) (s .args .sum .v) _ _ (c .before .if1 .left) (c .before .before .of .ensures .0) (c .sub .ensures .0), omega (arith, c .sub .ensures .1, c .before .before .of .ensures .1))
 
 pub turned-spec : {M : Type 1} → statement M
-turned-spec = tie.close (tie.spec of-requires add-requires returns sub-requires returns-2)
+turned-spec = tie.close (tie.spec (λ c κs. search needs) (λ c κs. search needs) returns (λ c κs. search needs) returns-2)

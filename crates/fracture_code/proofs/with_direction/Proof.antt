@@ -5,20 +5,11 @@ use Rattle.fracture_code.proofs.Groups.{direction-off, direction-above,
 use Rattle.fracture_code.proofs.with_direction.Statement.{statement}
 use Rattle.fracture_code.proofs.with_direction.Tie as tie
 
-is-spanning-requires : tie.Need-is-spanning-requires
-is-spanning-requires c κs = search needs
-
-is-below-requires : tie.Need-is-below-requires
-is-below-requires c κs = search needs
-
 returns : tie.Need-returns
 returns c =
     let w = c .before .before in
     let s = w .before .before in
     direction-above (s .args .sum) (s .args .g) (fractionOf (s .args .at)) (s .args .e) (sym (w .before .is-spanning .ensures) ∙ w .if1 .taken) (sym (c .before .is-below .ensures) ∙ c .if2 .taken)
-
-turned-requires : tie.Need-turned-requires
-turned-requires c κs = search needs
 
 returns-2 : tie.Need-returns-2
 returns-2 c =
@@ -34,4 +25,4 @@ returns-3 c =
 pub with-direction-spec : {M : Type 1} → statement M
 with-direction-spec =
     tie.close
-    (tie.spec is-spanning-requires is-below-requires returns turned-requires returns-2 returns-3)
+    (tie.spec (λ c κs. search needs) (λ c κs. search needs) returns (λ c κs. search needs) returns-2 returns-3)

@@ -6,18 +6,6 @@ use Rattle.fracture_code.proofs.Building.{grid-through, longer-right, l
 use Rattle.fracture_code.proofs.with_edge.Statement.{statement}
 use Rattle.fracture_code.proofs.with_edge.Tie as tie
 
-get-requires : tie.Need-get-requires
-get-requires c κs = search needs
-
-get-requires-2 : tie.Need-get-requires-2
-get-requires-2 c κs = search needs
-
-less-requires : tie.Need-less-requires
-less-requires c κs = search needs
-
-line-between-requires : tie.Need-line-between-requires
-line-between-requires c κs = search needs
-
 with-line-requires : tie.Need-with-line-requires
 with-line-requires c κs =
     let s = c .before .before .before .before .before in
@@ -32,12 +20,6 @@ returns c =
     let x = y .before in
     let s = x .before in
     longer-right (s .args .v) (vertexAt (s .args .words .now) (s .args .a)) (vertexAt (s .args .words .now) (s .args .b)) _ (m .line-between .ensures) (sym (t .less .ensures ∙ (λ z. ltZ (x .get .ensures .0 z) (y .get2 .ensures .0 z))) ∙ i .if1 .taken) _ (c .with-line .ensures)
-
-less-requires-2 : tie.Need-less-requires-2
-less-requires-2 c κs = search needs
-
-line-between-requires-2 : tie.Need-line-between-requires-2
-line-between-requires-2 c κs = search needs
 
 with-line-requires-2 : tie.Need-with-line-requires-2
 with-line-requires-2 c κs =
@@ -70,14 +52,14 @@ pub with-edge-spec : {M : Type 1} → statement M
 with-edge-spec =
     tie.close
     (tie.spec
-    get-requires
-    get-requires-2
-    less-requires
-    line-between-requires
+    (λ c κs. search needs)
+    (λ c κs. search needs)
+    (λ c κs. search needs)
+    (λ c κs. search needs)
     with-line-requires
     returns
-    less-requires-2
-    line-between-requires-2
+    (λ c κs. search needs)
+    (λ c κs. search needs)
     with-line-requires-2
     returns-2
     returns-3)

@@ -3,17 +3,8 @@ use Rattle.fracture_code.proofs.Building.{longer-line}
 use Rattle.fracture_code.proofs.with_line.Statement.{statement}
 use Rattle.fracture_code.proofs.with_line.Tie as tie
 
-mul-list : tie.Need-mul-list
-mul-list c = search needs
-
-array-set-from-list : tie.Need-array-set-from-list
-array-set-from-list c = search needs
-
-add-t7 : tie.Need-add-t7
-add-t7 c = search needs
-
 returns : tie.Need-returns
 returns c = let s = c .before in longer-line (s .args .v) (s .pre .0) (s .pre .1) _ (s .pre .2)
 
 pub with-line-spec : {M : Type 1} → statement M
-with-line-spec = tie.close (tie.spec mul-list array-set-from-list add-t7 returns)
+with-line-spec = tie.close (tie.spec (λ c. search needs) (λ c. search needs) (λ c. search needs) returns)

@@ -5,15 +5,6 @@ use Rattle.fracture_code.proofs.Groups.{side-off, side-free, side-above
 use Rattle.fracture_code.proofs.with_side.Statement.{statement}
 use Rattle.fracture_code.proofs.with_side.Tie as tie
 
-is-spanning-requires : tie.Need-is-spanning-requires
-is-spanning-requires c κs = search needs
-
-is-below-requires : tie.Need-is-below-requires
-is-below-requires c κs = search needs
-
-lowest-requires : tie.Need-lowest-requires
-lowest-requires c κs = search needs
-
 returns : tie.Need-returns
 returns c =
     let w = c .before .before .before in
@@ -25,9 +16,6 @@ returns-2 c =
     let w = c .before .before in
     let s = w .before .before .before in
     side-under (fractionOf (s .args .at)) (s .args .best) (s .args .e) (s .args .started) (s .args .g) (s .args .best) (sym (w .before .before .is-spanning .ensures) ∙ w .before .if1 .taken) (w .if2 .taken) (sym (c .before .is-below .ensures) ∙ c .if3 .left) (s .pre .0)
-
-lowest-requires-2 : tie.Need-lowest-requires-2
-lowest-requires-2 c κs = search needs
 
 returns-3 : tie.Need-returns-3
 returns-3 c =
@@ -44,11 +32,11 @@ pub with-side-spec : {M : Type 1} → statement M
 with-side-spec =
     tie.close
     (tie.spec
-    is-spanning-requires
-    is-below-requires
-    lowest-requires
+    (λ c κs. search needs)
+    (λ c κs. search needs)
+    (λ c κs. search needs)
     returns
     returns-2
-    lowest-requires-2
+    (λ c κs. search needs)
     returns-3
     returns-4)

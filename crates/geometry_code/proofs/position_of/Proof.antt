@@ -11,12 +11,6 @@ use Rattle.geometry_code.proofs.position_of.Tie as tie
 crossing-of-requires : tie.Need-crossing-of-requires
 crossing-of-requires c κs = (c .pre .0, c .pre .1)
 
-enum-known-c : tie.Need-enum-known-c
-enum-known-c c = search needs
-
-enum-told : tie.Need-enum-told
-enum-told c = search needs
-
 of-requires : tie.Need-of-requires
 of-requires c κs = tt
 
@@ -38,4 +32,4 @@ returns-2 c =
     absurd (T-not (crosses (s .args .b .first) (s .args .b .second)) (is-false f) (s .pre .2))
 
 pub position-of-spec : {M : Type 1} → statement M
-position-of-spec = tie.close (tie.spec crossing-of-requires enum-known-c enum-told of-requires of-requires-2 returns returns-2)
+position-of-spec = tie.close (tie.spec crossing-of-requires (λ c. search needs) (λ c. search needs) of-requires of-requires-2 returns returns-2)

@@ -17,20 +17,11 @@ compare-products-requires c κs =
     let x = c .before .pre .2 in
     ((x .num-small, k .det-small), (k .numer-small, x .den-small))
 
-enum-told : tie.Need-enum-told
-enum-told c = search needs
-
-enum-told-2 : tie.Need-enum-told-2
-enum-told-2 c = search needs
-
 of-requires : tie.Need-of-requires
 of-requires c κs = tt
 
 compare-requires : tie.Need-compare-requires
 compare-requires c κs = tt
-
-enum-told-3 : tie.Need-enum-told-3
-enum-told-3 c = search needs
 
 returns : tie.Need-returns
 unfolding heights
@@ -62,4 +53,4 @@ returns-3 c =
 pub right-order-spec : {M : Type 1} → statement M
 right-order-spec =
     tie.close
-    (tie.spec meeting-of-requires compare-products-requires enum-told enum-told-2 of-requires compare-requires enum-told-3 returns returns-2 returns-3)
+    (tie.spec meeting-of-requires compare-products-requires (λ c. search needs) (λ c. search needs) of-requires compare-requires (λ c. search needs) returns returns-2 returns-3)

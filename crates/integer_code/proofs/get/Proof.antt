@@ -12,15 +12,6 @@ use Rattle.integer_code.proofs.Word.{with}
 use Rattle.integer_code.proofs.get.Statement.{statement}
 use Rattle.integer_code.proofs.get.Tie as tie
 
-mul-x : tie.Need-mul-x
-mul-x c = search needs
-
-shared-slice-copy-out-x : tie.Need-shared-slice-copy-out-x
-shared-slice-copy-out-x c = search needs
-
-widen-requires : tie.Need-widen-requires
-widen-requires c κs = search needs
-
 returns : tie.Need-returns
 returns c =
     let s = c .before .before .args in
@@ -29,4 +20,4 @@ returns c =
     with (λ (r : ℤ). natAbs r ≤ limit32) (c .widen .ensures .0 ∙ toZ-ofZ f) (natAbs-le x (f .sfits))
 
 pub get-spec : {M : Type 1} → statement M
-get-spec = tie.close (tie.spec mul-x shared-slice-copy-out-x widen-requires returns)
+get-spec = tie.close (tie.spec (λ c. search needs) (λ c. search needs) (λ c κs. search needs) returns)

@@ -7,11 +7,8 @@ use borrow.Author.Needs.{needs}
 use Rattle.integer_code.proofs.natural.Statement.{statement}
 use Rattle.integer_code.proofs.natural.Tie as tie
 
-cast-t2 : tie.Need-cast-t2
-cast-t2 c = search needs
-
 returns : tie.Need-returns
 returns c = let e = toZ-pos w64 {n = c .args .n} (omega (arith, c .fits .n)) in (e, ap natAbs e)
 
 pub natural-spec : {M : Type 1} → statement M
-natural-spec = tie.close (tie.spec cast-t2 returns)
+natural-spec = tie.close (tie.spec (λ c. search needs) returns)

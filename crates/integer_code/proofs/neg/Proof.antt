@@ -8,12 +8,6 @@ use Rattle.integer_code.proofs.Word.{with}
 use Rattle.integer_code.proofs.neg.Statement.{statement}
 use Rattle.integer_code.proofs.neg.Tie as tie
 
-of-requires : tie.Need-of-requires
-of-requires c κs = search needs
-
-sub-requires : tie.Need-sub-requires
-sub-requires c κs = search needs
-
 returns : tie.Need-returns
 returns c =
     let a = c .before .before .args .a .v in
@@ -22,4 +16,4 @@ returns c =
     with (λ (r : ℤ). natAbs r ≡ natAbs a) e (neg-magnitude a)
 
 pub neg-spec : {M : Type 1} → statement M
-neg-spec = tie.close (tie.spec of-requires sub-requires returns)
+neg-spec = tie.close (tie.spec (λ c κs. search needs) (λ c κs. search needs) returns)

@@ -51,9 +51,6 @@ sub-common-parts c =
     let h = c .before .before .before .loop .inv .writing in
     omega (arith, h .upto, h .wide, h .long, c .before .before .before .before .good .1 .1 .0)
 
-part-common-parts-start : tie.Need-part-common-parts-start Inv-loop μ-loop
-part-common-parts-start c = search needs
-
 part-common-parts-end : tie.Need-part-common-parts-end Inv-loop μ-loop
 part-common-parts-end c =
     let h = c .before .before .before .loop .inv .writing in
@@ -67,15 +64,6 @@ common-parts-requires : tie.Need-common-parts-requires Inv-loop μ-loop
 common-parts-requires c κs =
     let l = c .before .before .before .before in
     (record { first = l .before .pre .1 .0; second = placed (c .before .place .ensures) }, common-borrowed (l .loop .inv))
-
-enum-known-f : tie.Need-enum-known-f Inv-loop μ-loop
-enum-known-f c = search needs
-
-enum-told : tie.Need-enum-told Inv-loop μ-loop
-enum-told c = search needs
-
-clear-requires : tie.Need-clear-requires Inv-loop μ-loop
-clear-requires c κs = search needs
 
 add-t24 : tie.Need-add-t24 Inv-loop μ-loop
 add-t24 c =
@@ -121,9 +109,6 @@ add-i c =
     let l = c .before .before .before .before .before .before .before .before in
     omega (arith, l .loop-test .taken, l .before .before .good .1 .0)
 
-loop-less : tie.Need-loop-less Inv-loop μ-loop
-loop-less c = search needs
-
 loop-again : tie.Need-loop-again Inv-loop μ-loop
 loop-again c =
     let o = c .before .before .before .before in
@@ -156,19 +141,19 @@ common-into-spec =
     mul-common-parts
     mul-common-parts-2
     sub-common-parts
-    part-common-parts-start
+    (λ c. search needs)
     part-common-parts-end
     sub-common-parts-2
     common-parts-requires
-    enum-known-f
-    enum-told
-    clear-requires
+    (λ c. search needs)
+    (λ c. search needs)
+    (λ c κs. search needs)
     add-t24
     same-length
     returns
     add-k
     add-i
-    loop-less
+    (λ c. search needs)
     loop-again
     same-length-2
     returns-2)

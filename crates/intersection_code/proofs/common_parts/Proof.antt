@@ -10,18 +10,6 @@ use Rattle.remainder_code.proofs.Apart.{common-apart}
 use Rattle.intersection_code.proofs.common_parts.Statement.{statement}
 use Rattle.intersection_code.proofs.common_parts.Tie as tie
 
-overlapping-requires : tie.Need-overlapping-requires
-overlapping-requires c κs = search needs
-
-overlay-into-requires : tie.Need-overlay-into-requires
-overlay-into-requires c κs = search needs
-
-same-length : tie.Need-same-length
-same-length c = search needs
-
-returns : tie.Need-returns
-returns c = search needs
-
 returns-2 : tie.Need-returns-2
 returns-2 c =
     let s = c .before .before in
@@ -31,4 +19,4 @@ returns-2 c =
 
 pub common-parts-spec : {M : Type 1} → statement M
 common-parts-spec =
-    tie.close (tie.spec overlapping-requires overlay-into-requires same-length returns returns-2)
+    tie.close (tie.spec (λ c κs. search needs) (λ c κs. search needs) (λ c. search needs) (λ c. search needs) returns-2)

@@ -51,9 +51,6 @@ sub-common-into c =
     let h = c .before .before .before .loop .inv .writing in
     omega (arith, h .upto, h .wide, h .long, c .before .before .before .before .good .1 .1 .0)
 
-part-common-into-start : tie.Need-part-common-into-start Inv-loop μ-loop
-part-common-into-start c = search needs
-
 part-common-into-end : tie.Need-part-common-into-end Inv-loop μ-loop
 part-common-into-end c =
     let h = c .before .before .before .loop .inv .writing in
@@ -67,12 +64,6 @@ common-into-requires : tie.Need-common-into-requires Inv-loop μ-loop
 common-into-requires c κs =
     let l = c .before .before .before .before in
     (l .before .pre .1 .fit, (placed (c .before .place .ensures), intersection-borrowed (l .loop .inv)))
-
-enum-known-f : tie.Need-enum-known-f Inv-loop μ-loop
-enum-known-f c = search needs
-
-clear-requires : tie.Need-clear-requires Inv-loop μ-loop
-clear-requires c κs = search needs
 
 add-t27 : tie.Need-add-t27 Inv-loop μ-loop
 add-t27 c =
@@ -113,9 +104,6 @@ returns c =
     let m = layer-few (s .args .second .now) (s .pre .1 .few) in
     ((intersection-short (p .inv) (q .before .before .loop-test .taken) (f .result) (f .last .1 .1 .0) g _ (c .before .before .before .before .f .given .1), rw (← n) z), omega (arith, u, m, p .inv .few, q .before .before .loop-test .taken, s .pre .0 .few))
 
-enum-known-f-2 : tie.Need-enum-known-f-2 Inv-loop μ-loop
-enum-known-f-2 c = search needs
-
 add-k : tie.Need-add-k Inv-loop μ-loop
 add-k c =
     let o = c .before .before .before .before in
@@ -144,12 +132,6 @@ add-overlays c =
     let u = done-few (p .inv) (q .before .before .loop-test .taken) (f .result) (f .last .1 .1 .0) g _ _ (c .before .f2 .given .1) in
     let n = layer-few (s .args .second .now) (s .pre .1 .few) in
     omega (arith, u, n, p .inv .few, q .before .before .loop-test .taken, s .pre .0 .few)
-
-add-i : tie.Need-add-i Inv-loop μ-loop
-add-i c = search needs
-
-loop-less : tie.Need-loop-less Inv-loop μ-loop
-loop-less c = search needs
 
 loop-again : tie.Need-loop-again Inv-loop μ-loop
 loop-again c =
@@ -185,20 +167,20 @@ intersection-into-spec =
     mul-common-into
     mul-common-into-2
     sub-common-into
-    part-common-into-start
+    (λ c. search needs)
     part-common-into-end
     sub-common-into-2
     common-into-requires
-    enum-known-f
-    clear-requires
+    (λ c. search needs)
+    (λ c κs. search needs)
     add-t27
     same-length
     returns
-    enum-known-f-2
+    (λ c. search needs)
     add-k
     add-overlays
-    add-i
-    loop-less
+    (λ c. search needs)
+    (λ c. search needs)
     loop-again
     same-length-2
     returns-2)

@@ -19,24 +19,6 @@ module _ (c : tie.After-known-told2) where
   within : memoryWidth * c .before .f2 .given .0 .0 ≤ length (c .before .before .before .before .before .fracture .last .1 .0)
   within = omega (arith, few, c .before .before .before .before .before .before .before .before .before .before .pre .0)
 
-fracture-requires : tie.Need-fracture-requires
-fracture-requires c κs = search needs
-
-enum-known-f : tie.Need-enum-known-f
-enum-known-f c = search needs
-
-refuse-into-requires : tie.Need-refuse-into-requires
-refuse-into-requires c κs = search needs
-
-same-length : tie.Need-same-length
-same-length c = search needs
-
-same-length-2 : tie.Need-same-length-2
-same-length-2 c = search needs
-
-same-length-3 : tie.Need-same-length-3
-same-length-3 c = search needs
-
 returns : tie.Need-returns
 returns c =
     let t = c .before .before in
@@ -44,9 +26,6 @@ returns c =
     let x = f .before .before .before .before .before in
     let l = file-refused (x .args .file .now) (x .args .first .now) (x .args .scratch .now) (x .pre .0) (x .pre .2) (f .fracture .result) (f .fracture .last .1 .0) (f .fracture .last .1 .1 .0) (f .fracture .ensures .0) _ _ (t .before .before .before .f .given .1) in
     put-as (x .args .text .now) (t .refuse-into .result) (t .refuse-into .last .1 .1 .0) l (t .refuse-into .ensures)
-
-enum-known-f-2 : tie.Need-enum-known-f-2
-enum-known-f-2 c = search needs
 
 mul-end : tie.Need-mul-end
 mul-end c = omega (arith, few c)
@@ -62,18 +41,6 @@ list-layer-requires c κs =
     let x = c .before .before .before .before .before .before .before .before .before .before .before .before .before .before in
     (x .pre .1, omega (arith, x .pre .2), x .pre .3)
 
-same-length-4 : tie.Need-same-length-4
-same-length-4 c = search needs
-
-same-length-5 : tie.Need-same-length-5
-same-length-5 c = search needs
-
-same-length-6 : tie.Need-same-length-6
-same-length-6 c = search needs
-
-same-length-7 : tie.Need-same-length-7
-same-length-7 c = search needs
-
 returns-2 : tie.Need-returns-2
 returns-2 c =
     let t = c .before .before .before .before in
@@ -87,20 +54,20 @@ pub list-file-spec : {M : Type 1} → statement M
 list-file-spec =
     tie.close
     (tie.spec
-    fracture-requires
-    enum-known-f
-    refuse-into-requires
-    same-length
-    same-length-2
-    same-length-3
+    (λ c κs. search needs)
+    (λ c. search needs)
+    (λ c κs. search needs)
+    (λ c. search needs)
+    (λ c. search needs)
+    (λ c. search needs)
     returns
-    enum-known-f-2
+    (λ c. search needs)
     mul-end
     slice-reshare-prefix-list-layer
     slice-aggregate-list-layer
     list-layer-requires
-    same-length-4
-    same-length-5
-    same-length-6
-    same-length-7
+    (λ c. search needs)
+    (λ c. search needs)
+    (λ c. search needs)
+    (λ c. search needs)
     returns-2)

@@ -7,24 +7,6 @@ use Rattle.lister.proofs.Printing.{put-as, layer-refused, layer-done}
 use Rattle.lister.proofs.list_layer.Statement.{statement}
 use Rattle.lister.proofs.list_layer.Tie as tie
 
-deoverlap-requires : tie.Need-deoverlap-requires
-deoverlap-requires c κs = search needs
-
-enum-known-d : tie.Need-enum-known-d
-enum-known-d c = search needs
-
-refuse-into-requires : tie.Need-refuse-into-requires
-refuse-into-requires c κs = search needs
-
-same-length : tie.Need-same-length
-same-length c = search needs
-
-same-length-2 : tie.Need-same-length-2
-same-length-2 c = search needs
-
-same-length-3 : tie.Need-same-length-3
-same-length-3 c = search needs
-
 returns : tie.Need-returns
 returns c =
     let t = c .before .before in
@@ -33,24 +15,12 @@ returns c =
     let l = layer-refused (x .layer .now) (x .out .now) (x .scratch .now) (d .before .before .before .before .pre .0) (d .before .before .before .before .pre .1) (d .deoverlap .result) (d .deoverlap .last .1 .0) (d .deoverlap .last .1 .1 .0) (d .deoverlap .ensures .0) _ _ (t .before .before .before .d .given .1) in
     put-as (x .text .now) (t .refuse-into .result) (t .refuse-into .last .1 .1 .0) l (t .refuse-into .ensures)
 
-enum-known-d-2 : tie.Need-enum-known-d-2
-enum-known-d-2 c = search needs
-
 list-into-requires : tie.Need-list-into-requires
 list-into-requires c κs =
     let m = c .before .before .before in
     let d = m .before .before .before .before in
     let n = subst (λ (r : Deoverlapped). Small (deoverlappedAnswer r)) (m .d2 .given .1) (d .deoverlap .ensures .1) .0 in
     (omega (arith, n, d .before .before .before .before .pre .0), n, omega (arith, d .before .before .before .before .pre .2))
-
-same-length-4 : tie.Need-same-length-4
-same-length-4 c = search needs
-
-same-length-5 : tie.Need-same-length-5
-same-length-5 c = search needs
-
-same-length-6 : tie.Need-same-length-6
-same-length-6 c = search needs
 
 returns-2 : tie.Need-returns-2
 returns-2 c =
@@ -64,16 +34,16 @@ pub list-layer-spec : {M : Type 1} → statement M
 list-layer-spec =
     tie.close
     (tie.spec
-    deoverlap-requires
-    enum-known-d
-    refuse-into-requires
-    same-length
-    same-length-2
-    same-length-3
+    (λ c κs. search needs)
+    (λ c. search needs)
+    (λ c κs. search needs)
+    (λ c. search needs)
+    (λ c. search needs)
+    (λ c. search needs)
     returns
-    enum-known-d-2
+    (λ c. search needs)
     list-into-requires
-    same-length-4
-    same-length-5
-    same-length-6
+    (λ c. search needs)
+    (λ c. search needs)
+    (λ c. search needs)
     returns-2)

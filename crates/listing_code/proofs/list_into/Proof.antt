@@ -21,9 +21,6 @@ put-lines-requires c κs =
     let k = onward (headLine n) (linesFrom n s 0) (set-out (x .args .out .now) 0 (listing n s)) (listing-is n s) (omega (arith, l, x .pre .2)) (t .put-head .ensures) in
     (x .pre .0, omega (arith, k .long, t .put-head .ensures .0, l, x .pre .1, x .pre .2))
 
-same-length : tie.Need-same-length
-same-length c = search needs
-
 returns : tie.Need-returns
 returns c =
     let b = c .before .before in
@@ -36,4 +33,4 @@ returns c =
     from-first (x .args .out .now) (listing n s) (at-last k (b .put-lines .ensures))
 
 pub list-into-spec : {M : Type 1} → statement M
-list-into-spec = tie.close (tie.spec put-head-requires put-lines-requires same-length returns)
+list-into-spec = tie.close (tie.spec put-head-requires put-lines-requires (λ c. search needs) returns)

@@ -8,14 +8,8 @@ use Rattle.listing_code.proofs.put_byte.Tie as tie
 slice-write-out : tie.Need-slice-write-out
 slice-write-out c = omega (arith, c .pre)
 
-add-result : tie.Need-add-result
-add-result c = search needs
-
-same-length : tie.Need-same-length
-same-length c = search needs
-
 returns : tie.Need-returns
 returns c = (refl, written-byte (c .args .out .now) (c .args .at) (c .args .b) (omega (arith, c .pre)))
 
 pub put-byte-spec : {M : Type 1} → statement M
-put-byte-spec = tie.close (tie.spec slice-write-out add-result same-length returns)
+put-byte-spec = tie.close (tie.spec slice-write-out (λ c. search needs) (λ c. search needs) returns)

@@ -10,9 +10,6 @@ use Rattle.listing_code.proofs.Sizes.{field-length}
 use Rattle.listing_code.proofs.put_field.Statement.{statement}
 use Rattle.listing_code.proofs.put_field.Tie as tie
 
-get-requires : tie.Need-get-requires
-get-requires c κs = search needs
-
 put-word-requires : tie.Need-put-word-requires
 put-word-requires c κs =
     let g = c .before in
@@ -21,9 +18,6 @@ put-word-requires c κs =
     let f = field-length s (x .args .j) (x .args .end) (g .get .result .v) (g .get .ensures .0) (g .get .ensures .1) in
     let h = begin (x .args .out .now) (x .args .at) (field s (x .args .j) (x .args .end)) (omega (arith, f, x .pre .2)) in
     (g .get .ensures .1, room-of (decimalWord (g .get .result .v)) (separator (slice (x .args .j + 1) (x .args .end) s) ∷ []) h (field-is s (x .args .j) (x .args .end) (g .get .result .v) _ (g .get .ensures .0) refl))
-
-add-if1 : tie.Need-add-if1
-add-if1 c = search needs
 
 put-byte-requires : tie.Need-put-byte-requires
 put-byte-requires c κs =
@@ -37,9 +31,6 @@ put-byte-requires c κs =
     let e = field-is s (x .args .j) (x .args .end) (g .get .result .v) 32 (g .get .ensures .0) (blank-after s (x .args .j) (x .args .end) (i .if1 .taken) (x .pre .1)) in
     let k = further (decimalWord (g .get .result .v)) (32 ∷ []) h e (w .put-word .ensures) in
     room-last k
-
-same-length : tie.Need-same-length
-same-length c = search needs
 
 returns : tie.Need-returns
 returns c =
@@ -69,9 +60,6 @@ put-byte-requires-2 c κs =
     let k = further (decimalWord (g .get .result .v)) (10 ∷ []) h e (w .put-word .ensures) in
     room-last k
 
-same-length-2 : tie.Need-same-length-2
-same-length-2 c = search needs
-
 returns-2 : tie.Need-returns-2
 returns-2 c =
     let b = c .before .before in
@@ -91,12 +79,12 @@ pub put-field-spec : {M : Type 1} → statement M
 put-field-spec =
     tie.close
     (tie.spec
-    get-requires
+    (λ c κs. search needs)
     put-word-requires
-    add-if1
+    (λ c. search needs)
     put-byte-requires
-    same-length
+    (λ c. search needs)
     returns
     put-byte-requires-2
-    same-length-2
+    (λ c. search needs)
     returns-2)

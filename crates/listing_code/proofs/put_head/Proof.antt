@@ -6,9 +6,6 @@ use Rattle.listing_code.proofs.Texts.{begin, room-of, further, room-las
 use Rattle.listing_code.proofs.put_head.Statement.{statement}
 use Rattle.listing_code.proofs.put_head.Tie as tie
 
-slice-aggregate-put-numbered : tie.Need-slice-aggregate-put-numbered
-slice-aggregate-put-numbered c = search needs
-
 put-numbered-requires : tie.Need-put-numbered-requires
 put-numbered-requires c κs =
     let x = c .before .before .before in
@@ -22,9 +19,6 @@ put-byte-requires c κs =
     let h = begin (x .args .out .now) (x .args .at) (headLine (x .args .n)) (x .pre) in
     room-last (further (numbered piecesText (x .args .n)) (10 ∷ []) h refl (t .put-numbered .ensures))
 
-same-length : tie.Need-same-length
-same-length c = search needs
-
 returns : tie.Need-returns
 returns c =
     let b = c .before .before in
@@ -37,8 +31,8 @@ pub put-head-spec : {M : Type 1} → statement M
 put-head-spec =
     tie.close
     (tie.spec
-    slice-aggregate-put-numbered
+    (λ c. search needs)
     put-numbered-requires
     put-byte-requires
-    same-length
+    (λ c. search needs)
     returns)

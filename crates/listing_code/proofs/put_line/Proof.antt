@@ -16,12 +16,6 @@ Inv-loop words i out₀ at start end next₀ j₀ out next j = Going out₀ at (
 abbrev μ-loop : tie.MeasureT-loop
 μ-loop words i out₀ at start end next₀ j₀ out next j = end - j
 
-mul-start : tie.Need-mul-start Inv-loop μ-loop
-mul-start c = search needs
-
-add-end : tie.Need-add-end Inv-loop μ-loop
-add-end c = search needs
-
 loop-holds : tie.Need-loop-holds Inv-loop μ-loop
 loop-holds c =
     let x = c .before in
@@ -38,9 +32,6 @@ put-field-requires c κs =
     let j = l .loop .j in
     let e = next-field s j end (t .loop-test .taken) (h .2) in
     (t .loop-test .taken, h .2, omega (arith, t .loop-test .taken, h .3, h .0 .long, x .pre .1))
-
-add-j : tie.Need-add-j Inv-loop μ-loop
-add-j c = search needs
 
 loop-less : tie.Need-loop-less Inv-loop μ-loop
 loop-less c = omega (arith, c .before .before .before .before .loop-test .taken)
@@ -77,11 +68,11 @@ put-line-spec =
     (tie.spec
     Inv-loop
     μ-loop
-    mul-start
-    add-end
+    (λ c. search needs)
+    (λ c. search needs)
     loop-holds
     put-field-requires
-    add-j
+    (λ c. search needs)
     loop-less
     loop-again
     same-length

@@ -30,9 +30,6 @@ put-line-requires c κs =
     let e = next-line s n i (t .loop-test .taken) in
     (omega (arith, x .pre .0, t .loop-test .taken), omega (arith, t .loop-test .taken, h .2, h .0 .long, x .pre .1))
 
-add-i : tie.Need-add-i Inv-loop μ-loop
-add-i c = search needs
-
 loop-less : tie.Need-loop-less Inv-loop μ-loop
 loop-less c = omega (arith, c .before .before .before .before .loop-test .taken)
 
@@ -66,7 +63,7 @@ put-lines-spec =
     μ-loop
     loop-holds
     put-line-requires
-    add-i
+    (λ c. search needs)
     loop-less
     loop-again
     same-length

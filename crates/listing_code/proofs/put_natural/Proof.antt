@@ -15,12 +15,6 @@ Inv-loop n out₀ at end i₀ rest₀ out i rest = Spelled n out₀ at out i res
 abbrev μ-loop : tie.MeasureT-loop
 μ-loop n out₀ at end i₀ rest₀ out i rest = rest
 
-digit-count-requires : tie.Need-digit-count-requires Inv-loop μ-loop
-digit-count-requires c κs = search needs
-
-add-end : tie.Need-add-end Inv-loop μ-loop
-add-end c = search needs
-
 sub-i : tie.Need-sub-i Inv-loop μ-loop
 sub-i c = omega (arith, c .digit-count .ensures, length-some (c .before .before .args .n))
 
@@ -29,12 +23,6 @@ loop-holds c =
     let s = c .before .before in
     let e = c .digit-count .ensures in
     (spell-start (s .args .n) (s .args .out .now) (s .args .at) _ (s .pre) (omega (arith, e, length-some (s .args .n))), ap (λ (k : ℕ). s .args .at + k) e)
-
-cast-digit : tie.Need-cast-digit Inv-loop μ-loop
-cast-digit c = search needs
-
-add-out : tie.Need-add-out Inv-loop μ-loop
-add-out c = search needs
 
 slice-write-out : tie.Need-slice-write-out Inv-loop μ-loop
 slice-write-out c = c .before .loop .inv .0 .room
@@ -52,12 +40,6 @@ loop-again c =
     let k = spell-more (h .0) l in
     (spell-turn (h .0) l refl (omega arith), h .1)
 
-cast-digit-2 : tie.Need-cast-digit-2 Inv-loop μ-loop
-cast-digit-2 c = search needs
-
-add-out-2 : tie.Need-add-out-2 Inv-loop μ-loop
-add-out-2 c = search needs
-
 slice-write-out-2 : tie.Need-slice-write-out-2 Inv-loop μ-loop
 slice-write-out-2 c = c .before .loop .inv .0 .room
 
@@ -73,18 +55,18 @@ put-natural-spec =
     (tie.spec
     Inv-loop
     μ-loop
-    digit-count-requires
-    add-end
+    (λ c κs. search needs)
+    (λ c. search needs)
     sub-i
     loop-holds
-    cast-digit
-    add-out
+    (λ c. search needs)
+    (λ c. search needs)
     slice-write-out
     sub-i-2
     loop-less
     loop-again
-    cast-digit-2
-    add-out-2
+    (λ c. search needs)
+    (λ c. search needs)
     slice-write-out-2
     same-length
     returns)

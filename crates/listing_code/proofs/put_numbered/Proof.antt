@@ -19,9 +19,6 @@ put-natural-requires c κs =
     let e = numbered-is (x .args .text .now) (x .args .n) in
     room-last (further (x .args .text .now) (decimal (x .args .n)) h e (t .put-text .ensures))
 
-same-length : tie.Need-same-length
-same-length c = search needs
-
 returns : tie.Need-returns
 returns c =
     let m = c .before .before in
@@ -32,4 +29,4 @@ returns c =
     complete (further (x .args .text .now) (decimal (x .args .n)) h e (t .put-text .ensures)) (m .put-natural .ensures)
 
 pub put-numbered-spec : {M : Type 1} → statement M
-put-numbered-spec = tie.close (tie.spec put-text-requires put-natural-requires same-length returns)
+put-numbered-spec = tie.close (tie.spec put-text-requires put-natural-requires (λ c. search needs) returns)

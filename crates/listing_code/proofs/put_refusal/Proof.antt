@@ -6,9 +6,6 @@ use Rattle.listing_code.proofs.Texts.{begin, room-of, further, room-las
 use Rattle.listing_code.proofs.put_refusal.Statement.{statement}
 use Rattle.listing_code.proofs.put_refusal.Tie as tie
 
-slice-aggregate-put-numbered : tie.Need-slice-aggregate-put-numbered
-slice-aggregate-put-numbered c = search needs
-
 put-numbered-requires : tie.Need-put-numbered-requires
 put-numbered-requires c κs =
     let x = c .before .before .before in
@@ -16,9 +13,6 @@ put-numbered-requires c κs =
     let place = x .args .place in
     let h = begin (x .args .out .now) (x .args .at) (refusalLine number place) (x .pre) in
     room-of (numbered refusedText number) (numbered placeText place ++ (10 ∷ [])) h refl
-
-slice-aggregate-put-numbered-2 : tie.Need-slice-aggregate-put-numbered-2
-slice-aggregate-put-numbered-2 c = search needs
 
 put-numbered-requires-2 : tie.Need-put-numbered-requires-2
 put-numbered-requires-2 c κs =
@@ -41,9 +35,6 @@ put-byte-requires c κs =
     let k = further (numbered refusedText number) (numbered placeText place ++ (10 ∷ [])) h refl (t .put-numbered .ensures) in
     room-last (further (numbered placeText place) (10 ∷ []) k refl (u .put-numbered2 .ensures))
 
-same-length : tie.Need-same-length
-same-length c = search needs
-
 returns : tie.Need-returns
 returns c =
     let b = c .before .before in
@@ -60,10 +51,10 @@ pub put-refusal-spec : {M : Type 1} → statement M
 put-refusal-spec =
     tie.close
     (tie.spec
-    slice-aggregate-put-numbered
+    (λ c. search needs)
     put-numbered-requires
-    slice-aggregate-put-numbered-2
+    (λ c. search needs)
     put-numbered-requires-2
     put-byte-requires
-    same-length
+    (λ c. search needs)
     returns)

@@ -18,21 +18,12 @@ loop-holds c =
     let x = c .before .before in
     (begin (x .args .out .now) (x .args .at) (x .args .text .now) (x .pre), omega arith)
 
-shared-slice-read-put-byte : tie.Need-shared-slice-read-put-byte Inv-loop μ-loop
-shared-slice-read-put-byte c = search needs
-
 put-byte-requires : tie.Need-put-byte-requires Inv-loop μ-loop
 put-byte-requires c κs =
     let t = c .before .before in
     let l = t .before in
     let x = l .before .before .before in
     room-of (getD (x .args .text .now) (l .loop .i) 0 ∷ []) (drop (l .loop .i + 1) (x .args .text .now)) (l .loop .inv .0) (next-byte (x .args .text .now) (l .loop .i) (t .loop-test .taken))
-
-add-i : tie.Need-add-i Inv-loop μ-loop
-add-i c = search needs
-
-loop-less : tie.Need-loop-less Inv-loop μ-loop
-loop-less c = search needs
 
 loop-again : tie.Need-loop-again Inv-loop μ-loop
 loop-again c =
@@ -58,10 +49,10 @@ put-text-spec =
     Inv-loop
     μ-loop
     loop-holds
-    shared-slice-read-put-byte
+    (λ c. search needs)
     put-byte-requires
-    add-i
-    loop-less
+    (λ c. search needs)
+    (λ c. search needs)
     loop-again
     same-length
     returns)

@@ -8,15 +8,6 @@ use Rattle.listing_code.proofs.Texts.{begin, room-of, further, room-las
 use Rattle.listing_code.proofs.put_word.Statement.{statement}
 use Rattle.listing_code.proofs.put_word.Tie as tie
 
-magnitude-requires : tie.Need-magnitude-requires
-magnitude-requires c κs = search needs
-
-of-requires : tie.Need-of-requires
-of-requires c κs = search needs
-
-less-requires : tie.Need-less-requires
-less-requires c κs = search needs
-
 put-byte-requires : tie.Need-put-byte-requires
 put-byte-requires c κs =
     let i = c .before in
@@ -37,9 +28,6 @@ put-natural-requires c κs =
     let x = m .before .before in
     let e = word-below (x .args .a .v) (m .magnitude .result) (tested (x .args .a .v) (o .of .result .v) (o .of .ensures .0) (l .less .ensures) (i .if1 .taken)) (m .magnitude .ensures) in
     room-last (further (45 ∷ []) (decimal (m .magnitude .result)) (begin (x .args .out .now) (x .args .at) (decimalWord (x .args .a .v)) (x .pre .1)) e (b .put-byte .ensures))
-
-same-length : tie.Need-same-length
-same-length c = search needs
 
 returns : tie.Need-returns
 returns c =
@@ -63,9 +51,6 @@ put-natural-requires-2 c κs =
     let e = word-from (x .args .a .v) (m .magnitude .result) (tested (x .args .a .v) (o .of .result .v) (o .of .ensures .0) (l .less .ensures) (i .if1 .left)) (m .magnitude .ensures) in
     subst (Room (x .args .out .now) (x .args .at)) e (x .pre .1)
 
-same-length-2 : tie.Need-same-length-2
-same-length-2 c = search needs
-
 returns-2 : tie.Need-returns-2
 returns-2 c =
     let n = c .before .before in
@@ -81,13 +66,13 @@ pub put-word-spec : {M : Type 1} → statement M
 put-word-spec =
     tie.close
     (tie.spec
-    magnitude-requires
-    of-requires
-    less-requires
+    (λ c κs. search needs)
+    (λ c κs. search needs)
+    (λ c κs. search needs)
     put-byte-requires
     put-natural-requires
-    same-length
+    (λ c. search needs)
     returns
     put-natural-requires-2
-    same-length-2
+    (λ c. search needs)
     returns-2)

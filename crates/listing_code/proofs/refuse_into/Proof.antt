@@ -11,13 +11,10 @@ put-refusal-requires c κs =
     let x = c .before .before in
     omega (arith, refusal-length (x .args .number) (x .args .place) (x .fits .number .fits) (x .fits .place .fits), x .pre)
 
-same-length : tie.Need-same-length
-same-length c = search needs
-
 returns : tie.Need-returns
 returns c =
     let x = c .before .before .before .before .before in
     from-first (x .args .out .now) (refusalLine (x .args .number) (x .args .place)) (c .before .before .put-refusal .ensures)
 
 pub refuse-into-spec : {M : Type 1} → statement M
-refuse-into-spec = tie.close (tie.spec put-refusal-requires same-length returns)
+refuse-into-spec = tie.close (tie.spec put-refusal-requires (λ c. search needs) returns)

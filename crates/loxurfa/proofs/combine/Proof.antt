@@ -32,23 +32,11 @@ module _ (c : tie.After-combine-into) where
       blank-zeros (c .combine-into .last .1 .1 .1 .1 .0) (length (s .out .now)) (c .combine-into .ensures .1 .1)
       (c .combine-into .kept .1 .1 .1 .1 .0 ∙ cleared-length (z .last .1 .0) (length (s .scratch .now)) (z .ensures .1) ∙ ready (c .before .before .before .before .before .before .before .before) .buffers .same)
 
-combine-checked-requires : tie.Need-combine-checked-requires
-combine-checked-requires c κs = search needs
-
-enum-known-checked : tie.Need-enum-known-checked
-enum-known-checked c = search needs
-
 returns : tie.Need-returns
 returns c =
     let s = c .before .before .before .before .args in
     let e = sym (c .before .before .before .combine-checked .ensures) ∙ c .before .checked .given .1 in
     (combine-refuses (s .code) (s .a .now) (s .b .now) (s .out .now) (s .scratch .now) e, small-refused e (combine-refused (s .code) (s .a .now) (s .b .now) (length (s .out .now)) (length (s .scratch .now))))
-
-enum-told : tie.Need-enum-told
-enum-told c = search needs
-
-clear-both-requires : tie.Need-clear-both-requires
-clear-both-requires c κs = search needs
 
 combine-into-requires : tie.Need-combine-into-requires
 combine-into-requires c κs =
@@ -59,15 +47,6 @@ combine-into-requires c κs =
     let n = cleared-length (z .last .1 .0) (length (s .scratch .now)) (z .ensures .1) in
     ((r .is-code, r .first, r .second), ((cleared-borrowed (z .last .0) (length (s .out .now)) (z .ensures .0), r .buffers .few), (blank-of (pos 0) (z .last .1 .0) (length (s .scratch .now)) (z .ensures .1), n ∙ r .buffers .same ∙ sym m)))
 
-enum-told-2 : tie.Need-enum-told-2
-enum-told-2 c = search needs
-
-same-length : tie.Need-same-length
-same-length c = search needs
-
-same-length-2 : tie.Need-same-length-2
-same-length-2 c = search needs
-
 returns-2 : tie.Need-returns-2
 returns-2 c =
     let s = c .before .before .before .before .before .before .before .before .before .before .before .before .before .before .before .args in
@@ -75,15 +54,6 @@ returns-2 c =
     let f = c .before .before .before .before .combine-into in
     let m = cleared-length (z .last .0) (length (s .out .now)) (z .ensures .0) in
     (combine-short (s .code) (s .a .now) (s .b .now) (s .out .now) (s .scratch .now) (passed (c .before .before .before .before .before .before .before .before .before .before .before .before)) (f .result) (length (z .last .0)) (f .last .1 .1 .1 .0) (f .last .1 .1 .1 .1 .0) (f .ensures .0) m (blanked (c .before .before .before .before)) (c .enum-told2 .given .1), (omega arith, omega arith))
-
-enum-known-f : tie.Need-enum-known-f
-enum-known-f c = search needs
-
-same-length-3 : tie.Need-same-length-3
-same-length-3 c = search needs
-
-same-length-4 : tie.Need-same-length-4
-same-length-4 c = search needs
 
 returns-3 : tie.Need-returns-3
 returns-3 c =
@@ -100,17 +70,17 @@ pub combine-spec : {M : Type 1} → statement M
 combine-spec =
     tie.close
     (tie.spec
-    combine-checked-requires
-    enum-known-checked
+    (λ c κs. search needs)
+    (λ c. search needs)
     returns
-    enum-told
-    clear-both-requires
+    (λ c. search needs)
+    (λ c κs. search needs)
     combine-into-requires
-    enum-told-2
-    same-length
-    same-length-2
+    (λ c. search needs)
+    (λ c. search needs)
+    (λ c. search needs)
     returns-2
-    enum-known-f
-    same-length-3
-    same-length-4
+    (λ c. search needs)
+    (λ c. search needs)
+    (λ c. search needs)
     returns-3)

@@ -12,29 +12,17 @@ module _ (c : tie.After-enum-told) where
   passed : componentsChecked (c .before .before .before .before .args .a .now) (length (c .before .before .before .before .args .numbers .now)) ≡ Passed
   passed = sym (c .before .before .components-checked .ensures) ∙ c .enum-told .given .1
 
-components-checked-requires : tie.Need-components-checked-requires
-components-checked-requires c κs = search needs
-
-enum-known-checked : tie.Need-enum-known-checked
-enum-known-checked c = search needs
-
 returns : tie.Need-returns
 returns c =
     let s = c .before .before .before .before .before .args in
     let e = sym (c .before .before .before .components-checked .ensures) ∙ c .before .checked .given .1 in
     (refused-outcome (s .a .now) (s .numbers .now) e, refused-small (s .a .now) (length (s .numbers .now)) e)
 
-enum-told : tie.Need-enum-told
-enum-told c = search needs
-
 components-into-requires : tie.Need-components-into-requires
 components-into-requires c κs =
     let k = c .before in
     let s = k .before .before .before .before .args in
     (record { fit = passed-fit (s .a .now) (s .numbers .now) (passed k); one-each = passed-one-each (s .a .now) (s .numbers .now) (passed k) }, passed-few (s .a .now) (s .numbers .now) (passed k))
-
-same-length : tie.Need-same-length
-same-length c = search needs
 
 returns-2 : tie.Need-returns-2
 returns-2 c =
@@ -47,10 +35,10 @@ pub components-spec : {M : Type 1} → statement M
 components-spec =
     tie.close
     (tie.spec
-    components-checked-requires
-    enum-known-checked
+    (λ c κs. search needs)
+    (λ c. search needs)
     returns
-    enum-told
+    (λ c. search needs)
     components-into-requires
-    same-length
+    (λ c. search needs)
     returns-2)

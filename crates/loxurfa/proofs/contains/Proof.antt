@@ -4,18 +4,6 @@ use borrow.Author.Needs.{needs}
 use Rattle.loxurfa.proofs.contains.Statement.{statement}
 use Rattle.loxurfa.proofs.contains.Tie as tie
 
-widen-requires : tie.Need-widen-requires
-widen-requires c κs = search needs
-
-widen-requires-2 : tie.Need-widen-requires-2
-widen-requires-2 c κs = search needs
-
-widen-requires-3 : tie.Need-widen-requires-3
-widen-requires-3 c κs = search needs
-
-contains-at-requires : tie.Need-contains-at-requires
-contains-at-requires c κs = search needs
-
 returns : tie.Need-returns
 returns c =
     let s = c .before .before .before .before in
@@ -27,4 +15,4 @@ returns c =
 pub contains-spec : {M : Type 1} → statement M
 contains-spec =
     tie.close
-    (tie.spec widen-requires widen-requires-2 widen-requires-3 contains-at-requires returns)
+    (tie.spec (λ c κs. search needs) (λ c κs. search needs) (λ c κs. search needs) (λ c κs. search needs) returns)

@@ -35,21 +35,12 @@ module _ (c : tie.After-says) where
       ∙ ap (says (codeAt (s .code)) (liesInLayer P (layerOf (s .a .now)))) (c .before .lies-in2 .ensures)
       ∙ result-says coordinateLimit (layerOf (s .a .now)) (layerOf (s .b .now)) (r .first .fit) (r .second .fit) P (point-real P (r .point)) (codeAt (s .code))
 
-contains-checked-requires : tie.Need-contains-checked-requires
-contains-checked-requires c κs = search needs
-
-enum-known-checked : tie.Need-enum-known-checked
-enum-known-checked c = search needs
-
 returns : tie.Need-returns
 returns c =
     let s = c .before .before .before .before .args in
     let P = pointOf (s .x) (s .y) (s .d) in
     let e = sym (c .before .before .before .contains-checked .ensures) ∙ c .before .checked .given .1 in
     (contains-refuses P (s .a .now) (s .b .now) (s .code) e, small-refused e (contains-refused P (s .a .now) (s .b .now) (s .code)))
-
-enum-told : tie.Need-enum-told
-enum-told c = search needs
 
 lies-in-requires : tie.Need-lies-in-requires
 lies-in-requires c κs =
@@ -80,10 +71,10 @@ pub contains-at-spec : {M : Type 1} → statement M
 contains-at-spec =
     tie.close
     (tie.spec
-    contains-checked-requires
-    enum-known-checked
+    (λ c κs. search needs)
+    (λ c. search needs)
     returns
-    enum-told
+    (λ c. search needs)
     lies-in-requires
     lies-in-requires-2
     says-requires

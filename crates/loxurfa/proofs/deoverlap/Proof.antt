@@ -33,23 +33,11 @@ module _ (c : tie.After-deoverlap-into) where
       blank-zeros (c .deoverlap-into .last .1 .1 .0) (length (s .out .now)) (c .deoverlap-into .ensures .1 .1)
       (c .deoverlap-into .kept .1 .1 .0 ∙ cleared-length (z .last .1 .0) (length (s .scratch .now)) (z .ensures .1) ∙ ready (c .before .before .before .before .before .before .before .before) .buffers .same)
 
-deoverlap-checked-requires : tie.Need-deoverlap-checked-requires
-deoverlap-checked-requires c κs = search needs
-
-enum-known-checked : tie.Need-enum-known-checked
-enum-known-checked c = search needs
-
 returns : tie.Need-returns
 returns c =
     let s = c .before .before .before .before .args in
     let e = sym (c .before .before .before .deoverlap-checked .ensures) ∙ c .before .checked .given .1 in
     (deoverlap-refuses (s .a .now) (s .out .now) (s .scratch .now) e, small-refused e (deoverlap-refused (s .a .now) (length (s .out .now)) (length (s .scratch .now))))
-
-enum-told : tie.Need-enum-told
-enum-told c = search needs
-
-clear-both-requires : tie.Need-clear-both-requires
-clear-both-requires c κs = search needs
 
 deoverlap-into-requires : tie.Need-deoverlap-into-requires
 deoverlap-into-requires c κs =
@@ -60,15 +48,6 @@ deoverlap-into-requires c κs =
     let n = cleared-length (z .last .1 .0) (length (s .scratch .now)) (z .ensures .1) in
     (r .layer, ((cleared-borrowed (z .last .0) (length (s .out .now)) (z .ensures .0), r .buffers .few), (blank-of (pos 0) (z .last .1 .0) (length (s .scratch .now)) (z .ensures .1), n ∙ r .buffers .same ∙ sym m)))
 
-enum-told-2 : tie.Need-enum-told-2
-enum-told-2 c = search needs
-
-same-length : tie.Need-same-length
-same-length c = search needs
-
-same-length-2 : tie.Need-same-length-2
-same-length-2 c = search needs
-
 returns-2 : tie.Need-returns-2
 returns-2 c =
     let s = c .before .before .before .before .before .before .before .before .before .before .before .before .before .before .before .args in
@@ -76,15 +55,6 @@ returns-2 c =
     let f = c .before .before .before .before .deoverlap-into in
     let m = cleared-length (z .last .0) (length (s .out .now)) (z .ensures .0) in
     (deoverlap-short (s .a .now) (s .out .now) (s .scratch .now) (passed (c .before .before .before .before .before .before .before .before .before .before .before .before)) (f .result) (length (z .last .0)) (f .last .1 .0) (f .last .1 .1 .0) (f .ensures .0) m (blanked (c .before .before .before .before)) (c .enum-told2 .given .1), (omega arith, omega arith))
-
-enum-known-f : tie.Need-enum-known-f
-enum-known-f c = search needs
-
-same-length-3 : tie.Need-same-length-3
-same-length-3 c = search needs
-
-same-length-4 : tie.Need-same-length-4
-same-length-4 c = search needs
 
 returns-3 : tie.Need-returns-3
 returns-3 c =
@@ -101,17 +71,17 @@ pub deoverlap-spec : {M : Type 1} → statement M
 deoverlap-spec =
     tie.close
     (tie.spec
-    deoverlap-checked-requires
-    enum-known-checked
+    (λ c κs. search needs)
+    (λ c. search needs)
     returns
-    enum-told
-    clear-both-requires
+    (λ c. search needs)
+    (λ c κs. search needs)
     deoverlap-into-requires
-    enum-told-2
-    same-length
-    same-length-2
+    (λ c. search needs)
+    (λ c. search needs)
+    (λ c. search needs)
     returns-2
-    enum-known-f
-    same-length-3
-    same-length-4
+    (λ c. search needs)
+    (λ c. search needs)
+    (λ c. search needs)
     returns-3)

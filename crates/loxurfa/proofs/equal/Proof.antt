@@ -37,23 +37,11 @@ module _ (c : tie.After-equal-into) where
       blank-zeros (c .equal-into .last .1 .1 .1 .0) (length (s .scratch .now)) (c .equal-into .ensures .1 .1 .1)
       (c .equal-into .kept .1 .1 .1 .0 ∙ cleared-length (z .last .1 .0) (length (s .scratch .now)) (z .ensures .1))
 
-equal-checked-requires : tie.Need-equal-checked-requires
-equal-checked-requires c κs = search needs
-
-enum-known-checked : tie.Need-enum-known-checked
-enum-known-checked c = search needs
-
 returns : tie.Need-returns
 returns c =
     let s = c .before .before .before .before .args in
     let e = sym (c .before .before .before .equal-checked .ensures) ∙ c .before .checked .given .1 in
     (equal-refuses (s .a .now) (s .b .now) (s .out .now) (s .scratch .now) e, small-refused e (equal-refused (s .a .now) (s .b .now) (length (s .out .now)) (length (s .scratch .now))))
-
-enum-told : tie.Need-enum-told
-enum-told c = search needs
-
-clear-both-requires : tie.Need-clear-both-requires
-clear-both-requires c κs = search needs
 
 equal-into-requires : tie.Need-equal-into-requires
 equal-into-requires c κs =
@@ -64,29 +52,11 @@ equal-into-requires c κs =
     let n = cleared-length (z .last .1 .0) (length (s .scratch .now)) (z .ensures .1) in
     ((r .first, r .second), ((cleared-borrowed (z .last .0) (length (s .out .now)) (z .ensures .0), r .buffers .few), (blank-of (pos 0) (z .last .1 .0) (length (s .scratch .now)) (z .ensures .1), n ∙ r .buffers .same ∙ sym m)))
 
-enum-told-2 : tie.Need-enum-told-2
-enum-told-2 c = search needs
-
-same-length : tie.Need-same-length
-same-length c = search needs
-
-same-length-2 : tie.Need-same-length-2
-same-length-2 c = search needs
-
 returns-2 : tie.Need-returns-2
 returns-2 c =
     let s = c .before .before .before .before .before .before .before .before .before .before .before .before .before .before .before .args in
     let f = c .before .before .before .before .equal-into in
     (equal-short (s .a .now) (s .b .now) (s .out .now) (s .scratch .now) (passed (c .before .before .before .before .before .before .before .before .before .before .before .before)) (f .result) (f .last .1 .1 .0) (f .last .1 .1 .1 .0) (f .ensures .0) (out-blanked (c .before .before .before .before)) (scratch-blanked (c .before .before .before .before)) (c .enum-told2 .given .1), (omega arith, omega arith))
-
-enum-known-f : tie.Need-enum-known-f
-enum-known-f c = search needs
-
-same-length-3 : tie.Need-same-length-3
-same-length-3 c = search needs
-
-same-length-4 : tie.Need-same-length-4
-same-length-4 c = search needs
 
 returns-3 : tie.Need-returns-3
 returns-3 c =
@@ -94,15 +64,6 @@ returns-3 c =
     let f = c .before .before .before .before .before .equal-into in
     let e = c .before .f .given .1 in
     (equal-same (s .a .now) (s .b .now) (s .out .now) (s .scratch .now) (passed (c .before .before .before .before .before .before .before .before .before .before .before .before .before)) (f .result) (f .last .1 .1 .0) (f .last .1 .1 .1 .0) (f .ensures .0) (out-blanked (c .before .before .before .before .before)) (scratch-blanked (c .before .before .before .before .before)) e, small-same (f .ensures .1 .0) e)
-
-enum-known-f-2 : tie.Need-enum-known-f-2
-enum-known-f-2 c = search needs
-
-same-length-5 : tie.Need-same-length-5
-same-length-5 c = search needs
-
-same-length-6 : tie.Need-same-length-6
-same-length-6 c = search needs
 
 returns-4 : tie.Need-returns-4
 returns-4 c =
@@ -117,21 +78,21 @@ pub equal-spec : {M : Type 1} → statement M
 equal-spec =
     tie.close
     (tie.spec
-    equal-checked-requires
-    enum-known-checked
+    (λ c κs. search needs)
+    (λ c. search needs)
     returns
-    enum-told
-    clear-both-requires
+    (λ c. search needs)
+    (λ c κs. search needs)
     equal-into-requires
-    enum-told-2
-    same-length
-    same-length-2
+    (λ c. search needs)
+    (λ c. search needs)
+    (λ c. search needs)
     returns-2
-    enum-known-f
-    same-length-3
-    same-length-4
+    (λ c. search needs)
+    (λ c. search needs)
+    (λ c. search needs)
     returns-3
-    enum-known-f-2
-    same-length-5
-    same-length-6
+    (λ c. search needs)
+    (λ c. search needs)
+    (λ c. search needs)
     returns-4)

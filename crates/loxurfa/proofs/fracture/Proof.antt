@@ -24,38 +24,17 @@ module _ (c : tie.After-fracture-file) where
   blanked : c .before .before .before .before .clear-both .last .1 .0 ≡ zeros (length (c .before .before .before .before .before .before .before .before .before .before .before .args .out .now))
   blanked = c .before .before .before .before .clear-both .ensures .1 ∙ ap zeros (ready (c .before .before .before .before .before .before .before) .buffers .same)
 
-fracture-checked-requires : tie.Need-fracture-checked-requires
-fracture-checked-requires c κs = search needs
-
-enum-known-checked : tie.Need-enum-known-checked
-enum-known-checked c = search needs
-
 returns : tie.Need-returns
 returns c =
     let s = c .before .before .before .before .before .args in
     let e = sym (c .before .before .before .fracture-checked .ensures) ∙ c .before .checked .given .1 in
     (fracture-refuses (s .file .now) (s .out .now) (s .scratch .now) e, small-refused e (fracture-refused (s .file .now) (length (s .out .now)) (length (s .scratch .now))))
 
-enum-told : tie.Need-enum-told
-enum-told c = search needs
-
-clear-both-requires : tie.Need-clear-both-requires
-clear-both-requires c κs = search needs
-
 fracture-file-requires : tie.Need-fracture-file-requires
 fracture-file-requires c κs =
     let s = c .before .before .before .before .before .before .before .before .before .before .args in
     let z = c .before .before .before .clear-both in
     (ready (c .before .before .before .before .before .before) .rows, omega arith, cleared-borrowed (z .last .0) (length (s .out .now)) (z .ensures .0))
-
-enum-told-2 : tie.Need-enum-told-2
-enum-told-2 c = search needs
-
-same-length : tie.Need-same-length
-same-length c = search needs
-
-same-length-2 : tie.Need-same-length-2
-same-length-2 c = search needs
 
 returns-2 : tie.Need-returns-2
 returns-2 c =
@@ -66,15 +45,6 @@ returns-2 c =
     let f = o .fracture-file in
     let m = cleared-length (z .last .0) (length (s .out .now)) (z .ensures .0) in
     (fracture-short (s .file .now) (s .out .now) (s .scratch .now) (passed t) (f .result) (length (z .last .0)) (f .last .1 .1 .0) (z .last .1 .0) (f .ensures) m (blanked o) (c .enum-told2 .given .1), (omega arith, omega arith))
-
-enum-known-f : tie.Need-enum-known-f
-enum-known-f c = search needs
-
-same-length-3 : tie.Need-same-length-3
-same-length-3 c = search needs
-
-same-length-4 : tie.Need-same-length-4
-same-length-4 c = search needs
 
 returns-3 : tie.Need-returns-3
 returns-3 c =
@@ -93,17 +63,17 @@ pub fracture-spec : {M : Type 1} → statement M
 fracture-spec =
     tie.close
     (tie.spec
-    fracture-checked-requires
-    enum-known-checked
+    (λ c κs. search needs)
+    (λ c. search needs)
     returns
-    enum-told
-    clear-both-requires
+    (λ c. search needs)
+    (λ c κs. search needs)
     fracture-file-requires
-    enum-told-2
-    same-length
-    same-length-2
+    (λ c. search needs)
+    (λ c. search needs)
+    (λ c. search needs)
     returns-2
-    enum-known-f
-    same-length-3
-    same-length-4
+    (λ c. search needs)
+    (λ c. search needs)
+    (λ c. search needs)
     returns-3)

@@ -12,26 +12,11 @@ module _ (c : tie.After-enum-told) where
   passed : layerFileChecked (c .before .before .before .before .args .file .now) ≡ Passed
   passed = let e : c .before .before .check-layer-file .result ≡ Passed = cc in sym (c .before .before .check-layer-file .ensures) ∙ e
 
-check-layer-file-requires : tie.Need-check-layer-file-requires
-check-layer-file-requires c κs = search needs
-
-enum-told : tie.Need-enum-told
-enum-told c = search needs
-
-enum-known-c : tie.Need-enum-known-c
-enum-known-c c = search needs
-
 returns : tie.Need-returns
 returns c =
     let k = c .before in
     let s = k .before .before .before .before .args in
     read-refused (s .file .now) (s .out .now) (sym (k .before .before .check-layer-file .ensures) ∙ k .c .given .1)
-
-clear-requires : tie.Need-clear-requires
-clear-requires c κs = search needs
-
-same-length : tie.Need-same-length
-same-length c = search needs
 
 returns-2 : tie.Need-returns-2
 returns-2 c =
@@ -39,16 +24,10 @@ returns-2 c =
     let s = k .before .before .before .before .args in
     read-short (s .file .now) (s .out .now) (passed k) (c .before .before .clear .ensures) (c .if1 .taken)
 
-decode-requires : tie.Need-decode-requires
-decode-requires c κs = search needs
-
 file-trapezoids-requires : tie.Need-file-trapezoids-requires
 file-trapezoids-requires c κs =
     let k = c .before .before .before .before .before .before .before in
     file-count (k .before .before .before .before .args .file .now) (passed k)
-
-same-length-2 : tie.Need-same-length-2
-same-length-2 c = search needs
 
 returns-3 : tie.Need-returns-3
 returns-3 c =
@@ -60,14 +39,14 @@ pub read-layers-spec : {M : Type 1} → statement M
 read-layers-spec =
     tie.close
     (tie.spec
-    check-layer-file-requires
-    enum-told
-    enum-known-c
+    (λ c κs. search needs)
+    (λ c. search needs)
+    (λ c. search needs)
     returns
-    clear-requires
-    same-length
+    (λ c κs. search needs)
+    (λ c. search needs)
     returns-2
-    decode-requires
+    (λ c κs. search needs)
     file-trapezoids-requires
-    same-length-2
+    (λ c. search needs)
     returns-3)

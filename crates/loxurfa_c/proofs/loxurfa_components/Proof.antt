@@ -7,35 +7,20 @@ use Rattle.calls.specs.Packed.{packedCount}
 use Rattle.loxurfa_c.proofs.loxurfa_components.Statement.{statement}
 use Rattle.loxurfa_c.proofs.loxurfa_components.Tie as tie
 
-components-requires : tie.Need-components-requires
-components-requires c κs = search needs
-
-enum-known-answer : tie.Need-enum-known-answer
-enum-known-answer c = search needs
-
 refusal-requires : tie.Need-refusal-requires
 refusal-requires c κs =
     let k = subst (λ (r : Connected). Small (connectedAnswer r)) (c .before .answer .given .1) (c .before .before .before .before .before .components .ensures .1) in
     (omega (arith, k .0), omega (arith, k .1))
-
-same-length : tie.Need-same-length
-same-length c = search needs
 
 returns : tie.Need-returns
 returns c =
     let e = c .before .before .before .before .before .before .components .ensures .0 in
     (c .refusal .ensures ∙ ap (λ (r : Connected). packedCount (connectedAnswer r)) (sym (c .before .before .answer .given .1)) ∙ ap (λ (x : Outcome). packedCount (x .answer)) e, ap (λ (x : Outcome). x .numbers) e)
 
-enum-known-answer-2 : tie.Need-enum-known-answer-2
-enum-known-answer-2 c = search needs
-
 success-requires : tie.Need-success-requires
 success-requires c κs =
     let k = subst (λ (r : Connected). Small (connectedAnswer r)) (c .before .answer2 .given .1) (c .before .before .before .before .before .components .ensures .1) in
     (k, omega arith)
-
-same-length-2 : tie.Need-same-length-2
-same-length-2 c = search needs
 
 returns-2 : tie.Need-returns-2
 returns-2 c =
@@ -46,12 +31,12 @@ pub loxurfa-components-spec : {M : Type 1} → statement M
 loxurfa-components-spec =
     tie.close
     (tie.spec
-    components-requires
-    enum-known-answer
+    (λ c κs. search needs)
+    (λ c. search needs)
     refusal-requires
-    same-length
+    (λ c. search needs)
     returns
-    enum-known-answer-2
+    (λ c. search needs)
     success-requires
-    same-length-2
+    (λ c. search needs)
     returns-2)

@@ -19,12 +19,6 @@ same-point a b code {x} {y} {d} {p} {q} {e} f g h =
     ∙ ap (λ (z : ℤ). packedPoint (containsAnswer (pointAt p z d) a b code)) g
     ∙ ap (λ (z : ℤ). packedPoint (containsAnswer (pointAt p q z) a b code)) h
 
-contains-requires : tie.Need-contains-requires
-contains-requires c κs = search needs
-
-enum-known-answer : tie.Need-enum-known-answer
-enum-known-answer c = search needs
-
 refusal-requires : tie.Need-refusal-requires
 refusal-requires c κs = subst (λ (r : Containment). SmallPoint (pointAnswer r)) (c .before .answer .given .1) (c .before .before .before .contains .ensures .1)
 
@@ -34,23 +28,11 @@ returns c =
     c .refusal .ensures ∙ ap (λ (r : Containment). packedPoint (pointAnswer r)) (sym (c .before .before .answer .given .1)) ∙ ap packedPoint (c .before .before .before .before .contains .ensures .0)
     ∙ same-point (s .args .a .now) (s .args .b .now) (s .args .code) (toZ-ofZ (s .fits .x)) (toZ-ofZ (s .fits .y)) (toZ-ofZ (s .fits .d))
 
-enum-told : tie.Need-enum-told
-enum-told c = search needs
-
-success-requires : tie.Need-success-requires
-success-requires c κs = search needs
-
 returns-2 : tie.Need-returns-2
 returns-2 c =
     let s = c .before .before .before .before in
     c .success .ensures ∙ ap (λ (r : Containment). packedPoint (pointAnswer r)) (sym (c .before .enum-told .given .1)) ∙ ap packedPoint (c .before .before .before .contains .ensures .0)
     ∙ same-point (s .args .a .now) (s .args .b .now) (s .args .code) (toZ-ofZ (s .fits .x)) (toZ-ofZ (s .fits .y)) (toZ-ofZ (s .fits .d))
-
-enum-told-2 : tie.Need-enum-told-2
-enum-told-2 c = search needs
-
-success-requires-2 : tie.Need-success-requires-2
-success-requires-2 c κs = search needs
 
 returns-3 : tie.Need-returns-3
 returns-3 c =
@@ -62,13 +44,13 @@ pub loxurfa-contains-spec : {M : Type 1} → statement M
 loxurfa-contains-spec =
     tie.close
     (tie.spec
-    contains-requires
-    enum-known-answer
+    (λ c κs. search needs)
+    (λ c. search needs)
     refusal-requires
     returns
-    enum-told
-    success-requires
+    (λ c. search needs)
+    (λ c κs. search needs)
     returns-2
-    enum-told-2
-    success-requires-2
+    (λ c. search needs)
+    (λ c κs. search needs)
     returns-3)

@@ -8,60 +8,27 @@ use Rattle.calls.specs.Packed.{packedEquality}
 use Rattle.loxurfa_c.proofs.loxurfa_equal.Statement.{statement}
 use Rattle.loxurfa_c.proofs.loxurfa_equal.Tie as tie
 
-equal-requires : tie.Need-equal-requires
-equal-requires c κs = search needs
-
-enum-known-answer : tie.Need-enum-known-answer
-enum-known-answer c = search needs
-
 refusal-requires : tie.Need-refusal-requires
 refusal-requires c κs = subst (λ (r : Equality). SmallEquality (equalityAnswer r)) (c .before .answer .given .1) (c .before .before .before .before .before .equal .ensures .1)
-
-same-length : tie.Need-same-length
-same-length c = search needs
-
-same-length-2 : tie.Need-same-length-2
-same-length-2 c = search needs
 
 returns : tie.Need-returns
 returns c =
     let e = c .before .before .before .before .before .before .equal .ensures .0 in
     (c .refusal .ensures ∙ ap (λ (r : Equality). packedEquality (equalityAnswer r)) (sym (c .before .before .answer .given .1)) ∙ ap (λ (x : Outcome EqualityAnswer). packedEquality (x .answer)) e, (ap (λ (x : Outcome EqualityAnswer). x .out) e, ap (λ (x : Outcome EqualityAnswer). x .scratch) e))
 
-enum-known-answer-2 : tie.Need-enum-known-answer-2
-enum-known-answer-2 c = search needs
-
 success-requires : tie.Need-success-requires
 success-requires c κs = (omega arith, subst (λ (r : Equality). SmallEquality (equalityAnswer r)) (c .before .answer2 .given .1) (c .before .before .before .before .before .equal .ensures .1))
-
-same-length-3 : tie.Need-same-length-3
-same-length-3 c = search needs
-
-same-length-4 : tie.Need-same-length-4
-same-length-4 c = search needs
 
 returns-2 : tie.Need-returns-2
 returns-2 c =
     let e = c .before .before .before .before .before .before .equal .ensures .0 in
     (c .success .ensures ∙ ap (λ (r : Equality). packedEquality (equalityAnswer r)) (sym (c .before .before .answer2 .given .1)) ∙ ap (λ (x : Outcome EqualityAnswer). packedEquality (x .answer)) e, (ap (λ (x : Outcome EqualityAnswer). x .out) e, ap (λ (x : Outcome EqualityAnswer). x .scratch) e))
 
-enum-known-answer-3 : tie.Need-enum-known-answer-3
-enum-known-answer-3 c = search needs
-
 add-success : tie.Need-add-success
 add-success c = let h = subst (λ (r : Equality). SmallEquality (equalityAnswer r)) (c .before .answer3 .given .1) (c .before .before .before .before .before .equal .ensures .1) in record { fits = omega (arith, h .0) }
 
-cast-success : tie.Need-cast-success
-cast-success c = search needs
-
 success-requires-2 : tie.Need-success-requires-2
 success-requires-2 c κs = let h = subst (λ (r : Equality). SmallEquality (equalityAnswer r)) (c .before .answer3 .given .1) (c .before .before .before .before .before .equal .ensures .1) in (omega (arith, h .0), h .1)
-
-same-length-5 : tie.Need-same-length-5
-same-length-5 c = search needs
-
-same-length-6 : tie.Need-same-length-6
-same-length-6 c = search needs
 
 returns-3 : tie.Need-returns-3
 returns-3 c =
@@ -72,21 +39,21 @@ pub loxurfa-equal-spec : {M : Type 1} → statement M
 loxurfa-equal-spec =
     tie.close
     (tie.spec
-    equal-requires
-    enum-known-answer
+    (λ c κs. search needs)
+    (λ c. search needs)
     refusal-requires
-    same-length
-    same-length-2
+    (λ c. search needs)
+    (λ c. search needs)
     returns
-    enum-known-answer-2
+    (λ c. search needs)
     success-requires
-    same-length-3
-    same-length-4
+    (λ c. search needs)
+    (λ c. search needs)
     returns-2
-    enum-known-answer-3
+    (λ c. search needs)
     add-success
-    cast-success
+    (λ c. search needs)
     success-requires-2
-    same-length-5
-    same-length-6
+    (λ c. search needs)
+    (λ c. search needs)
     returns-3)

@@ -7,37 +7,16 @@ use Rattle.calls.specs.Packed.{packed}
 use Rattle.loxurfa_c.proofs.loxurfa_fracture.Statement.{statement}
 use Rattle.loxurfa_c.proofs.loxurfa_fracture.Tie as tie
 
-fracture-requires : tie.Need-fracture-requires
-fracture-requires c κs = search needs
-
-enum-known-answer : tie.Need-enum-known-answer
-enum-known-answer c = search needs
-
 refusal-requires : tie.Need-refusal-requires
 refusal-requires c κs = subst (λ (r : Fractured). Small (fracturedAnswer r)) (c .before .answer .given .1) (c .before .before .before .before .before .fracture .ensures .1)
-
-same-length : tie.Need-same-length
-same-length c = search needs
-
-same-length-2 : tie.Need-same-length-2
-same-length-2 c = search needs
 
 returns : tie.Need-returns
 returns c =
     let e = c .before .before .before .before .before .before .fracture .ensures .0 in
     (c .refusal .ensures ∙ ap (λ (r : Fractured). packed (fracturedAnswer r)) (sym (c .before .before .answer .given .1)) ∙ ap (λ (x : Outcome Answer). packed (x .answer)) e, (ap (λ (x : Outcome Answer). x .out) e, ap (λ (x : Outcome Answer). x .scratch) e))
 
-enum-known-answer-2 : tie.Need-enum-known-answer-2
-enum-known-answer-2 c = search needs
-
 success-requires : tie.Need-success-requires
 success-requires c κs = subst (λ (r : Fractured). Small (fracturedAnswer r)) (c .before .answer2 .given .1) (c .before .before .before .before .before .fracture .ensures .1)
-
-same-length-3 : tie.Need-same-length-3
-same-length-3 c = search needs
-
-same-length-4 : tie.Need-same-length-4
-same-length-4 c = search needs
 
 returns-2 : tie.Need-returns-2
 returns-2 c =
@@ -48,14 +27,14 @@ pub loxurfa-fracture-spec : {M : Type 1} → statement M
 loxurfa-fracture-spec =
     tie.close
     (tie.spec
-    fracture-requires
-    enum-known-answer
+    (λ c κs. search needs)
+    (λ c. search needs)
     refusal-requires
-    same-length
-    same-length-2
+    (λ c. search needs)
+    (λ c. search needs)
     returns
-    enum-known-answer-2
+    (λ c. search needs)
     success-requires
-    same-length-3
-    same-length-4
+    (λ c. search needs)
+    (λ c. search needs)
     returns-2)

@@ -7,32 +7,17 @@ use Rattle.calls.specs.Packed.{packedFile}
 use Rattle.loxurfa_c.proofs.loxurfa_read_layers.Statement.{statement}
 use Rattle.loxurfa_c.proofs.loxurfa_read_layers.Tie as tie
 
-read-layers-requires : tie.Need-read-layers-requires
-read-layers-requires c κs = search needs
-
-enum-known-answer : tie.Need-enum-known-answer
-enum-known-answer c = search needs
-
 refusal-requires : tie.Need-refusal-requires
 refusal-requires c κs = subst (λ (r : LayersRead). Small (readAnswer r)) (c .before .answer .given .1) (c .before .before .before .before .read-layers .ensures .1)
-
-same-length : tie.Need-same-length
-same-length c = search needs
 
 returns : tie.Need-returns
 returns c =
     let e = c .before .before .before .before .before .read-layers .ensures .0 in
     (c .refusal .ensures ∙ ap (λ (r : LayersRead). packedFile (readAnswer r)) (sym (c .before .before .answer .given .1)) ∙ ap (λ (x : Outcome ℤ). packedFile (x .answer)) e, ap (λ (x : Outcome ℤ). x .out) e)
 
-enum-known-answer-2 : tie.Need-enum-known-answer-2
-enum-known-answer-2 c = search needs
-
 success-requires : tie.Need-success-requires
 success-requires c κs =
     subst (λ (r : LayersRead). Small (readAnswer r)) (c .before .answer2 .given .1) (c .before .before .before .before .read-layers .ensures .1)
-
-same-length-2 : tie.Need-same-length-2
-same-length-2 c = search needs
 
 returns-2 : tie.Need-returns-2
 returns-2 c =
@@ -43,12 +28,12 @@ pub loxurfa-read-layers-spec : {M : Type 1} → statement M
 loxurfa-read-layers-spec =
     tie.close
     (tie.spec
-    read-layers-requires
-    enum-known-answer
+    (λ c κs. search needs)
+    (λ c. search needs)
     refusal-requires
-    same-length
+    (λ c. search needs)
     returns
-    enum-known-answer-2
+    (λ c. search needs)
     success-requires
-    same-length-2
+    (λ c. search needs)
     returns-2)

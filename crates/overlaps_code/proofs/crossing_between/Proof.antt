@@ -26,12 +26,6 @@ module _ (c : tie.After-is-before2) where
 crossing-of-requires : tie.Need-crossing-of-requires
 crossing-of-requires c κs = (c .pre .0, c .pre .1)
 
-enum-known-c : tie.Need-enum-known-c
-enum-known-c c = search needs
-
-enum-told : tie.Need-enum-told
-enum-told c = search needs
-
 returns : tie.Need-returns
 returns c =
     let s = c .before .before .before .args in
@@ -63,4 +57,4 @@ returns-4 c =
 pub crossing-between-spec : {M : Type 1} → statement M
 crossing-between-spec =
     tie.close
-    (tie.spec crossing-of-requires enum-known-c enum-told returns is-before-requires is-before-requires-2 returns-2 returns-3 returns-4)
+    (tie.spec crossing-of-requires (λ c. search needs) (λ c. search needs) returns is-before-requires is-before-requires-2 returns-2 returns-3 returns-4)

@@ -15,20 +15,11 @@ abbrev μ-loop : tie.MeasureT-loop
 loop-holds : tie.Need-loop-holds Inv-loop μ-loop
 loop-holds c = let w = c .before .pre .0 in look-first (c .before .args .v .n) (c .before .args .v .list) (after (c .before .args .started) (c .before .args .g)) (w .long) (w .few) (w .placed)
 
-mul-e : tie.Need-mul-e Inv-loop μ-loop
-mul-e c = search needs
-
 array-copy-out-e : tie.Need-array-copy-out-e Inv-loop μ-loop
 array-copy-out-e c = omega (arith, c .before .loop .inv .few, c .loop-test .taken)
 
 better-requires : tie.Need-better-requires Inv-loop μ-loop
 better-requires c κs = let h = c .before .before .loop .inv in (h .placed, c .before .before .before .before .pre .1, placed-here _ _ _ _ _ h _ (c .before .loop-test .taken))
-
-add-i : tie.Need-add-i Inv-loop μ-loop
-add-i c = search needs
-
-loop-less : tie.Need-loop-less Inv-loop μ-loop
-loop-less c = search needs
 
 loop-again : tie.Need-loop-again Inv-loop μ-loop
 loop-again c = look-next _ _ _ _ _ (c .before .before .before .loop .inv) _ _ (c .before .before .loop-test .taken) (c .better .ensures)
@@ -43,10 +34,10 @@ next-event-spec =
     Inv-loop
     μ-loop
     loop-holds
-    mul-e
+    (λ c. search needs)
     array-copy-out-e
     better-requires
-    add-i
-    loop-less
+    (λ c. search needs)
+    (λ c. search needs)
     loop-again
     returns)

@@ -10,12 +10,6 @@ use Rattle.overlaps_code.proofs.overlap_from.Tie as tie
 crossing-between-requires : tie.Need-crossing-between-requires
 crossing-between-requires c κs = (c .pre .2, c .pre .3, c .pre .4, c .pre .5)
 
-enum-known-c : tie.Need-enum-known-c
-enum-known-c c = search needs
-
-enum-told : tie.Need-enum-told
-enum-told c = search needs
-
 returns : tie.Need-returns
 returns c =
     let s = c .before .before .before .args in
@@ -35,4 +29,4 @@ returns-2 c =
     rw (k .0) (c .overlap-right .ensures ∙ ap (overlapRight (s .a) (s .b)) (k .1 .is))
 
 pub overlap-from-spec : {M : Type 1} → statement M
-overlap-from-spec = tie.close (tie.spec crossing-between-requires enum-known-c enum-told returns overlap-right-requires returns-2)
+overlap-from-spec = tie.close (tie.spec crossing-between-requires (λ c. search needs) (λ c. search needs) returns overlap-right-requires returns-2)

@@ -11,27 +11,12 @@ use Rattle.overlaps_code.proofs.with_crossing.Tie as tie
 crossing-between-requires : tie.Need-crossing-between-requires
 crossing-between-requires c κs = c .pre .1
 
-enum-known-c : tie.Need-enum-known-c
-enum-known-c c = search needs
-
-enum-told : tie.Need-enum-told
-enum-told c = search needs
-
 returns : tie.Need-returns
 returns c =
     let s = c .before .before .before in
     let e : c .before .before .crossing-between .result ≡ Parallel = cc in
     no-more (s .args .v) (fractionOf (s .args .lo)) (fractionOf (s .args .hi)) (crossing (s .args .l) (s .args .m)) (s .pre .0 .0)
     (between-none (fractionOf (s .args .lo)) (fractionOf (s .args .hi)) (s .args .l) (s .args .m) (c .before .before .crossing-between .result) (c .before .before .crossing-between .ensures) e)
-
-mul-list : tie.Need-mul-list
-mul-list c = search needs
-
-array-set-from-list : tie.Need-array-set-from-list
-array-set-from-list c = search needs
-
-add-t12 : tie.Need-add-t12
-add-t12 c = search needs
 
 returns-2 : tie.Need-returns-2
 returns-2 c =
@@ -40,4 +25,4 @@ returns-2 c =
     one-more (s .args .v) (fractionOf (s .args .lo)) (fractionOf (s .args .hi)) (crossing (s .args .l) (s .args .m)) (s .pre .0 .0) (k .0) (s .pre .0 .1) _ refl (k .1)
 
 pub with-crossing-spec : {M : Type 1} → statement M
-with-crossing-spec = tie.close (tie.spec crossing-between-requires enum-known-c enum-told returns mul-list array-set-from-list add-t12 returns-2)
+with-crossing-spec = tie.close (tie.spec crossing-between-requires (λ c. search needs) (λ c. search needs) returns (λ c. search needs) (λ c. search needs) (λ c. search needs) returns-2)

@@ -24,24 +24,12 @@ abbrev μ-loop : tie.MeasureT-loop
 μ-loop a b tag out₀ room order in-a in-b at left right z0 lower₀ inside-a₀ inside-b₀ n₀ k₀ out lower inside-a inside-b n k =
     4 - k
 
-array-read-z0 : tie.Need-array-read-z0 Inv-loop μ-loop
-array-read-z0 c = search needs
-
-present-requires : tie.Need-present-requires Inv-loop μ-loop
-present-requires c κs = search needs
-
 returns : tie.Need-returns Inv-loop μ-loop
 returns c =
     let s = c .before .before .before .before .before .before in
     let a = s .args in
     let e = not-true (c .before .present .result) (c .if1 .taken) in
     stack-none (a .tag) (a .a) (a .b) (a .p .base) (a .q .base) (a .c .in_a) (a .c .in_b) (a .c .order) (s .pre .3) (a .out .now) (a .room) (s .pre .4) (sym (c .before .present .ensures) ∙ e)
-
-pass-requires : tie.Need-pass-requires Inv-loop μ-loop
-pass-requires c κs = search needs
-
-pass-requires-2 : tie.Need-pass-requires-2 Inv-loop μ-loop
-pass-requires-2 c κs = search needs
 
 loop-holds : tie.Need-loop-holds Inv-loop μ-loop
 loop-holds c =
@@ -50,28 +38,10 @@ loop-holds c =
     let e = not-false (c .before .before .before .present .result) (c .before .before .if1 .left) in
     stack-start (a .tag) (a .a) (a .b) (a .p .base) (a .q .base) (a .c .in_a) (a .c .in_b) (a .c .order) (s .pre .3) (a .out .now) (a .room) (s .pre .4) (sym (c .before .before .before .present .ensures) ∙ e) _ _ (c .before .pass .ensures) (c .pass2 .ensures)
 
-mul-z : tie.Need-mul-z Inv-loop μ-loop
-mul-z c = search needs
-
-array-read-z : tie.Need-array-read-z Inv-loop μ-loop
-array-read-z c = search needs
-
-present-requires-2 : tie.Need-present-requires-2 Inv-loop μ-loop
-present-requires-2 c κs = search needs
-
-same-length : tie.Need-same-length Inv-loop μ-loop
-same-length c = search needs
-
 returns-2 : tie.Need-returns-2 Inv-loop μ-loop
 returns-2 c =
     let e = not-true (c .before .present2 .result) (c .if2 .taken) in
     stack-end _ _ _ _ _ _ _ (c .before .before .before .loop .inv) (c .before .before .loop-test .taken) (sym (c .before .present2 .ensures) ∙ e)
-
-side-requires : tie.Need-side-requires Inv-loop μ-loop
-side-requires c κs = search needs
-
-side-requires-2 : tie.Need-side-requires-2 Inv-loop μ-loop
-side-requires-2 c κs = search needs
 
 is-below-requires : tie.Need-is-below-requires Inv-loop μ-loop
 is-below-requires c κs =
@@ -79,9 +49,6 @@ is-below-requires c κs =
     let a = s .args in
     let g : (i : ℕ) → OnGrid coordinateLimit (lineOfSide (a .a) (a .b) i) = λ i. side-grid (a .a) (a .b) i (s .pre .0) (s .pre .1) in
     (subst (OnGrid coordinateLimit) (sym (c .before .side .ensures)) (g _), subst (OnGrid coordinateLimit) (sym (c .side2 .ensures)) (g _), s .pre .2 .small)
-
-wanted-requires : tie.Need-wanted-requires Inv-loop μ-loop
-wanted-requires c κs = search needs
 
 mul-put-if : tie.Need-mul-put-if Inv-loop μ-loop
 mul-put-if c =
@@ -93,30 +60,9 @@ mul-put-if-2 c =
     let h = c .before .before .before .before .before .before .before .loop .inv .writing in
     omega (arith, h .upto, h .wide, c .before .before .before .before .before .before .before .before .before .before .before .before .before .before .before .before .good .1 .1 .1 .1 .1 .1 .0)
 
-sub-put-if : tie.Need-sub-put-if Inv-loop μ-loop
-sub-put-if c = search needs
-
-part-put-if-start : tie.Need-part-put-if-start Inv-loop μ-loop
-part-put-if-start c = search needs
-
-part-put-if-end : tie.Need-part-put-if-end Inv-loop μ-loop
-part-put-if-end c = search needs
-
-sub-put-if-2 : tie.Need-sub-put-if-2 Inv-loop μ-loop
-sub-put-if-2 c = search needs
-
 put-if-requires : tie.Need-put-if-requires Inv-loop μ-loop
 put-if-requires c κs =
     write-borrowed (c .before .before .before .before .before .before .before .before .loop .inv .writing)
-
-enum-known-f : tie.Need-enum-known-f Inv-loop μ-loop
-enum-known-f c = search needs
-
-enum-told : tie.Need-enum-told Inv-loop μ-loop
-enum-told c = search needs
-
-clear-requires : tie.Need-clear-requires Inv-loop μ-loop
-clear-requires c κs = search needs
 
 same-length-2 : tie.Need-same-length-2 Inv-loop μ-loop
 same-length-2 c = search needs
@@ -150,21 +96,6 @@ add-n c =
     let k = stack-upto _ _ _ _ _ _ _ (l .loop .inv) (r .before .loop-test .taken) (sym (r .present2 .ensures) ∙ e) _ _ _ _ _ (u .before .side .ensures) (u .side2 .ensures) (s .pre .2 .is) (v .is-below .ensures) (w .wanted .ensures) _ _ (o .put-if .ensures) _ (c .before .f .given .1) in
     omega (arith, k, l .loop .inv .writing .wide, s .good .1 .1 .1 .1 .1 .1 .0)
 
-raised-requires : tie.Need-raised-requires Inv-loop μ-loop
-raised-requires c κs = search needs
-
-pass-requires-3 : tie.Need-pass-requires-3 Inv-loop μ-loop
-pass-requires-3 c κs = search needs
-
-pass-requires-4 : tie.Need-pass-requires-4 Inv-loop μ-loop
-pass-requires-4 c κs = search needs
-
-add-k : tie.Need-add-k Inv-loop μ-loop
-add-k c = search needs
-
-loop-less : tie.Need-loop-less Inv-loop μ-loop
-loop-less c = search needs
-
 loop-again : tie.Need-loop-again Inv-loop μ-loop
 loop-again c =
     let o = c .before .before .before .before .before .before .before in
@@ -178,9 +109,6 @@ loop-again c =
     let e = not-false (r .present2 .result) (y .if2 .left) in
     stack-next _ _ _ _ _ _ _ (l .loop .inv) (r .before .loop-test .taken) (sym (r .present2 .ensures) ∙ e) _ _ _ _ _ (u .before .side .ensures) (u .side2 .ensures) (s .pre .2 .is) (v .is-below .ensures) (w .wanted .ensures) _ _ (o .put-if .ensures) _ (c .before .before .before .before .f .given .1) _ _ _ (c .before .before .raised .ensures) (c .before .pass3 .ensures) (c .pass4 .ensures)
 
-same-length-3 : tie.Need-same-length-3 Inv-loop μ-loop
-same-length-3 c = search needs
-
 returns-4 : tie.Need-returns-4 Inv-loop μ-loop
 returns-4 c =
     stack-last _ _ _ _ _ _ _ (c .before .loop .inv) (omega (arith, c .loop-test .left))
@@ -191,39 +119,39 @@ fill-column-spec =
     (tie.spec
     Inv-loop
     μ-loop
-    array-read-z0
-    present-requires
+    (λ c. search needs)
+    (λ c κs. search needs)
     returns
-    pass-requires
-    pass-requires-2
+    (λ c κs. search needs)
+    (λ c κs. search needs)
     loop-holds
-    mul-z
-    array-read-z
-    present-requires-2
-    same-length
+    (λ c. search needs)
+    (λ c. search needs)
+    (λ c κs. search needs)
+    (λ c. search needs)
     returns-2
-    side-requires
-    side-requires-2
+    (λ c κs. search needs)
+    (λ c κs. search needs)
     is-below-requires
-    wanted-requires
+    (λ c κs. search needs)
     mul-put-if
     mul-put-if-2
-    sub-put-if
-    part-put-if-start
-    part-put-if-end
-    sub-put-if-2
+    (λ c. search needs)
+    (λ c. search needs)
+    (λ c. search needs)
+    (λ c. search needs)
     put-if-requires
-    enum-known-f
-    enum-told
-    clear-requires
+    (λ c. search needs)
+    (λ c. search needs)
+    (λ c κs. search needs)
     same-length-2
     returns-3
     add-n
-    raised-requires
-    pass-requires-3
-    pass-requires-4
-    add-k
-    loop-less
+    (λ c κs. search needs)
+    (λ c κs. search needs)
+    (λ c κs. search needs)
+    (λ c. search needs)
+    (λ c. search needs)
     loop-again
-    same-length-3
+    (λ c. search needs)
     returns-4)

@@ -28,12 +28,6 @@ event-at-requires c κs = tt
 next-event-requires : tie.Need-next-event-requires Inv-loop μ-loop
 next-event-requires c κs = (c .before .before .before .events-of .ensures .well, event-of (c .event-at .result) (c .event-at .ensures .0) (c .event-at .ensures .1) (c .before .before .before .before .pre .0 .first .left))
 
-enum-known-first : tie.Need-enum-known-first Inv-loop μ-loop
-enum-known-first c = search needs
-
-enum-told : tie.Need-enum-told Inv-loop μ-loop
-enum-told c = search needs
-
 returns : tie.Need-returns Inv-loop μ-loop
 returns c =
     let s = c .before .before .before .before .before .before .before in
@@ -55,12 +49,6 @@ loop-holds c =
 
 next-event-requires-2 : tie.Need-next-event-requires-2 Inv-loop μ-loop
 next-event-requires-2 c κs = (c .before .before .before .before .before .before .before .before .before .events-of .ensures .well, c .loop .inv .event)
-
-enum-known-next : tie.Need-enum-known-next Inv-loop μ-loop
-enum-known-next c = search needs
-
-enum-told-2 : tie.Need-enum-told-2 Inv-loop μ-loop
-enum-told-2 c = search needs
 
 same-length : tie.Need-same-length Inv-loop μ-loop
 same-length c = c .before .before .before .loop .inv .writing .long
@@ -90,9 +78,6 @@ mul-fill-column-2 c =
 sub-fill-column : tie.Need-sub-fill-column Inv-loop μ-loop
 sub-fill-column c = let h = c .before .before .before .before .loop .inv in omega (arith, h .writing .long, h .writing .wide, h .writing .upto)
 
-part-fill-column-start : tie.Need-part-fill-column-start Inv-loop μ-loop
-part-fill-column-start c = search needs
-
 part-fill-column-end : tie.Need-part-fill-column-end Inv-loop μ-loop
 part-fill-column-end c = let h = c .before .before .before .before .loop .inv in omega (arith, h .writing .long, h .writing .wide, h .writing .upto)
 
@@ -107,12 +92,6 @@ fill-column-requires c κs =
     let hb = s .pre .0 .second .fit in
     let h = l .loop .inv in
     (ha, hb, h .event, column-four ha hb _ _ (h .column) .long, write-borrowed (h .writing))
-
-enum-known-f : tie.Need-enum-known-f Inv-loop μ-loop
-enum-known-f c = search needs
-
-enum-told-3 : tie.Need-enum-told-3 Inv-loop μ-loop
-enum-told-3 c = search needs
 
 clear-requires : tie.Need-clear-requires Inv-loop μ-loop
 clear-requires c κs = tt
@@ -202,25 +181,25 @@ fill-columns-spec =
     events-of-requires
     event-at-requires
     next-event-requires
-    enum-known-first
-    enum-told
+    (λ c. search needs)
+    (λ c. search needs)
     returns
     column-at-requires
     loop-holds
     next-event-requires-2
-    enum-known-next
-    enum-told-2
+    (λ c. search needs)
+    (λ c. search needs)
     same-length
     returns-2
     mul-fill-column
     mul-fill-column-2
     sub-fill-column
-    part-fill-column-start
+    (λ c. search needs)
     part-fill-column-end
     sub-fill-column-2
     fill-column-requires
-    enum-known-f
-    enum-told-3
+    (λ c. search needs)
+    (λ c. search needs)
     clear-requires
     same-length-2
     returns-3

@@ -13,15 +13,6 @@ module _ (c : tie.After-known-told) where
   found : (crosses (c .before .before .before .before .args .l) (c .before .before .before .before .args .m) ≡ true) × (fractionOf (c .before .c .given .0 .0) ≡ meet (c .before .before .before .before .args .l) (c .before .before .before .before .args .m)) × Small (c .before .c .given .0 .0)
   found = crossed (c .before .before .before .before .args .l) (c .before .before .before .before .args .m) (c .before .before .before .crossing-of .result) (c .before .c .given .0 .0) (c .before .before .before .crossing-of .ensures) (c .before .c .given .1)
 
-crossing-of-requires : tie.Need-crossing-of-requires
-crossing-of-requires c κs = search needs
-
-enum-known-c : tie.Need-enum-known-c
-enum-known-c c = search needs
-
-enum-told : tie.Need-enum-told
-enum-told c = search needs
-
 returns : tie.Need-returns
 returns c =
     let s = c .before .before .before .args in
@@ -56,9 +47,9 @@ pub crossing-inside-spec : {M : Type 1} → statement M
 crossing-inside-spec =
     tie.close
     (tie.spec
-    crossing-of-requires
-    enum-known-c
-    enum-told
+    (λ c κs. search needs)
+    (λ c. search needs)
+    (λ c. search needs)
     returns
     is-inside-requires
     is-inside-requires-2

@@ -4,15 +4,6 @@ use Rattle.polygon_events_code.proofs.Branches.{inside-yes, inside-no}
 use Rattle.polygon_events_code.proofs.is_inside.Statement.{statement}
 use Rattle.polygon_events_code.proofs.is_inside.Tie as tie
 
-span-of-requires : tie.Need-span-of-requires
-span-of-requires c κs = search needs
-
-is-before-requires : tie.Need-is-before-requires
-is-before-requires c κs = search needs
-
-is-before-requires-2 : tie.Need-is-before-requires-2
-is-before-requires-2 c κs = search needs
-
 returns : tie.Need-returns
 returns c =
     let s = c .before .before .before .before in
@@ -25,4 +16,4 @@ returns-2 c =
 
 pub is-inside-spec : {M : Type 1} → statement M
 is-inside-spec =
-    tie.close (tie.spec span-of-requires is-before-requires is-before-requires-2 returns returns-2)
+    tie.close (tie.spec (λ c κs. search needs) (λ c κs. search needs) (λ c κs. search needs) returns returns-2)

@@ -4,19 +4,10 @@ use Rattle.polygon_events_code.proofs.Branches.{spans-yes, spans-no}
 use Rattle.polygon_events_code.proofs.is_spanning.Statement.{statement}
 use Rattle.polygon_events_code.proofs.is_spanning.Tie as tie
 
-span-of-requires : tie.Need-span-of-requires
-span-of-requires c κs = search needs
-
-is-before-requires : tie.Need-is-before-requires
-is-before-requires c κs = search needs
-
 returns : tie.Need-returns
 returns c =
     let s = c .before .before .before in
     spans-no (s .args .p) (s .args .l) _ (c .before .before .span-of .ensures) (sym (c .before .is-before .ensures) ∙ c .if1 .taken)
-
-is-before-requires-2 : tie.Need-is-before-requires-2
-is-before-requires-2 c κs = search needs
 
 returns-2 : tie.Need-returns-2
 returns-2 c =
@@ -25,4 +16,4 @@ returns-2 c =
 
 pub is-spanning-spec : {M : Type 1} → statement M
 is-spanning-spec =
-    tie.close (tie.spec span-of-requires is-before-requires returns is-before-requires-2 returns-2)
+    tie.close (tie.spec (λ c κs. search needs) (λ c κs. search needs) returns (λ c κs. search needs) returns-2)

@@ -3,14 +3,8 @@ use Rattle.polygon_events_code.proofs.Branches.{mark-event}
 use Rattle.polygon_events_code.proofs.mark_at.Statement.{statement}
 use Rattle.polygon_events_code.proofs.mark_at.Tie as tie
 
-mark-line-requires : tie.Need-mark-line-requires
-mark-line-requires c κs = search needs
-
-whole-position-requires : tie.Need-whole-position-requires
-whole-position-requires c κs = search needs
-
 returns : tie.Need-returns
 returns c = let s = c .before .before in mark-event (s .args .limit) (s .args .x .v) _ _ (c .before .mark-line .ensures) (c .whole-position .ensures)
 
 pub mark-at-spec : {M : Type 1} → statement M
-mark-at-spec = tie.close (tie.spec mark-line-requires whole-position-requires returns)
+mark-at-spec = tie.close (tie.spec (λ c κs. search needs) (λ c κs. search needs) returns)

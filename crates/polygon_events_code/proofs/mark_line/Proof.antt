@@ -12,24 +12,6 @@ use Rattle.polygon_events_code.proofs.Branches.{mark-rising, mark-falli
 use Rattle.polygon_events_code.proofs.mark_line.Statement.{statement}
 use Rattle.polygon_events_code.proofs.mark_line.Tie as tie
 
-narrow-requires : tie.Need-narrow-requires
-narrow-requires c κs = search needs
-
-of-requires : tie.Need-of-requires
-of-requires c κs = search needs
-
-natural-requires : tie.Need-natural-requires
-natural-requires c κs = search needs
-
-less-requires : tie.Need-less-requires
-less-requires c κs = search needs
-
-add-requires : tie.Need-add-requires
-add-requires c κs = search needs
-
-narrow-requires-2 : tie.Need-narrow-requires-2
-narrow-requires-2 c κs = search needs
-
 returns : tie.Need-returns
 returns c =
     let w = c .before .before .before in
@@ -39,12 +21,6 @@ returns c =
     let fk : SFits w32 (k .result) = fits _ (omega (arith, k .ensures .1, s .pre .0, s .pre .1)) in
     let fn : SFits w32 (c .narrow2 .result) = fits _ (omega (arith, c .narrow2 .ensures .1, c .before .add .ensures .1, one .ensures .1, s .pre .0, s .pre .1)) in
     mark-rising _ _ _ _ (toZ-ofZ fk ∙ k .ensures .0) (toZ-ofZ fn ∙ c .narrow2 .ensures .0 ∙ c .before .add .ensures .0 ∙ ap (λ (z : ℤ). s .args .x .v ⊕ z) (one .ensures .0)) (sym (w .less .ensures ∙ ap (ltZ (s .args .x .v)) (w .before .natural .ensures .0)) ∙ c .before .before .if1 .taken)
-
-sub-requires : tie.Need-sub-requires
-sub-requires c κs = search needs
-
-narrow-requires-3 : tie.Need-narrow-requires-3
-narrow-requires-3 c κs = search needs
 
 returns-2 : tie.Need-returns-2
 returns-2 c =
@@ -60,13 +36,13 @@ pub mark-line-spec : {M : Type 1} → statement M
 mark-line-spec =
     tie.close
     (tie.spec
-    narrow-requires
-    of-requires
-    natural-requires
-    less-requires
-    add-requires
-    narrow-requires-2
+    (λ c κs. search needs)
+    (λ c κs. search needs)
+    (λ c κs. search needs)
+    (λ c κs. search needs)
+    (λ c κs. search needs)
+    (λ c κs. search needs)
     returns
-    sub-requires
-    narrow-requires-3
+    (λ c κs. search needs)
+    (λ c κs. search needs)
     returns-2)

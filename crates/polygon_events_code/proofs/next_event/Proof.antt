@@ -14,31 +14,19 @@ Inv-loop words v limit started g list n best₀ i₀ best i = Meeting v (after s
 abbrev μ-loop : tie.MeasureT-loop
 μ-loop words v limit started g list n best₀ i₀ best i = n - i
 
-next-mark-requires : tie.Need-next-mark-requires Inv-loop μ-loop
-next-mark-requires c κs = search needs
-
 loop-holds : tie.Need-loop-holds Inv-loop μ-loop
 loop-holds c =
     let s = c .before .before in
     meeting-start (s .args .v) (after (s .args .started) (s .args .g)) (marks (s .args .limit) (polygonOf (s .args .words .now))) (s .pre .2) _ (c .next-mark .ensures)
 
-mul-d : tie.Need-mul-d Inv-loop μ-loop
-mul-d c = search needs
-
 array-copy-out-d : tie.Need-array-copy-out-d Inv-loop μ-loop
 array-copy-out-d c = omega (arith, c .before .loop .inv .well .few, c .loop-test .taken)
-
-add-i : tie.Need-add-i Inv-loop μ-loop
-add-i c = search needs
 
 with-pairs-requires : tie.Need-with-pairs-requires Inv-loop μ-loop
 with-pairs-requires c κs =
     let h = c .before .before .loop .inv in
     let s = c .before .before .before .before .before in
     (h .placed, s .pre .3, meeting-grid _ _ _ _ _ h _ (c .before .loop-test .taken), h .well)
-
-loop-less : tie.Need-loop-less Inv-loop μ-loop
-loop-less c = search needs
 
 loop-again : tie.Need-loop-again Inv-loop μ-loop
 loop-again c = meeting-next _ _ _ _ _ (c .before .before .before .loop .inv) _ (c .before .before .loop-test .taken) _ (c .with-pairs .ensures)
@@ -52,12 +40,12 @@ next-event-spec =
     (tie.spec
     Inv-loop
     μ-loop
-    next-mark-requires
+    (λ c κs. search needs)
     loop-holds
-    mul-d
+    (λ c. search needs)
     array-copy-out-d
-    add-i
+    (λ c. search needs)
     with-pairs-requires
-    loop-less
+    (λ c. search needs)
     loop-again
     returns)

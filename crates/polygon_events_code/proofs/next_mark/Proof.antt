@@ -18,9 +18,6 @@ loop-holds c = marking-start (c .args .limit) (c .args .words .now) (after (c .a
 add-loop : tie.Need-add-loop Inv-loop μ-loop
 add-loop c = omega (arith, c .loop .inv .within, c .before .good .0)
 
-get-requires : tie.Need-get-requires Inv-loop μ-loop
-get-requires c κs = search needs
-
 mark-at-requires : tie.Need-mark-at-requires Inv-loop μ-loop
 mark-at-requires c κs =
     let s = c .before .before .before in
@@ -30,12 +27,6 @@ better-requires : tie.Need-better-requires Inv-loop μ-loop
 better-requires c κs =
     let s = c .before .before .before .before in
     (c .before .before .before .loop .inv .placed, s .pre .2, c .mark-at .ensures .event)
-
-add-k : tie.Need-add-k Inv-loop μ-loop
-add-k c = search needs
-
-loop-less : tie.Need-loop-less Inv-loop μ-loop
-loop-less c = search needs
 
 loop-again : tie.Need-loop-again Inv-loop μ-loop
 loop-again c = marking-next _ _ _ _ _ (c .before .before .before .before .loop .inv) (c .before .before .before .loop-test .taken) _ (c .before .before .get .ensures .0) _ _ (c .before .mark-at .ensures) (c .better .ensures)
@@ -51,10 +42,10 @@ next-mark-spec =
     μ-loop
     loop-holds
     add-loop
-    get-requires
+    (λ c κs. search needs)
     mark-at-requires
     better-requires
-    add-k
-    loop-less
+    (λ c. search needs)
+    (λ c. search needs)
     loop-again
     returns)

@@ -7,12 +7,6 @@ use Rattle.polygon_events_code.proofs.Branches.{span-placed}
 use Rattle.polygon_events_code.proofs.span_of.Statement.{statement}
 use Rattle.polygon_events_code.proofs.span_of.Tie as tie
 
-widen-requires : tie.Need-widen-requires
-widen-requires c κs = search needs
-
-widen-requires-2 : tie.Need-widen-requires-2
-widen-requires-2 c κs = search needs
-
 whole-position-requires : tie.Need-whole-position-requires
 whole-position-requires c κs =
     let y = c .before .struct-told2 .given in
@@ -36,8 +30,8 @@ pub span-of-spec : {M : Type 1} → statement M
 span-of-spec =
     tie.close
     (tie.spec
-    widen-requires
-    widen-requires-2
+    (λ c κs. search needs)
+    (λ c κs. search needs)
     whole-position-requires
     whole-position-requires-2
     returns)

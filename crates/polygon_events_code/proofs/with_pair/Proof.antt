@@ -6,23 +6,11 @@ use Rattle.polygon_events_code.proofs.Branches.{pair-none, pair-at, pai
 use Rattle.polygon_events_code.proofs.with_pair.Statement.{statement}
 use Rattle.polygon_events_code.proofs.with_pair.Tie as tie
 
-crossing-inside-requires : tie.Need-crossing-inside-requires
-crossing-inside-requires c κs = search needs
-
-enum-known-c : tie.Need-enum-known-c
-enum-known-c c = search needs
-
-enum-told : tie.Need-enum-told
-enum-told c = search needs
-
 returns : tie.Need-returns
 returns c =
     let s = c .before .before .before in
     let e : c .before .before .crossing-inside .result ≡ Parallel = cc in
     pair-none (s .args .l) (s .args .m) (c .before .before .crossing-inside .result) (c .before .before .crossing-inside .ensures) (s .args .best) (after (s .args .started) (s .args .g)) e (s .pre .0)
-
-event-at-requires : tie.Need-event-at-requires
-event-at-requires c κs = search needs
 
 better-requires : tie.Need-better-requires
 better-requires c κs =
@@ -40,10 +28,10 @@ pub with-pair-spec : {M : Type 1} → statement M
 with-pair-spec =
     tie.close
     (tie.spec
-    crossing-inside-requires
-    enum-known-c
-    enum-told
+    (λ c κs. search needs)
+    (λ c. search needs)
+    (λ c. search needs)
     returns
-    event-at-requires
+    (λ c κs. search needs)
     better-requires
     returns-2)

@@ -17,9 +17,6 @@ loop-holds c =
     let s = c .before in
     pairing-start (s .args .v) (after (s .args .started) (s .args .g)) (s .args .d) (s .args .best) (s .args .first) (s .pre .3) (s .pre .0)
 
-mul-e : tie.Need-mul-e Inv-loop μ-loop
-mul-e c = search needs
-
 array-copy-out-e : tie.Need-array-copy-out-e Inv-loop μ-loop
 array-copy-out-e c = omega (arith, c .before .loop .inv .well .few, c .loop-test .taken)
 
@@ -28,12 +25,6 @@ with-pair-requires c κs =
     let h = c .before .before .loop .inv in
     let s = c .before .before .before .before in
     (h .placed, s .pre .1, s .pre .2, pairing-grid _ _ _ _ _ _ _ h _ (c .before .loop-test .taken))
-
-add-j : tie.Need-add-j Inv-loop μ-loop
-add-j c = search needs
-
-loop-less : tie.Need-loop-less Inv-loop μ-loop
-loop-less c = search needs
 
 loop-again : tie.Need-loop-again Inv-loop μ-loop
 loop-again c = pairing-next _ _ _ _ _ _ _ (c .before .before .before .loop .inv) _ (c .before .before .loop-test .taken) _ (c .with-pair .ensures)
@@ -48,10 +39,10 @@ with-pairs-spec =
     Inv-loop
     μ-loop
     loop-holds
-    mul-e
+    (λ c. search needs)
     array-copy-out-e
     with-pair-requires
-    add-j
-    loop-less
+    (λ c. search needs)
+    (λ c. search needs)
     loop-again
     returns)

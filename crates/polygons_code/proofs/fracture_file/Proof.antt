@@ -42,9 +42,6 @@ mul-fracture-numbered-2 c =
 sub-fracture-numbered : tie.Need-sub-fracture-numbered Inv-loop μ-loop
 sub-fracture-numbered c = let h = c .before .loop .inv .writing in omega (arith, h .long, h .wide, h .upto)
 
-part-fracture-numbered-start : tie.Need-part-fracture-numbered-start Inv-loop μ-loop
-part-fracture-numbered-start c = search needs
-
 part-fracture-numbered-end : tie.Need-part-fracture-numbered-end Inv-loop μ-loop
 part-fracture-numbered-end c = let h = c .before .loop .inv .writing in omega (arith, h .long, h .wide, h .upto)
 
@@ -59,15 +56,6 @@ fracture-numbered-requires c κs =
     let s = k .before .before in
     let less : l .loop .i < countIn (fileWords (s .args .file .now)) = omega (arith, t .loop-test .taken, k .polygon-count .ensures .0) in
     (checked-pairs (s .args .limit) (s .args .file .now) (s .pre .0), k .polygon-count .ensures .0, less, cutting-grid (l .loop .inv) less, s .pre .1, write-borrowed (l .loop .inv .writing))
-
-enum-known-f : tie.Need-enum-known-f Inv-loop μ-loop
-enum-known-f c = search needs
-
-enum-told : tie.Need-enum-told Inv-loop μ-loop
-enum-told c = search needs
-
-clear-requires : tie.Need-clear-requires Inv-loop μ-loop
-clear-requires c κs = search needs
 
 same-length : tie.Need-same-length Inv-loop μ-loop
 same-length c =
@@ -135,13 +123,13 @@ fracture-file-spec =
     mul-fracture-numbered
     mul-fracture-numbered-2
     sub-fracture-numbered
-    part-fracture-numbered-start
+    (λ c. search needs)
     part-fracture-numbered-end
     sub-fracture-numbered-2
     fracture-numbered-requires
-    enum-known-f
-    enum-told
-    clear-requires
+    (λ c. search needs)
+    (λ c. search needs)
+    (λ c κs. search needs)
     same-length
     returns
     add-n

@@ -30,9 +30,6 @@ module _ (c : tie.After-load-polygon) where
 polygon-extent-requires : tie.Need-polygon-extent-requires
 polygon-extent-requires c κs = let s = c .before in (s .pre .0, s .pre .2)
 
-slice-aggregate-load-polygon : tie.Need-slice-aggregate-load-polygon
-slice-aggregate-load-polygon c = search needs
-
 load-polygon-requires : tie.Need-load-polygon-requires
 load-polygon-requires c κs =
     let e = c .before .polygon-extent .ensures in
@@ -56,9 +53,6 @@ fracture-polygon-requires c κs =
     let s = w .before .before .before .before in
     (subst (PolygonOnGrid (s .args .limit)) (sym (loaded w)) (s .pre .3), s .pre .4, omega (arith, loaded-length w, e .0 .1, e .1 .most), s .pre .5)
 
-same-length : tie.Need-same-length
-same-length c = search needs
-
 returns : tie.Need-returns
 returns c =
     let r = c .before .fracture-polygon in
@@ -71,11 +65,11 @@ fracture-numbered-spec =
     tie.close
     (tie.spec
     polygon-extent-requires
-    slice-aggregate-load-polygon
+    (λ c. search needs)
     load-polygon-requires
     mul-end
     array-share-prefix-words
     slice-aggregate-fracture-polygon
     fracture-polygon-requires
-    same-length
+    (λ c. search needs)
     returns)

@@ -17,17 +17,8 @@ module _ (n : ℕ) (high : 2147483648 ≤ n) (range : n < 4294967296) where
   fits : SFits w32 (negsuc 0 -ℤ toZ w32 (4294967295 - n))
   fits = subst (SFits w32) (sym value) (record { sfits = omega arith })
 
-cast-result : tie.Need-cast-result
-cast-result c = search needs
-
 returns : tie.Need-returns
 returns c = toZ-pos w32 (c .if1 .taken) ∙ sym (signed-low (c .before .args .n) (c .if1 .taken))
-
-sub-m : tie.Need-sub-m
-sub-m c = search needs
-
-cast-k : tie.Need-cast-k
-cast-k c = search needs
 
 sub-result : tie.Need-sub-result
 sub-result c = fits (c .before .args .n) (c .if1 .left) (c .before .pre)
@@ -38,4 +29,4 @@ returns-2 c =
     toZ-ofZ (fits n (c .if1 .left) (c .before .pre)) ∙ value n (c .if1 .left) (c .before .pre) ∙ sym (signed-high n (c .if1 .left))
 
 pub signed-spec : {M : Type 1} → statement M
-signed-spec = tie.close (tie.spec cast-result returns sub-m cast-k sub-result returns-2)
+signed-spec = tie.close (tie.spec (λ c. search needs) returns (λ c. search needs) (λ c. search needs) sub-result returns-2)

@@ -1,20 +1,17 @@
 use Prim.Native.Nat.{_%_}
 use borrow.Author.Needs.{needs}
 use borrow.Author.Tests.{eq-eqb, ne-eqb}
-use Rattle.records.specs.Limits.{sized}
+use Rattle.records.specs.Limits.{sized, memoryWidth}
 use Rattle.records_code.proofs.sized.Statement.{statement}
 use Rattle.records_code.proofs.sized.Tie as tie
 
-mul-result : tie.Need-mul-result
-mul-result c = search needs
-
 returns : tie.Need-returns
 unfolding sized
-returns c = rw (eq-eqb (c .before .args .words % 24) 0 (c .if1 .taken))
+returns c = rw (eq-eqb (c .before .args .words % memoryWidth) 0 (c .if1 .taken))
 
 returns-2 : tie.Need-returns-2
 unfolding sized
-returns-2 c = rw (ne-eqb (c .before .args .words % 24) 0 (c .if1 .left))
+returns-2 c = rw (ne-eqb (c .before .args .words % memoryWidth) 0 (c .if1 .left))
 
 pub sized-spec : {M : Type 1} → statement M
-sized-spec = tie.close (tie.spec mul-result returns returns-2)
+sized-spec = tie.close (tie.spec (λ c. search needs) returns returns-2)

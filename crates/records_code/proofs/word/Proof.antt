@@ -5,14 +5,8 @@ use Rattle.records.specs.Words.{signed}
 use Rattle.records_code.proofs.word.Statement.{statement}
 use Rattle.records_code.proofs.word.Tie as tie
 
-unsigned-requires : tie.Need-unsigned-requires
-unsigned-requires c κs = search needs
-
-signed-requires : tie.Need-signed-requires
-signed-requires c κs = search needs
-
 returns : tie.Need-returns
 returns c = toZ-ofZ (sfits-of (c .signed .ok)) ∙ c .signed .ensures ∙ ap signed (c .before .unsigned .ensures .0)
 
 pub word-spec : {M : Type 1} → statement M
-word-spec = tie.close (tie.spec unsigned-requires signed-requires returns)
+word-spec = tie.close (tie.spec (λ c κs. search needs) (λ c κs. search needs) returns)

@@ -10,12 +10,6 @@ returns : tie.Need-returns
 returns c =
     (whole-short (c .before .args .room) (c .if1 .taken), c .before .pre .blank)
 
-store-requires : tie.Need-store-requires
-store-requires c κs = search needs
-
-same-length : tie.Need-same-length
-same-length c = search needs
-
 returns-2 : tie.Need-returns-2
 returns-2 c =
     let s = c .before .before .before .before in
@@ -25,4 +19,4 @@ returns-2 c =
     (e .0, (e .1 .0, e .1 .1, f .ensures ∙ e .1 .2))
 
 pub add-whole-spec : {M : Type 1} → statement M
-add-whole-spec = tie.close (tie.spec returns store-requires same-length returns-2)
+add-whole-spec = tie.close (tie.spec returns (λ c κs. search needs) (λ c. search needs) returns-2)

@@ -8,18 +8,6 @@ use Rattle.remainder_code.proofs.One.{first-short, first-done}
 use Rattle.remainder_code.proofs.first_into.Statement.{statement}
 use Rattle.remainder_code.proofs.first_into.Tie as tie
 
-overlay-into-requires : tie.Need-overlay-into-requires
-overlay-into-requires c κs = search needs
-
-enum-told : tie.Need-enum-told
-enum-told c = search needs
-
-enum-known-f : tie.Need-enum-known-f
-enum-known-f c = search needs
-
-same-length : tie.Need-same-length
-same-length c = search needs
-
 returns : tie.Need-returns
 returns c =
     let s = c .before .before .before .before .before in
@@ -28,9 +16,6 @@ returns c =
     let t = f .last .1 .1 .1 .0 in
     first-short (length (a .out .now)) (a .room) (a .a .shape) (a .b .shape) t
     (subst (λ (x : Fill). FilledAs (length (a .out .now)) (a .room) (tagged 1 (overlay (a .a .shape) (a .b .shape))) x t) (c .enum-told .given .1) (f .ensures))
-
-same-length-2 : tie.Need-same-length-2
-same-length-2 c = search needs
 
 returns-2 : tie.Need-returns-2
 returns-2 c =
@@ -45,10 +30,10 @@ pub first-into-spec : {M : Type 1} → statement M
 first-into-spec =
     tie.close
     (tie.spec
-    overlay-into-requires
-    enum-told
-    enum-known-f
-    same-length
+    (λ c κs. search needs)
+    (λ c. search needs)
+    (λ c. search needs)
+    (λ c. search needs)
     returns
-    same-length-2
+    (λ c. search needs)
     returns-2)

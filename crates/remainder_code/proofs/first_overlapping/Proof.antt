@@ -26,12 +26,6 @@ returns c =
     let p = c .before .before in
     pass-found (p .before .before .loop .inv) (p .before .loop-test .taken) (p .placed-at .result .shape) (p .placed-at .ensures .shape) (sym (c .before .overlapping .ensures) ∙ c .if1 .taken)
 
-add-i : tie.Need-add-i Inv-loop μ-loop
-add-i c = search needs
-
-loop-less : tie.Need-loop-less Inv-loop μ-loop
-loop-less c = search needs
-
 loop-again : tie.Need-loop-again Inv-loop μ-loop
 loop-again c =
     let p = c .before .before in
@@ -50,7 +44,7 @@ first-overlapping-spec =
     placed-at-requires
     overlapping-requires
     returns
-    add-i
-    loop-less
+    (λ c. search needs)
+    (λ c. search needs)
     loop-again
     returns-2)

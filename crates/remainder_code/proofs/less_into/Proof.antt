@@ -70,9 +70,6 @@ sub-overlay-into c =
     let h = c .before .before .before .loop .inv .writing in
     omega (arith, h .upto, h .wide, h .long, c .before .before .before .before .good .1 .1 .0)
 
-part-overlay-into-start : tie.Need-part-overlay-into-start Inv-loop μ-loop
-part-overlay-into-start c = search needs
-
 part-overlay-into-end : tie.Need-part-overlay-into-end Inv-loop μ-loop
 part-overlay-into-end c =
     let h = c .before .before .before .loop .inv .writing in
@@ -82,18 +79,6 @@ overlay-into-requires : tie.Need-overlay-into-requires Inv-loop μ-loop
 overlay-into-requires c κs =
     let s = c .before .before .before .before .before in
     (record { first = placed (c .before .place .ensures); second = s .pre .1 .0 }, omega arith, less-borrowed (c .before .before .before .before .loop .inv) (c .before .before .before .loop-test .taken))
-
-enum-known-f : tie.Need-enum-known-f Inv-loop μ-loop
-enum-known-f c = search needs
-
-enum-told : tie.Need-enum-told Inv-loop μ-loop
-enum-told c = search needs
-
-clear-requires : tie.Need-clear-requires Inv-loop μ-loop
-clear-requires c κs = search needs
-
-add-t24 : tie.Need-add-t24 Inv-loop μ-loop
-add-t24 c = search needs
 
 same-length : tie.Need-same-length Inv-loop μ-loop
 same-length c =
@@ -128,12 +113,6 @@ add-k c =
     let g = filled-of (length (tail (p .out) (p .k))) (s .args .room - p .k - (count trapezoidCodec h - p .i - 1)) (q .place .result .shape) (recordAt trapezoidCodec h (p .i)) (s .args .b .shape) (f .result) (f .last .1 .1 .1 .0) (q .place .ensures .shape ∙ q .before .load .ensures) (f .ensures) in
     let u = less-upto (l .loop .inv) (q .before .before .loop-test .taken) (f .result) (f .last .1 .1 .1 .0) g _ (c .before .f .given .1) in
     omega (arith, u, l .loop .inv .writing .wide, s .good .1 .1 .0)
-
-add-i : tie.Need-add-i Inv-loop μ-loop
-add-i c = search needs
-
-loop-less : tie.Need-loop-less Inv-loop μ-loop
-loop-less c = search needs
 
 loop-again : tie.Need-loop-again Inv-loop μ-loop
 loop-again c =
@@ -171,18 +150,18 @@ less-into-spec =
     mul-overlay-into
     mul-overlay-into-2
     sub-overlay-into
-    part-overlay-into-start
+    (λ c. search needs)
     part-overlay-into-end
     overlay-into-requires
-    enum-known-f
-    enum-told
-    clear-requires
-    add-t24
+    (λ c. search needs)
+    (λ c. search needs)
+    (λ c κs. search needs)
+    (λ c. search needs)
     same-length
     returns
     add-k
-    add-i
-    loop-less
+    (λ c. search needs)
+    (λ c. search needs)
     loop-again
     same-length-2
     returns-2)

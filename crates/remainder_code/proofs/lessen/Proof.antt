@@ -5,12 +5,6 @@ use Rattle.remainder_code.proofs.Moving.{standing-length, standing-fit,
 use Rattle.remainder_code.proofs.lessen.Statement.{statement}
 use Rattle.remainder_code.proofs.lessen.Tie as tie
 
-mul-end : tie.Need-mul-end
-mul-end c = search needs
-
-slice-reshare-prefix-any-overlapping : tie.Need-slice-reshare-prefix-any-overlapping
-slice-reshare-prefix-any-overlapping c = search needs
-
 slice-aggregate-any-overlapping : tie.Need-slice-aggregate-any-overlapping
 slice-aggregate-any-overlapping c =
     let s = c .before in
@@ -23,21 +17,12 @@ any-overlapping-requires c κs =
     let a = s .args in
     (standing-fit (a .out .now) (a .n) (a .room) (s .pre .0 .1), s .pre .0 .0)
 
-same-length : tie.Need-same-length
-same-length c = search needs
-
 returns : tie.Need-returns
 returns c =
     let v = c .before .any-overlapping in
     let s = c .before .before .before in
     let a = s .args in
     (standing-folded (a .out .now) (a .n) (a .room) (s .pre .0 .1) (a .b .shape) (sym (v .ensures) ∙ not-true (v .result) (c .if1 .taken)), s .pre .1 .0)
-
-move-into-requires : tie.Need-move-into-requires
-move-into-requires c κs = search needs
-
-slice-reshare-prefix-less-into : tie.Need-slice-reshare-prefix-less-into
-slice-reshare-prefix-less-into c = search needs
 
 slice-aggregate-less-into : tie.Need-slice-aggregate-less-into
 slice-aggregate-less-into c =
@@ -53,24 +38,12 @@ less-into-requires c κs =
     let a = s .args in
     ((remainder-fit (a .out .now) (a .scratch .now) (m .last .0) (m .last .1 .0) (a .n) (a .room) (s .pre .0 .1) (s .pre .1 .0) (s .pre .1 .1) (m .ensures .0) (m .ensures .1), remainder-count (a .out .now) (a .scratch .now) (m .last .0) (m .last .1 .0) (a .n) (a .room) (s .pre .0 .1) (s .pre .1 .0) (s .pre .1 .1) (m .ensures .0) (m .ensures .1)), (s .pre .0 .0, remainder-borrowed (a .out .now) (a .scratch .now) (m .last .0) (m .last .1 .0) (a .n) (a .room) (s .pre .0 .1) (s .pre .1 .0) (s .pre .1 .1) (m .ensures .0) (m .ensures .1)))
 
-slice-relend-prefix-clear : tie.Need-slice-relend-prefix-clear
-slice-relend-prefix-clear c = search needs
-
 slice-aggregate-clear : tie.Need-slice-aggregate-clear
 slice-aggregate-clear c =
     let m = c .before .before .before .before .before .before .before .move-into in
     let s = c .before .before .before .before .before .before .before .before .before .before .before .before .before in
     let a = s .args in
     remainder-length (a .out .now) (a .scratch .now) (m .last .0) (m .last .1 .0) (a .n) (a .room) (s .pre .0 .1) (s .pre .1 .0) (s .pre .1 .1) (m .ensures .0) (m .ensures .1)
-
-clear-requires : tie.Need-clear-requires
-clear-requires c κs = search needs
-
-same-length-2 : tie.Need-same-length-2
-same-length-2 c = search needs
-
-same-length-3 : tie.Need-same-length-3
-same-length-3 c = search needs
 
 returns-2 : tie.Need-returns-2
 returns-2 c =
@@ -84,19 +57,19 @@ pub lessen-spec : {M : Type 1} → statement M
 lessen-spec =
     tie.close
     (tie.spec
-    mul-end
-    slice-reshare-prefix-any-overlapping
+    (λ c. search needs)
+    (λ c. search needs)
     slice-aggregate-any-overlapping
     any-overlapping-requires
-    same-length
+    (λ c. search needs)
     returns
-    move-into-requires
-    slice-reshare-prefix-less-into
+    (λ c κs. search needs)
+    (λ c. search needs)
     slice-aggregate-less-into
     less-into-requires
-    slice-relend-prefix-clear
+    (λ c. search needs)
     slice-aggregate-clear
-    clear-requires
-    same-length-2
-    same-length-3
+    (λ c κs. search needs)
+    (λ c. search needs)
+    (λ c. search needs)
     returns-2)

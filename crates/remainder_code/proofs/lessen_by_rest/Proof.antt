@@ -47,9 +47,6 @@ lessen-requires c κs =
     let h = c .before .before .before .before .before .loop .inv in
     ((placed (c .before .before .placed-at .ensures), h .remainder), (h .blank, h .same))
 
-enum-known-f : tie.Need-enum-known-f Inv-loop μ-loop
-enum-known-f c = search needs
-
 add-t22 : tie.Need-add-t22 Inv-loop μ-loop
 add-t22 c =
     let m = c .before .before .before .before .before .lessen in
@@ -86,9 +83,6 @@ returns-2 c =
     let z = short-blank (length (l .loop .out)) (a .room) _ _ (m .result) (m .last .1 .1 .0) _ (c .before .f .given .1) g in
     ((r .0, z ∙ ap (λ (n : ℕ). replicate n (pos 0)) (h .long)), (omega (arith, r .1, q .before .before .loop-test .taken, s .pre .0 .0 .few), m .ensures .1))
 
-enum-known-f-2 : tie.Need-enum-known-f-2 Inv-loop μ-loop
-enum-known-f-2 c = search needs
-
 add-made : tie.Need-add-made Inv-loop μ-loop
 add-made c =
     let m = c .before .before .before .before .before .lessen in
@@ -100,12 +94,6 @@ add-made c =
     let g = folded-of (length (l .loop .out)) (a .room) (held (l .loop .out) (l .loop .k)) (q .placed-at .result .shape) (recordAt trapezoidCodec (a .layer .now) (l .loop .i)) (m .result) (m .last .1 .1 .0) (q .placed-at .ensures .shape) (m .ensures .0) in
     let r = reduce-turn (length (a .out .now)) (a .room) (a .layer .now) (held (a .out .now) (a .n)) (a .start) (s .pre .0 .3) (s .pre .0 .0 .few) h (q .before .before .loop-test .taken) (m .result) (m .last .1 .1 .0) g _ _ (c .before .f2 .given .1) (m .last .1 .1 .1 .0) (m .ensures .1) (m .kept .1 .1 .1 .0) (m .kept .1 .1 .0) .1 in
     omega (arith, r, q .before .before .loop-test .taken, s .pre .0 .0 .few)
-
-add-i : tie.Need-add-i Inv-loop μ-loop
-add-i c = search needs
-
-loop-less : tie.Need-loop-less Inv-loop μ-loop
-loop-less c = search needs
 
 loop-again : tie.Need-loop-again Inv-loop μ-loop
 loop-again c =
@@ -146,15 +134,15 @@ lessen-by-rest-spec =
     returns
     placed-at-requires
     lessen-requires
-    enum-known-f
+    (λ c. search needs)
     add-t22
     same-length-3
     same-length-4
     returns-2
-    enum-known-f-2
+    (λ c. search needs)
     add-made
-    add-i
-    loop-less
+    (λ c. search needs)
+    (λ c. search needs)
     loop-again
     same-length-5
     same-length-6

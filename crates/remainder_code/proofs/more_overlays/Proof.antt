@@ -6,16 +6,10 @@ use Rattle.remainder_code.proofs.Answers.{within-short, within-done}
 use Rattle.remainder_code.proofs.more_overlays.Statement.{statement}
 use Rattle.remainder_code.proofs.more_overlays.Tie as tie
 
-enum-known-f : tie.Need-enum-known-f
-enum-known-f c = search needs
-
 add-t7 : tie.Need-add-t7
 add-t7 c =
     let s = c .before .before .before in
     omega (arith, s .pre .0, within-short maxOverlays _ (s .args .f) (c .before .f .given .1) (s .pre .1))
-
-enum-known-f-2 : tie.Need-enum-known-f-2
-enum-known-f-2 c = search needs
 
 add-t8 : tie.Need-add-t8
 add-t8 c =
@@ -34,4 +28,4 @@ returns-2 c =
 
 pub more-overlays-spec : {M : Type 1} → statement M
 more-overlays-spec =
-    tie.close (tie.spec enum-known-f add-t7 enum-known-f-2 add-t8 returns returns-2)
+    tie.close (tie.spec (λ c. search needs) add-t7 (λ c. search needs) add-t8 returns returns-2)

@@ -9,17 +9,8 @@ use Rattle.records.specs.Limits.{memoryWidth}
 use Rattle.remainder_code.proofs.move_into.Statement.{statement}
 use Rattle.remainder_code.proofs.move_into.Tie as tie
 
-mul-end : tie.Need-mul-end
-mul-end c = search needs
-
-slice-reshare-prefix-copy : tie.Need-slice-reshare-prefix-copy
-slice-reshare-prefix-copy c = search needs
-
 slice-aggregate-copy : tie.Need-slice-aggregate-copy
 slice-aggregate-copy c = let s = c .before in sym (length-take-le (memoryWidth * s .args .n) (s .args .out .now) (s .pre .0))
-
-slice-relend-prefix-copy : tie.Need-slice-relend-prefix-copy
-slice-relend-prefix-copy c = search needs
 
 slice-aggregate-copy-2 : tie.Need-slice-aggregate-copy-2
 slice-aggregate-copy-2 c = let s = c .before .before in sym (length-take-le (memoryWidth * s .args .n) (s .args .scratch .now) (s .pre .1))
@@ -27,20 +18,8 @@ slice-aggregate-copy-2 c = let s = c .before .before in sym (length-take-le (mem
 copy-requires : tie.Need-copy-requires
 copy-requires c κs = let s = c .before .before in length-take-le (memoryWidth * s .args .n) (s .args .out .now) (s .pre .0) ∙ sym (length-take-le (memoryWidth * s .args .n) (s .args .scratch .now) (s .pre .1))
 
-slice-relend-prefix-clear : tie.Need-slice-relend-prefix-clear
-slice-relend-prefix-clear c = search needs
-
 slice-aggregate-clear : tie.Need-slice-aggregate-clear
 slice-aggregate-clear c = let s = c .before .before .before .before .before in sym (length-take-le (memoryWidth * s .args .n) (s .args .out .now) (s .pre .0))
-
-clear-requires : tie.Need-clear-requires
-clear-requires c κs = search needs
-
-same-length : tie.Need-same-length
-same-length c = search needs
-
-same-length-2 : tie.Need-same-length-2
-same-length-2 c = search needs
 
 returns : tie.Need-returns
 returns c =
@@ -53,15 +32,15 @@ pub move-into-spec : {M : Type 1} → statement M
 move-into-spec =
     tie.close
     (tie.spec
-    mul-end
-    slice-reshare-prefix-copy
+    (λ c. search needs)
+    (λ c. search needs)
     slice-aggregate-copy
-    slice-relend-prefix-copy
+    (λ c. search needs)
     slice-aggregate-copy-2
     copy-requires
-    slice-relend-prefix-clear
+    (λ c. search needs)
     slice-aggregate-clear
-    clear-requires
-    same-length
-    same-length-2
+    (λ c κs. search needs)
+    (λ c. search needs)
+    (λ c. search needs)
     returns)

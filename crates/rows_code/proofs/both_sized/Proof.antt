@@ -4,12 +4,6 @@ use Rattle.lists.proofs.Conjunction.{holds, fails}
 use Rattle.rows_code.proofs.both_sized.Statement.{statement}
 use Rattle.rows_code.proofs.both_sized.Tie as tie
 
-sized-requires : tie.Need-sized-requires
-sized-requires c κs = search needs
-
-one-sized-requires : tie.Need-one-sized-requires
-one-sized-requires c κs = search needs
-
 returns : tie.Need-returns
 returns c = holds (sym (c .before .before .sized .ensures) ∙ c .before .if1 .taken) (c .one-sized .ensures)
 
@@ -17,4 +11,4 @@ returns-2 : tie.Need-returns-2
 returns-2 c = fails _ (sym (c .before .sized .ensures) ∙ c .if1 .left)
 
 pub both-sized-spec : {M : Type 1} → statement M
-both-sized-spec = tie.close (tie.spec sized-requires one-sized-requires returns returns-2)
+both-sized-spec = tie.close (tie.spec (λ c κs. search needs) (λ c κs. search needs) returns returns-2)

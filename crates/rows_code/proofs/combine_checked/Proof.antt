@@ -7,9 +7,6 @@ use Rattle.rows_code.proofs.Rows.{combine-lengths, combine-code, combin
 use Rattle.rows_code.proofs.combine_checked.Statement.{statement}
 use Rattle.rows_code.proofs.combine_checked.Tie as tie
 
-both-sized-requires : tie.Need-both-sized-requires
-both-sized-requires c κs = search needs
-
 layers-checked-requires : tie.Need-layers-checked-requires
 layers-checked-requires c κs =
     let s = c .before .before .before .args in
@@ -32,4 +29,4 @@ returns-3 c =
 
 pub combine-checked-spec : {M : Type 1} → statement M
 combine-checked-spec =
-    tie.close (tie.spec both-sized-requires layers-checked-requires returns returns-2 returns-3)
+    tie.close (tie.spec (λ c κs. search needs) layers-checked-requires returns returns-2 returns-3)

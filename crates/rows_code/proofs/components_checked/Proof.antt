@@ -4,12 +4,6 @@ use Rattle.rows_code.proofs.Components.{checked-lists, checked-layer}
 use Rattle.rows_code.proofs.components_checked.Statement.{statement}
 use Rattle.rows_code.proofs.components_checked.Tie as tie
 
-lists-sized-requires : tie.Need-lists-sized-requires
-lists-sized-requires c κs = search needs
-
-first-refused-requires : tie.Need-first-refused-requires
-first-refused-requires c κs = search needs
-
 returns : tie.Need-returns
 returns c =
     let s = c .before .before .before .args in
@@ -20,4 +14,4 @@ returns-2 c = let s = c .before .before .args in checked-lists (s .a .now) (s .n
 
 pub components-checked-spec : {M : Type 1} → statement M
 components-checked-spec =
-    tie.close (tie.spec lists-sized-requires first-refused-requires returns returns-2)
+    tie.close (tie.spec (λ c κs. search needs) (λ c κs. search needs) returns returns-2)

@@ -7,12 +7,6 @@ use Rattle.rows_code.proofs.Rows.{contains-lengths, contains-code, cont
 use Rattle.rows_code.proofs.contains_checked.Statement.{statement}
 use Rattle.rows_code.proofs.contains_checked.Tie as tie
 
-layers-sized-requires : tie.Need-layers-sized-requires
-layers-sized-requires c κs = search needs
-
-point-passes-requires : tie.Need-point-passes-requires
-point-passes-requires c κs = search needs
-
 layers-checked-requires : tie.Need-layers-checked-requires
 layers-checked-requires c κs =
     let s = c .before .before .before .before .before .args in
@@ -42,8 +36,8 @@ pub contains-checked-spec : {M : Type 1} → statement M
 contains-checked-spec =
     tie.close
     (tie.spec
-    layers-sized-requires
-    point-passes-requires
+    (λ c κs. search needs)
+    (λ c κs. search needs)
     layers-checked-requires
     returns
     returns-2

@@ -6,18 +6,6 @@ use borrow.Author.Needs.{needs}
 use Rattle.rows_code.proofs.denominator_passes.Statement.{statement}
 use Rattle.rows_code.proofs.denominator_passes.Tie as tie
 
-natural-requires : tie.Need-natural-requires
-natural-requires c κs = search needs
-
-natural-requires-2 : tie.Need-natural-requires-2
-natural-requires-2 c κs = search needs
-
-at-most-requires : tie.Need-at-most-requires
-at-most-requires c κs = search needs
-
-at-most-requires-2 : tie.Need-at-most-requires-2
-at-most-requires-2 c κs = search needs
-
 returns : tie.Need-returns
 returns c =
     let s = c .before .before .before .before .before .args in
@@ -33,9 +21,9 @@ pub denominator-passes-spec : {M : Type 1} → statement M
 denominator-passes-spec =
     tie.close
     (tie.spec
-    natural-requires
-    natural-requires-2
-    at-most-requires
-    at-most-requires-2
+    (λ c κs. search needs)
+    (λ c κs. search needs)
+    (λ c κs. search needs)
+    (λ c κs. search needs)
     returns
     returns-2)

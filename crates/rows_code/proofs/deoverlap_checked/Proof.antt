@@ -4,12 +4,6 @@ use Rattle.rows_code.proofs.Rows.{deoverlap-lengths, deoverlap-layer}
 use Rattle.rows_code.proofs.deoverlap_checked.Statement.{statement}
 use Rattle.rows_code.proofs.deoverlap_checked.Tie as tie
 
-one-sized-requires : tie.Need-one-sized-requires
-one-sized-requires c κs = search needs
-
-first-refused-requires : tie.Need-first-refused-requires
-first-refused-requires c κs = search needs
-
 returns : tie.Need-returns
 returns c =
     let s = c .before .before .before .args in
@@ -22,4 +16,4 @@ returns-2 c =
 
 pub deoverlap-checked-spec : {M : Type 1} → statement M
 deoverlap-checked-spec =
-    tie.close (tie.spec one-sized-requires first-refused-requires returns returns-2)
+    tie.close (tie.spec (λ c κs. search needs) (λ c κs. search needs) returns returns-2)

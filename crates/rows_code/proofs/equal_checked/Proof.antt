@@ -7,9 +7,6 @@ use Rattle.rows_code.proofs.Rows.{equal-lengths, equal-layers}
 use Rattle.rows_code.proofs.equal_checked.Statement.{statement}
 use Rattle.rows_code.proofs.equal_checked.Tie as tie
 
-both-sized-requires : tie.Need-both-sized-requires
-both-sized-requires c κs = search needs
-
 layers-checked-requires : tie.Need-layers-checked-requires
 layers-checked-requires c κs =
     let s = c .before .before .args in
@@ -27,4 +24,4 @@ returns-2 c =
 
 pub equal-checked-spec : {M : Type 1} → statement M
 equal-checked-spec =
-    tie.close (tie.spec both-sized-requires layers-checked-requires returns returns-2)
+    tie.close (tie.spec (λ c κs. search needs) layers-checked-requires returns returns-2)

@@ -4,12 +4,6 @@ use Rattle.rows_code.proofs.Fracturing.{fracture-lengths, fracture-rows
 use Rattle.rows_code.proofs.fracture_checked.Statement.{statement}
 use Rattle.rows_code.proofs.fracture_checked.Tie as tie
 
-buffers-sized-requires : tie.Need-buffers-sized-requires
-buffers-sized-requires c κs = search needs
-
-check-polygon-file-requires : tie.Need-check-polygon-file-requires
-check-polygon-file-requires c κs = search needs
-
 returns : tie.Need-returns
 returns c =
     let s = c .before .before .before .before .args in
@@ -22,4 +16,4 @@ returns-2 c =
 
 pub fracture-checked-spec : {M : Type 1} → statement M
 fracture-checked-spec =
-    tie.close (tie.spec buffers-sized-requires check-polygon-file-requires returns returns-2)
+    tie.close (tie.spec (λ c κs. search needs) (λ c κs. search needs) returns returns-2)

@@ -11,15 +11,6 @@ use Rattle.rows_code.proofs.Refusals.{first-passed, first-refused}
 use Rattle.rows_code.proofs.layers_checked.Statement.{statement}
 use Rattle.rows_code.proofs.layers_checked.Tie as tie
 
-first-refused-requires : tie.Need-first-refused-requires
-first-refused-requires c κs = search needs
-
-enum-told : tie.Need-enum-told
-enum-told c = search needs
-
-first-refused-requires-2 : tie.Need-first-refused-requires-2
-first-refused-requires-2 c κs = search needs
-
 returns : tie.Need-returns
 returns c =
     let s = c .before .before .before .before .args in
@@ -30,9 +21,6 @@ returns c =
     ∙ ap (λ (i : ℕ). firstRefusal coordinateLimit i (layerOf (s .b .now))) (sym n)
     ∙ first-passed coordinateLimit (layerOf (s .a .now)) (layerOf (s .b .now)) (sym (f .ensures) ∙ e)
 
-enum-known-first : tie.Need-enum-known-first
-enum-known-first c = search needs
-
 returns-2 : tie.Need-returns-2
 returns-2 c =
     let s = c .before .before .before .before .args in
@@ -42,9 +30,9 @@ pub layers-checked-spec : {M : Type 1} → statement M
 layers-checked-spec =
     tie.close
     (tie.spec
-    first-refused-requires
-    enum-told
-    first-refused-requires-2
+    (λ c κs. search needs)
+    (λ c. search needs)
+    (λ c κs. search needs)
     returns
-    enum-known-first
+    (λ c. search needs)
     returns-2)

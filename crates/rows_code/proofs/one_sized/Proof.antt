@@ -4,12 +4,6 @@ use Rattle.lists.proofs.Conjunction.{holds, fails}
 use Rattle.rows_code.proofs.one_sized.Statement.{statement}
 use Rattle.rows_code.proofs.one_sized.Tie as tie
 
-sized-requires : tie.Need-sized-requires
-sized-requires c κs = search needs
-
-buffers-sized-requires : tie.Need-buffers-sized-requires
-buffers-sized-requires c κs = search needs
-
 returns : tie.Need-returns
 returns c = holds (sym (c .before .before .sized .ensures) ∙ c .before .if1 .taken) (c .buffers-sized .ensures)
 
@@ -17,4 +11,4 @@ returns-2 : tie.Need-returns-2
 returns-2 c = fails _ (sym (c .before .sized .ensures) ∙ c .if1 .left)
 
 pub one-sized-spec : {M : Type 1} → statement M
-one-sized-spec = tie.close (tie.spec sized-requires buffers-sized-requires returns returns-2)
+one-sized-spec = tie.close (tie.spec (λ c κs. search needs) (λ c κs. search needs) returns returns-2)

@@ -6,9 +6,6 @@ use Rattle.calls.proofs.Bounds.{denominator-small}
 use Rattle.rows_code.proofs.point_passes.Statement.{statement}
 use Rattle.rows_code.proofs.point_passes.Tie as tie
 
-denominator-passes-requires : tie.Need-denominator-passes-requires
-denominator-passes-requires c κs = search needs
-
 within-times-requires : tie.Need-within-times-requires
 within-times-requires c κs = denominator-small (c .before .before .args .d .v) (sym (c .before .denominator-passes .ensures) ∙ c .if1 .taken)
 
@@ -33,7 +30,7 @@ pub point-passes-spec : {M : Type 1} → statement M
 point-passes-spec =
     tie.close
     (tie.spec
-    denominator-passes-requires
+    (λ c κs. search needs)
     within-times-requires
     within-times-requires-2
     returns

@@ -9,20 +9,11 @@ use Rattle.geometry.specs.Limit.{coordinateLimit}
 use Rattle.rows_code.proofs.within_times.Statement.{statement}
 use Rattle.rows_code.proofs.within_times.Tie as tie
 
-natural-requires : tie.Need-natural-requires
-natural-requires c κs = search needs
-
 mul-requires : tie.Need-mul-requires
 mul-requires c κs = rw (c .natural .ensures .1) (omega (arith, c .before .pre))
 
 neg-requires : tie.Need-neg-requires
 neg-requires c κs = rw (c .mul .ensures .1, c .before .natural .ensures .1) (omega (arith, c .before .before .pre))
-
-at-most-requires : tie.Need-at-most-requires
-at-most-requires c κs = search needs
-
-at-most-requires-2 : tie.Need-at-most-requires-2
-at-most-requires-2 c κs = search needs
 
 returns : tie.Need-returns
 returns c =
@@ -42,10 +33,10 @@ pub within-times-spec : {M : Type 1} → statement M
 within-times-spec =
     tie.close
     (tie.spec
-    natural-requires
+    (λ c κs. search needs)
     mul-requires
     neg-requires
-    at-most-requires
-    at-most-requires-2
+    (λ c κs. search needs)
+    (λ c κs. search needs)
     returns
     returns-2)

@@ -5,12 +5,6 @@ use Rattle.sweep_code.proofs.Events.{placed-at, sooner-none, sooner-new
 use Rattle.sweep_code.proofs.sooner.Statement.{statement}
 use Rattle.sweep_code.proofs.sooner.Tie as tie
 
-enum-known-best : tie.Need-enum-known-best
-enum-known-best c = search needs
-
-enum-told : tie.Need-enum-told
-enum-told c = search needs
-
 returns : tie.Need-returns
 returns c =
     let s = c .before .before in
@@ -31,4 +25,4 @@ returns-3 c =
     sooner-old (s .args .best) (s .args .e) (c .before .before .before .best .given .0 .0) (c .before .before .before .best .given .1) (s .pre .1) (placed-at {best = s .args .best} (s .pre .0) (c .before .before .before .best .given .1)) (sym (c .before .is-before .ensures) ∙ c .if1 .left)
 
 pub sooner-spec : {M : Type 1} → statement M
-sooner-spec = tie.close (tie.spec enum-known-best enum-told returns is-before-requires returns-2 returns-3)
+sooner-spec = tie.close (tie.spec (λ c. search needs) (λ c. search needs) returns is-before-requires returns-2 returns-3)

@@ -36,12 +36,6 @@ module _ (c : tie.After-precedes2) where
 crossing-of-requires : tie.Need-crossing-of-requires
 crossing-of-requires c κs = let h = c .before .before .before .before .pre .0 in (h .0, h .1 .0)
 
-enum-known-a : tie.Need-enum-known-a
-enum-known-a c = search needs
-
-enum-told : tie.Need-enum-told
-enum-told c = search needs
-
 returns : tie.Need-returns
 returns c =
     let t = c .before .before .before .before .before .before .before .args .t in
@@ -50,12 +44,6 @@ returns c =
 
 crossing-of-requires-2 : tie.Need-crossing-of-requires-2
 crossing-of-requires-2 c κs = let h = c .before .before .before .before .before .before .before .before .pre .0 in (h .1 .1 .0, h .1 .1 .1 .0)
-
-enum-known-b : tie.Need-enum-known-b
-enum-known-b c = search needs
-
-enum-told-2 : tie.Need-enum-told-2
-enum-told-2 c = search needs
 
 returns-2 : tie.Need-returns-2
 returns-2 c =
@@ -112,4 +100,4 @@ returns-7 c =
 pub contains-spec : {M : Type 1} → statement M
 contains-spec =
     tie.close
-    (tie.spec crossing-of-requires enum-known-a enum-told returns crossing-of-requires-2 enum-known-b enum-told-2 returns-2 compare-requires precedes-requires compare-requires-2 precedes-requires-2 under-requires under-requires-2 returns-3 returns-4 returns-5 returns-6 returns-7)
+    (tie.spec crossing-of-requires (λ c. search needs) (λ c. search needs) returns crossing-of-requires-2 (λ c. search needs) (λ c. search needs) returns-2 compare-requires precedes-requires compare-requires-2 precedes-requires-2 under-requires under-requires-2 returns-3 returns-4 returns-5 returns-6 returns-7)

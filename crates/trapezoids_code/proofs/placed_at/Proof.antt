@@ -8,9 +8,6 @@ use Rattle.trapezoids_code.specs.Placed.{PlacedAs}
 use Rattle.trapezoids_code.proofs.placed_at.Statement.{statement}
 use Rattle.trapezoids_code.proofs.placed_at.Tie as tie
 
-load-requires : tie.Need-load-requires
-load-requires c κs = search needs
-
 place-requires : tie.Need-place-requires
 place-requires c κs = let s = c .before in subst (FitFor coordinateLimit) (sym (c .load .ensures)) (all-record (FitFor coordinateLimit) (s .args .layer .now) (s .args .i) (s .pre .0) (s .pre .1))
 
@@ -18,4 +15,4 @@ returns : tie.Need-returns
 returns c = subst (λ (t : Trapezoid). PlacedAs t (c .place .result)) (c .before .load .ensures) (c .place .ensures)
 
 pub placed-at-spec : {M : Type 1} → statement M
-placed-at-spec = tie.close (tie.spec load-requires place-requires returns)
+placed-at-spec = tie.close (tie.spec (λ c κs. search needs) place-requires returns)

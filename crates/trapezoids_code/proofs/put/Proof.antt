@@ -8,14 +8,8 @@ use Rattle.trapezoids_code.proofs.put.Tie as tie
 returns : tie.Need-returns
 returns c = (omega (arith, c .if1 .taken), c .before .pre .blank)
 
-store-requires : tie.Need-store-requires
-store-requires c κs = search needs
-
-same-length : tie.Need-same-length
-same-length c = search needs
-
 returns-2 : tie.Need-returns-2
 returns-2 c = let s = c .before .before .before .before in let k = fill-one (s .args .out .now) (s .args .room) (s .pre) (s .args .t) (omega (arith, c .before .before .before .if1 .left)) in (refl, k .1, c .before .store .ensures ∙ k .2)
 
 pub put-spec : {M : Type 1} → statement M
-put-spec = tie.close (tie.spec returns store-requires same-length returns-2)
+put-spec = tie.close (tie.spec returns (λ c κs. search needs) (λ c. search needs) returns-2)

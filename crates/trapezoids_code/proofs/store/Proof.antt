@@ -4,27 +4,6 @@ use Rattle.geometry.specs.Trapezoids.{trapezoidWords}
 use Rattle.trapezoids_code.proofs.store.Statement.{statement}
 use Rattle.trapezoids_code.proofs.store.Tie as tie
 
-store-line-requires : tie.Need-store-line-requires
-store-line-requires c κs = search needs
-
-store-line-requires-2 : tie.Need-store-line-requires-2
-store-line-requires-2 c κs = search needs
-
-store-line-requires-3 : tie.Need-store-line-requires-3
-store-line-requires-3 c κs = search needs
-
-store-line-requires-4 : tie.Need-store-line-requires-4
-store-line-requires-4 c κs = search needs
-
-store-line-requires-5 : tie.Need-store-line-requires-5
-store-line-requires-5 c κs = search needs
-
-store-line-requires-6 : tie.Need-store-line-requires-6
-store-line-requires-6 c κs = search needs
-
-same-length : tie.Need-same-length
-same-length c = search needs
-
 returns : tie.Need-returns
 unfolding trapezoidWords
 returns c =
@@ -42,11 +21,11 @@ pub store-spec : {M : Type 1} → statement M
 store-spec =
     tie.close
     (tie.spec
-    store-line-requires
-    store-line-requires-2
-    store-line-requires-3
-    store-line-requires-4
-    store-line-requires-5
-    store-line-requires-6
-    same-length
+    (λ c κs. search needs)
+    (λ c κs. search needs)
+    (λ c κs. search needs)
+    (λ c κs. search needs)
+    (λ c κs. search needs)
+    (λ c κs. search needs)
+    (λ c. search needs)
     returns)
