@@ -1,4 +1,4 @@
--- Disjointing keeps the points and gives a disjoint layer.
+-- Deoverlapping keeps the points and gives a disjoint layer.
 use mathlib.Core.List.{List, [], _∷_, _++_}
 use mathlib.Core.Logic.{_⊎_, inl, inr}
 use Prim.Native.Nat.{ℕ}

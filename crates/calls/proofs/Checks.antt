@@ -19,7 +19,7 @@ use Rattle.geometry.specs.declared.Checked.the-variants.{Passed}
 use Rattle.geometry.specs.Limit.{coordinateLimit}
 use Rattle.geometry.specs.Points.{Point}
 use Rattle.geometry.specs.Trapezoids.{trapezoidCodec, layerOf}
-use Rattle.geometry.specs.Fitness.{FitFor, pass, firstRefusal, Layer}
+use Rattle.geometry.specs.Fitness.{FitFor, firstRefusal, Layer}
 use Rattle.geometry.proofs.Refusals.{SmallChecked, small-first}
 use Rattle.geometry.proofs.Fitness.{layer-exact}
 use Rattle.boolean.specs.Operations.{isCode}

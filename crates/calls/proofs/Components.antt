@@ -17,7 +17,7 @@ use Rattle.geometry.specs.declared.Checked.{Checked}
 use Rattle.geometry.specs.declared.Checked.the-variants.{Passed, Refused}
 use Rattle.geometry.specs.Limit.{coordinateLimit}
 use Rattle.geometry.specs.Trapezoids.{trapezoidCodec, layerOf}
-use Rattle.geometry.specs.Fitness.{FitFor, SmallRefusal, pass, refuse, firstRefusal}
+use Rattle.geometry.specs.Fitness.{FitFor, SmallRefusal, pass, firstRefusal}
 use Rattle.geometry.proofs.Refusals.{SmallChecked, small-first}
 use Rattle.geometry.proofs.Fitness.{layer-exact}
 use Rattle.connectivity.specs.Components.{componentNumbers, componentCount, ComponentsOf}

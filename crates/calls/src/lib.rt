@@ -1,11 +1,5 @@
 // What the public functions answer.
 
-// What `components` answers: the refusal's number and place, or the number of components.
-pub enum Connected {
-    Refused { number: u32, place: usize },
-    Done { components: usize },
-}
-
 // What `fracture` answers: the refusal's number and place, or the trapezoids written and the overlays made, which are none.
 pub enum Fractured {
     Refused { number: u32, place: usize },
@@ -36,4 +30,10 @@ pub enum Containment {
     Refused { number: u32, place: usize },
     Yes,
     No,
+}
+
+// What `components` answers: the refusal's number and place, or the number of components.
+pub enum Connected {
+    Refused { number: u32, place: usize },
+    Done { components: usize },
 }

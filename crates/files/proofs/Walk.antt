@@ -1,7 +1,7 @@
--- The directory pair by pair: the loop over the pairs, and what a directory that is right says of them.
+-- The directory pair by pair, and what a directory that is right says of them.
 use mathlib.Core.Path.{_≡_, refl, sym, ap, _∙_}
 use mathlib.Core.List.{List}
-use Prim.Native.Nat.{ℕ, suc, _+_, _*_, _-_, _<_, _≤_}
+use Prim.Native.Nat.{ℕ, _+_, _*_, _≤_}
 use native.Mathlib.Omega.{arith}
 use lib.Dec.{leb}
 use lib.ListN.{length}
@@ -12,7 +12,7 @@ use Rattle.files.specs.declared.Number.{Number}
 use Rattle.files.specs.declared.Number.the-variants.{Of, Outside}
 use Rattle.files.specs.declared.Directory.the-variants.{Wrong}
 use Rattle.files.specs.Formats.{wordAt}
-use Rattle.files.specs.Directory.{numberFrom, complete, countOf, lengthBy, pairLength, endOf, pairsFrom, directoryOf}
+use Rattle.files.specs.Directory.{numberFrom, complete, countOf, lengthBy, pairLength, pairsFrom, directoryOf}
 use Rattle.files.proofs.Numbers.{IsNumber, number, only-of}
 
 -- ---- a pair that is right
@@ -42,39 +42,6 @@ pair f before offset len {n} e = go (numberFrom before before offset) (numberFro
         }
     go (Of o) Outside p q e = let z : _≡_ {A = ℕ} 0 1 = cc in absurd (omega arith)
     go Outside b p q e = let z : _≡_ {A = ℕ} 0 1 = cc in absurd (omega arith)
-
--- ---- the loop: the first i pairs are right, and the rest decides
-pub record Walking (f : Format) (ws : List ℤ) (n i total : ℕ) : Type 0 where
-  pub same : pairsFrom f ws n 0 0 ≡ pairsFrom f ws (n - i) i total
-  pub upto : i ≤ n
-  pub units : total ≤ f .total
-
-pub walk-start : (f : Format) (ws : List ℤ) (n : ℕ) → Walking f ws n 0 0
-walk-start f ws n = let e : n ≡ n - 0 = omega arith in record { same = ap (λ (k : ℕ). pairsFrom f ws k 0 0) e; upto = omega arith; units = omega arith }
-
-module _ {f : Format} {ws : List ℤ} {n i total : ℕ} (h : Walking f ws n i total) where
-  opened : i < n → pairsFrom f ws n 0 0 ≡ pairsFrom f ws (suc (n - (i + 1))) i total
-  opened l = let e : n - i ≡ suc (n - (i + 1)) = omega arith in h .same ∙ ap (λ (k : ℕ). pairsFrom f ws k i total) e
-
-  -- the words of pair i, as they were read
-  module _ (l : i < n) {offset len : ℤ} (p : offset ≡ wordAt ws (2 * i + 1)) (q : len ≡ wordAt ws (2 * i + 2)) where
-    pub pair-read : pairLength f total (wordAt ws (2 * i + 1)) (wordAt ws (2 * i + 2)) ≡ pairLength f total offset len
-    pair-read = λ j. pairLength f total (sym p j) (sym q j)
-
-    pub walk-turn : {k : ℕ} → pairLength f total offset len ≡ Of k → Walking f ws n (i + 1) (total + k)
-    unfolding pairsFrom
-    walk-turn {k} e = record { same = opened l ∙ rw (pair-read, e); upto = omega arith; units = pair f total offset len e .total }
-
-    pub walk-wrong : pairLength f total offset len ≡ Outside → Wrong 6 i ≡ pairsFrom f ws n 0 0
-    unfolding pairsFrom
-    walk-wrong e = sym (opened l ∙ rw (pair-read, e))
-
-  pub walk-end : n ≤ i → endOf f n total (length ws) ≡ pairsFrom f ws n 0 0
-  unfolding pairsFrom
-  walk-end l =
-      let e : n - i ≡ 0 = omega (arith, h .upto) in
-      let d : i ≡ n = omega (arith, h .upto) in
-      sym (h .same ∙ ap (λ (k : ℕ). pairsFrom f ws k i total) e ∙ ap (λ (k : ℕ). endOf f k total (length ws)) d)
 
 -- ---- rows 5 and 6 together
 module _ (f : Format) (ws : List ℤ) where

@@ -229,6 +229,22 @@ fn polygon_vertex(file: &[u8], n: usize, k: usize) -> Vertex
     }
 }
 
+// The coordinates of n vertices of the body of a polygon file that passes and has `count` polygons, from a number on, to the front of `words`.
+pub fn load_polygon(file: &[u8], count: usize, offset: usize, n: usize, words: &mut [i32])
+    requires { ⌜ HasPairs polygonFile (fileWords (now file)) (countIn (fileWords (now file))) × (count ≡ countIn (fileWords (now file))) × (offset + n ≤ 2048) × (2 * (offset + n) ≤ length (bodyOf (fileWords (now file)))) × (2 * n ≤ length (now words)) ⌝ }
+    ensures { λ _. ⌜ polygonOf (take (2 * n) (now (words .exit))) ≡ recordsFrom vertexCodec n (bodyOf (fileWords (now (file .entry)))) offset ⌝ }
+{
+    let mut k = 0;
+    while k < n {
+        let v = polygon_vertex(file, count, offset + k);
+        let x = v.x;
+        let y = v.y;
+        words[2 * k] = x;
+        words[2 * k + 1] = y;
+        k += 1;
+    }
+}
+
 // The words of a file to the front of an output.
 pub fn decode(file: &[u8], out: &mut [i32])
     requires { ⌜ length (now file) / 4 ≤ length (now out) ⌝ }
@@ -274,20 +290,4 @@ pub fn words_trapezoids(words: &[i32]) -> usize
     let n = directory_code::amount_of(integer_code::get(words, 0));
     let start = 2 * n + 1;
     (words.len() - start) / records::MEMORY_WIDTH
-}
-
-// The coordinates of n vertices of the body of a polygon file that passes and has `count` polygons, from a number on, to the front of `words`.
-pub fn load_polygon(file: &[u8], count: usize, offset: usize, n: usize, words: &mut [i32])
-    requires { ⌜ HasPairs polygonFile (fileWords (now file)) (countIn (fileWords (now file))) × (count ≡ countIn (fileWords (now file))) × (offset + n ≤ 2048) × (2 * (offset + n) ≤ length (bodyOf (fileWords (now file)))) × (2 * n ≤ length (now words)) ⌝ }
-    ensures { λ _. ⌜ polygonOf (take (2 * n) (now (words .exit))) ≡ recordsFrom vertexCodec n (bodyOf (fileWords (now (file .entry)))) offset ⌝ }
-{
-    let mut k = 0;
-    while k < n {
-        let v = polygon_vertex(file, count, offset + k);
-        let x = v.x;
-        let y = v.y;
-        words[2 * k] = x;
-        words[2 * k + 1] = y;
-        k += 1;
-    }
 }

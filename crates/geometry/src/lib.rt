@@ -1,12 +1,6 @@
 // Lines, bases, trapezoids, rational points and polygons, and what functions hold of them.
 use integer::Int;
 
-// A vertex of a polygon.
-pub struct Vertex {
-    pub x: i32,
-    pub y: i32,
-}
-
 // Grid coordinates run from -COORDINATE_LIMIT to COORDINATE_LIMIT.
 pub const COORDINATE_LIMIT: u32 = 2048;
 
@@ -30,6 +24,12 @@ pub struct Trapezoid {
     pub right: Base,
     pub bottom: Line,
     pub top: Line,
+}
+
+// A vertex of a polygon.
+pub struct Vertex {
+    pub x: i32,
+    pub y: i32,
 }
 
 // A line's words as numbers.
@@ -64,18 +64,6 @@ pub enum Crossing {
     At(Position),
 }
 
-// The first of the rows 7 to 11 that refuses a trapezoid.
-pub enum Verdict {
-    Fit,
-    Row(u32),
-}
-
-// What a check of a list of trapezoids answers.
-pub enum Checked {
-    Passed,
-    Refused { number: u32, place: usize },
-}
-
 // A trapezoid with the positions of its bases.
 pub struct Placed {
     pub shape: Trapezoid,
@@ -87,4 +75,16 @@ pub struct Placed {
 pub enum Fill {
     NoRoom,
     Written(usize),
+}
+
+// The first of the rows 7 to 11 that refuses a trapezoid.
+pub enum Verdict {
+    Fit,
+    Row(u32),
+}
+
+// What a check of a list of trapezoids answers.
+pub enum Checked {
+    Passed,
+    Refused { number: u32, place: usize },
 }

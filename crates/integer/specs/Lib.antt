@@ -1,4 +1,4 @@
--- What the contracts of this crate, and of those above it, cite of whole numbers and fractions.
+-- Whole numbers, how they compare, and fractions.
 pub mod Integer
 pub mod Compare
 pub mod Fraction

@@ -22,76 +22,6 @@ ghost use Rattle.calls.specs.Answers.{fracturedAnswer, combinedAnswer, deoverla
 ghost use Rattle.calls.specs.Outcomes.{zeros, containsAnswer};
 ghost use Rattle.geometry_code.specs.Code.{pointOf};
 
-// Each trapezoid's component number, the lowest of its component, written to `numbers`, which has an entry for each trapezoid.
-pub fn components(a: &[i32], numbers: &mut [u32]) -> Connected
-    ensures { λ r. ⌜ ComponentsKept (now (a .entry)) (now (numbers .entry)) r (now (numbers .exit)) ⌝ }
-    ensures small { λ r. ⌜ SmallConnected (connectedAnswer r) ⌝ }
-{
-    let checked = rows_code::components_checked(a, numbers.len());
-    match checked {
-        Checked::Refused { number, place } => {
-            return Connected::Refused { number, place };
-        }
-        Checked::Passed => {}
-    }
-    let n = connectivity_code::components_into(a, numbers);
-    Connected::Done { components: n }
-}
-
-// The words of a layer file, written to `out`, which has any length.
-pub fn read_layers(file: &[u8], out: &mut [i32]) -> LayersRead
-    ensures { λ r. ⌜ ReadKept (now (file .entry)) (now (out .entry)) r (now (out .exit)) ⌝ }
-    ensures small { λ r. ⌜ SmallFile (readAnswer r) ⌝ }
-{
-    let c = files_code::check_layer_file(file);
-    match c {
-        Checked::Passed => {}
-        Checked::Refused { number, place } => {
-            return LayersRead::Refused { number, place };
-        }
-    }
-    records_code::clear(out);
-    if out.len() < file.len() / 4 {
-        return LayersRead::Refused {
-            number: 12,
-            place: 0,
-        };
-    }
-    files_code::decode(file, out);
-    let pieces = files_code::file_trapezoids(file);
-    LayersRead::Done {
-        pieces,
-        overlays: 0,
-    }
-}
-
-// The layer file with these words, written to `out`, which has any length.
-pub fn write_layers(words: &[i32], out: &mut [u8]) -> LayersWritten
-    ensures { λ r. ⌜ WriteKept (now (words .entry)) (now (out .entry)) r (now (out .exit)) ⌝ }
-    ensures small { λ r. ⌜ SmallFile (writtenAnswer r) ⌝ }
-{
-    let c = files_code::check_layer_words(words);
-    match c {
-        Checked::Passed => {}
-        Checked::Refused { number, place } => {
-            return LayersWritten::Refused { number, place };
-        }
-    }
-    records_code::clear_bytes(out);
-    if out.len() / 4 < words.len() {
-        return LayersWritten::Refused {
-            number: 12,
-            place: 0,
-        };
-    }
-    files_code::encode(words, out);
-    let pieces = files_code::words_trapezoids(words);
-    LayersWritten::Done {
-        pieces,
-        overlays: 0,
-    }
-}
-
 // An output and its scratch area set to 0.
 fn clear_both(out: &mut [i32], scratch: &mut [i32])
     ensures { λ _. ⌜ (now (out .exit) ≡ zeros (length (now (out .entry)))) × (now (scratch .exit) ≡ zeros (length (now (scratch .entry)))) ⌝ }
@@ -100,35 +30,35 @@ fn clear_both(out: &mut [i32], scratch: &mut [i32])
     records_code::clear(scratch);
 }
 
-// The point question, of numbers.
-fn contains_at(x: Int, y: Int, d: Int, a: &[i32], b: &[i32], code: u32) -> Containment
-    ensures { λ r. ⌜ pointAnswer r ≡ containsAnswer (pointOf x y d) (now (a .entry)) (now (b .entry)) code ⌝ }
-    ensures small { λ r. ⌜ SmallPoint (pointAnswer r) ⌝ }
+// The trapezoids of the polygons of a polygon file, written to `out`. `scratch` is as long as `out`.
+pub fn fracture(file: &[u8], out: &mut [i32], scratch: &mut [i32]) -> Fractured
+    ensures { λ r. ⌜ FractureKept (now (file .entry)) (now (out .entry)) (now (scratch .entry)) r (now (out .exit)) (now (scratch .exit)) ⌝ }
+    ensures small { λ r. ⌜ Small (fracturedAnswer r) ⌝ }
 {
-    let checked = rows_code::contains_checked(x, y, d, a, b, code);
+    let checked = rows_code::fracture_checked(file, out.len(), scratch.len());
     match checked {
         Checked::Refused { number, place } => {
-            return Containment::Refused { number, place };
+            return Fractured::Refused { number, place };
         }
         Checked::Passed => {}
     }
-    let first = boolean_code::lies_in(a, x, y, d);
-    let second = boolean_code::lies_in(b, x, y, d);
-    if boolean_code::says(code, first, second) {
-        return Containment::Yes;
+    let room = out.len() / records::MEMORY_WIDTH;
+    clear_both(out, scratch);
+    let f = polygons_code::fracture_file(file, geometry::COORDINATE_LIMIT, out, room);
+    match f {
+        Fill::NoRoom => {
+            return Fractured::Refused {
+                number: 12,
+                place: 0,
+            };
+        }
+        Fill::Written(n) => {
+            return Fractured::Done {
+                pieces: n,
+                overlays: 0,
+            };
+        }
     }
-    Containment::No
-}
-
-// Whether the point (x/d, y/d) lies in the result of the set operation with this code on a and b.
-pub fn contains(x: i32, y: i32, d: i32, a: &[i32], b: &[i32], code: u32) -> Containment
-    ensures { λ r. ⌜ ContainsKept x y d (now (a .entry)) (now (b .entry)) code r ⌝ }
-    ensures small { λ r. ⌜ SmallPoint (pointAnswer r) ⌝ }
-{
-    let p = integer_code::widen(x);
-    let q = integer_code::widen(y);
-    let e = integer_code::widen(d);
-    contains_at(p, q, e, a, b, code)
 }
 
 // The set operation with this code on a and b, written to `out`. `scratch` is as long as `out`.
@@ -160,37 +90,6 @@ pub fn combine(code: u32, a: &[i32], b: &[i32], out: &mut [i32], scratch: &mut [
             return Combined::Done {
                 pieces: trapezoids,
                 overlays,
-            };
-        }
-    }
-}
-
-// The trapezoids of the polygons of a polygon file, written to `out`. `scratch` is as long as `out`.
-pub fn fracture(file: &[u8], out: &mut [i32], scratch: &mut [i32]) -> Fractured
-    ensures { λ r. ⌜ FractureKept (now (file .entry)) (now (out .entry)) (now (scratch .entry)) r (now (out .exit)) (now (scratch .exit)) ⌝ }
-    ensures small { λ r. ⌜ Small (fracturedAnswer r) ⌝ }
-{
-    let checked = rows_code::fracture_checked(file, out.len(), scratch.len());
-    match checked {
-        Checked::Refused { number, place } => {
-            return Fractured::Refused { number, place };
-        }
-        Checked::Passed => {}
-    }
-    let room = out.len() / records::MEMORY_WIDTH;
-    clear_both(out, scratch);
-    let f = polygons_code::fracture_file(file, geometry::COORDINATE_LIMIT, out, room);
-    match f {
-        Fill::NoRoom => {
-            return Fractured::Refused {
-                number: 12,
-                place: 0,
-            };
-        }
-        Fill::Written(n) => {
-            return Fractured::Done {
-                pieces: n,
-                overlays: 0,
             };
         }
     }
@@ -258,5 +157,106 @@ pub fn equal(a: &[i32], b: &[i32], out: &mut [i32], scratch: &mut [i32]) -> Equa
         Compared::Differs { side, overlays } => {
             return Equality::Differs { side, overlays };
         }
+    }
+}
+
+// The point question, of numbers.
+fn contains_at(x: Int, y: Int, d: Int, a: &[i32], b: &[i32], code: u32) -> Containment
+    ensures { λ r. ⌜ pointAnswer r ≡ containsAnswer (pointOf x y d) (now (a .entry)) (now (b .entry)) code ⌝ }
+    ensures small { λ r. ⌜ SmallPoint (pointAnswer r) ⌝ }
+{
+    let checked = rows_code::contains_checked(x, y, d, a, b, code);
+    match checked {
+        Checked::Refused { number, place } => {
+            return Containment::Refused { number, place };
+        }
+        Checked::Passed => {}
+    }
+    let first = boolean_code::lies_in(a, x, y, d);
+    let second = boolean_code::lies_in(b, x, y, d);
+    if boolean_code::says(code, first, second) {
+        return Containment::Yes;
+    }
+    Containment::No
+}
+
+// Whether the point (x/d, y/d) lies in the result of the set operation with this code on a and b.
+pub fn contains(x: i32, y: i32, d: i32, a: &[i32], b: &[i32], code: u32) -> Containment
+    ensures { λ r. ⌜ ContainsKept x y d (now (a .entry)) (now (b .entry)) code r ⌝ }
+    ensures small { λ r. ⌜ SmallPoint (pointAnswer r) ⌝ }
+{
+    let p = integer_code::widen(x);
+    let q = integer_code::widen(y);
+    let e = integer_code::widen(d);
+    contains_at(p, q, e, a, b, code)
+}
+
+// Each trapezoid's component number, the lowest of its component, written to `numbers`, which has an entry for each trapezoid.
+pub fn components(a: &[i32], numbers: &mut [u32]) -> Connected
+    ensures { λ r. ⌜ ComponentsKept (now (a .entry)) (now (numbers .entry)) r (now (numbers .exit)) ⌝ }
+    ensures small { λ r. ⌜ SmallConnected (connectedAnswer r) ⌝ }
+{
+    let checked = rows_code::components_checked(a, numbers.len());
+    match checked {
+        Checked::Refused { number, place } => {
+            return Connected::Refused { number, place };
+        }
+        Checked::Passed => {}
+    }
+    let n = connectivity_code::components_into(a, numbers);
+    Connected::Done { components: n }
+}
+
+// The words of a layer file, written to `out`, which has any length.
+pub fn read_layers(file: &[u8], out: &mut [i32]) -> LayersRead
+    ensures { λ r. ⌜ ReadKept (now (file .entry)) (now (out .entry)) r (now (out .exit)) ⌝ }
+    ensures small { λ r. ⌜ SmallFile (readAnswer r) ⌝ }
+{
+    let c = files_code::check_layer_file(file);
+    match c {
+        Checked::Passed => {}
+        Checked::Refused { number, place } => {
+            return LayersRead::Refused { number, place };
+        }
+    }
+    records_code::clear(out);
+    if out.len() < file.len() / 4 {
+        return LayersRead::Refused {
+            number: 12,
+            place: 0,
+        };
+    }
+    files_code::decode(file, out);
+    let pieces = files_code::file_trapezoids(file);
+    LayersRead::Done {
+        pieces,
+        overlays: 0,
+    }
+}
+
+// The layer file with these words, written to `out`, which has any length.
+pub fn write_layers(words: &[i32], out: &mut [u8]) -> LayersWritten
+    ensures { λ r. ⌜ WriteKept (now (words .entry)) (now (out .entry)) r (now (out .exit)) ⌝ }
+    ensures small { λ r. ⌜ SmallFile (writtenAnswer r) ⌝ }
+{
+    let c = files_code::check_layer_words(words);
+    match c {
+        Checked::Passed => {}
+        Checked::Refused { number, place } => {
+            return LayersWritten::Refused { number, place };
+        }
+    }
+    records_code::clear_bytes(out);
+    if out.len() / 4 < words.len() {
+        return LayersWritten::Refused {
+            number: 12,
+            place: 0,
+        };
+    }
+    files_code::encode(words, out);
+    let pieces = files_code::words_trapezoids(words);
+    LayersWritten::Done {
+        pieces,
+        overlays: 0,
     }
 }

@@ -15,29 +15,6 @@ ghost use Rattle.geometry_code.specs.Code.{pointOf};
 // Codes run from 0 to CODES - 1.
 const CODES: u32 = 5;
 
-// Row 1, of a layer and a list of n numbers.
-fn lists_sized(a: &[i32], n: usize) -> bool
-    ensures { λ r. ⌜ r ≡ listsSized (now (a .entry)) n ⌝ }
-{
-    if records_code::sized(a.len()) {
-        return n == a.len() / records::MEMORY_WIDTH;
-    }
-    false
-}
-
-// The rows of `components`.
-pub fn components_checked(a: &[i32], n: usize) -> Checked
-    ensures { λ r. ⌜ r ≡ componentsChecked (now (a .entry)) n ⌝ }
-{
-    if lists_sized(a, n) {
-        return fitness_code::first_refused(a, geometry::COORDINATE_LIMIT, 0);
-    }
-    Checked::Refused {
-        number: 1,
-        place: 0,
-    }
-}
-
 // Row 1, of an output and a scratch area of so many words.
 fn buffers_sized(out: usize, scratch: usize) -> bool
     ensures { λ r. ⌜ r ≡ buffersSized out scratch ⌝ }
@@ -138,6 +115,19 @@ fn layers_checked(a: &[i32], b: &[i32]) -> Checked
     }
 }
 
+// The rows of `fracture`.
+pub fn fracture_checked(file: &[u8], out: usize, scratch: usize) -> Checked
+    ensures { λ r. ⌜ r ≡ fractureChecked (now (file .entry)) out scratch ⌝ }
+{
+    if buffers_sized(out, scratch) {
+        return files_code::check_polygon_file(file, geometry::COORDINATE_LIMIT);
+    }
+    Checked::Refused {
+        number: 1,
+        place: 0,
+    }
+}
+
 // The rows of `combine`, with an output and a scratch area of so many words.
 pub fn combine_checked(code: u32, a: &[i32], b: &[i32], out: usize, scratch: usize) -> Checked
     ensures { λ r. ⌜ r ≡ combineChecked code (now (a .entry)) (now (b .entry)) out scratch ⌝ }
@@ -150,19 +140,6 @@ pub fn combine_checked(code: u32, a: &[i32], b: &[i32], out: usize, scratch: usi
             number: 2,
             place: 0,
         };
-    }
-    Checked::Refused {
-        number: 1,
-        place: 0,
-    }
-}
-
-// The rows of `fracture`.
-pub fn fracture_checked(file: &[u8], out: usize, scratch: usize) -> Checked
-    ensures { λ r. ⌜ r ≡ fractureChecked (now (file .entry)) out scratch ⌝ }
-{
-    if buffers_sized(out, scratch) {
-        return files_code::check_polygon_file(file, geometry::COORDINATE_LIMIT);
     }
     Checked::Refused {
         number: 1,
@@ -214,6 +191,29 @@ pub fn contains_checked(x: Int, y: Int, d: Int, a: &[i32], b: &[i32], code: u32)
             number: 2,
             place: 0,
         };
+    }
+    Checked::Refused {
+        number: 1,
+        place: 0,
+    }
+}
+
+// Row 1, of a layer and a list of n numbers.
+fn lists_sized(a: &[i32], n: usize) -> bool
+    ensures { λ r. ⌜ r ≡ listsSized (now (a .entry)) n ⌝ }
+{
+    if records_code::sized(a.len()) {
+        return n == a.len() / records::MEMORY_WIDTH;
+    }
+    false
+}
+
+// The rows of `components`.
+pub fn components_checked(a: &[i32], n: usize) -> Checked
+    ensures { λ r. ⌜ r ≡ componentsChecked (now (a .entry)) n ⌝ }
+{
+    if lists_sized(a, n) {
+        return fitness_code::first_refused(a, geometry::COORDINATE_LIMIT, 0);
     }
     Checked::Refused {
         number: 1,

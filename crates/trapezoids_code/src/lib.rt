@@ -24,15 +24,6 @@ ghost use Rattle.geometry_code.specs.Code.{precedesBy, pointOf, SmallPoint};
 ghost use Rattle.trapezoids_code.specs.Placed.{PlacedAs, CommonLeft, CommonRight, Pair};
 ghost use Rattle.trapezoids_code.specs.Tails.{inFront, Borrowed, FilledAs};
 
-// The trapezoid with number i of a layer.
-pub fn placed_at(layer: &[i32], i: usize) -> Placed
-    requires { ⌜ All (FitFor coordinateLimit) (layerOf (now layer)) × (i < count trapezoidCodec (now layer)) ⌝ }
-    ensures { λ r. ⌜ PlacedAs (recordAt trapezoidCodec (now (layer .entry)) i) r ⌝ }
-{
-    let t = load(layer, i);
-    place(t)
-}
-
 // The line whose words start at a place.
 pub fn load_line(s: &[i32], at: usize) -> Line
     requires { ⌜ at + 4 ≤ length (now s) ⌝ }
@@ -107,48 +98,6 @@ pub fn store(s: &mut [i32], t: Trapezoid)
     store_line(s, 20, top);
 }
 
-// Whether the first of two compared is less, or less or equal.
-fn precedes(o: Ordering, level: bool) -> bool
-    ensures { λ r. ⌜ r ≡ precedesBy level o ⌝ }
-{
-    match o {
-        Ordering::Less => true,
-        Ordering::Equal => level,
-        Ordering::Greater => false,
-    }
-}
-
-// Whether the point (x/d, y/d) lies in a trapezoid.
-pub fn contains(t: Trapezoid, x: Int, y: Int, d: Int) -> bool
-    requires { ⌜ All (OnGrid coordinateLimit) (linesOf t) × SmallPoint x y d ⌝ }
-    ensures { λ r. ⌜ r ≡ liesIn (pointOf x y d) t ⌝ }
-{
-    let left = t.left;
-    let right = t.right;
-    let bottom = t.bottom;
-    let top = t.top;
-    let a = geometry_code::crossing_of(left.first, left.second);
-    let Crossing::At(p) = a else {
-        return false;
-    };
-    let b = geometry_code::crossing_of(right.first, right.second);
-    let Crossing::At(q) = b else {
-        return false;
-    };
-    let here = Position { num: x, den: d };
-    if precedes(geometry_code::compare(p, here), true) {
-        if precedes(geometry_code::compare(here, q), false) {
-            if geometry_code::under(bottom, x, y, d) {
-                if geometry_code::under(top, x, y, d) {
-                    return false;
-                }
-                return true;
-            }
-        }
-    }
-    false
-}
-
 pub fn place(t: Trapezoid) -> Placed
     requires { ⌜ FitFor coordinateLimit t ⌝ }
     ensures { λ r. ⌜ PlacedAs t r ⌝ }
@@ -160,6 +109,15 @@ pub fn place(t: Trapezoid) -> Placed
         left,
         right,
     }
+}
+
+// The trapezoid with number i of a layer.
+pub fn placed_at(layer: &[i32], i: usize) -> Placed
+    requires { ⌜ All (FitFor coordinateLimit) (layerOf (now layer)) × (i < count trapezoidCodec (now layer)) ⌝ }
+    ensures { λ r. ⌜ PlacedAs (recordAt trapezoidCodec (now (layer .entry)) i) r ⌝ }
+{
+    let t = load(layer, i);
+    place(t)
 }
 
 // The righter of the left bases.
@@ -201,4 +159,46 @@ pub fn put_if(yes: bool, t: Trapezoid, out: &mut [i32], room: usize) -> Fill
         return put(t, out, room);
     }
     Fill::Written(0)
+}
+
+// Whether the first of two compared is less, or less or equal.
+fn precedes(o: Ordering, level: bool) -> bool
+    ensures { λ r. ⌜ r ≡ precedesBy level o ⌝ }
+{
+    match o {
+        Ordering::Less => true,
+        Ordering::Equal => level,
+        Ordering::Greater => false,
+    }
+}
+
+// Whether the point (x/d, y/d) lies in a trapezoid.
+pub fn contains(t: Trapezoid, x: Int, y: Int, d: Int) -> bool
+    requires { ⌜ All (OnGrid coordinateLimit) (linesOf t) × SmallPoint x y d ⌝ }
+    ensures { λ r. ⌜ r ≡ liesIn (pointOf x y d) t ⌝ }
+{
+    let left = t.left;
+    let right = t.right;
+    let bottom = t.bottom;
+    let top = t.top;
+    let a = geometry_code::crossing_of(left.first, left.second);
+    let Crossing::At(p) = a else {
+        return false;
+    };
+    let b = geometry_code::crossing_of(right.first, right.second);
+    let Crossing::At(q) = b else {
+        return false;
+    };
+    let here = Position { num: x, den: d };
+    if precedes(geometry_code::compare(p, here), true) {
+        if precedes(geometry_code::compare(here, q), false) {
+            if geometry_code::under(bottom, x, y, d) {
+                if geometry_code::under(top, x, y, d) {
+                    return false;
+                }
+                return true;
+            }
+        }
+    }
+    false
 }

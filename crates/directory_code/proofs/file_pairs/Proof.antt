@@ -5,8 +5,9 @@ use borrow.Author.Needs.{needs}
 use Rattle.files.specs.declared.Number.the-variants.{Outside}
 use Rattle.files.specs.Formats.{fileWords}
 use Rattle.files.specs.Directory.{endOf}
-use Rattle.files.proofs.Walk.{Walking, walk-start, walk-turn, walk-wrong, walk-end, pair}
+use Rattle.files.proofs.Walk.{pair}
 use Rattle.files.proofs.Reading.{length-file}
+use Rattle.directory_code.proofs.Walking.{Walking, walk-start, walk-turn, walk-wrong, walk-end}
 use Rattle.directory_code.proofs.file_pairs.Statement.{statement}
 use Rattle.directory_code.proofs.file_pairs.Tie as tie
 

@@ -3,7 +3,8 @@ use Prim.Native.Nat.{_-_}
 use native.Mathlib.Omega.{arith}
 use borrow.Author.Needs.{needs}
 use Rattle.files.specs.declared.Number.the-variants.{Outside}
-use Rattle.files.proofs.Walk.{Walking, walk-start, walk-turn, walk-wrong, walk-end, pair}
+use Rattle.files.proofs.Walk.{pair}
+use Rattle.directory_code.proofs.Walking.{Walking, walk-start, walk-turn, walk-wrong, walk-end}
 use Rattle.directory_code.proofs.words_pairs.Statement.{statement}
 use Rattle.directory_code.proofs.words_pairs.Tie as tie
 

@@ -5,7 +5,7 @@ use borrow.Author.Needs.{needs}
 use borrow.Author.Tests.{not-true, not-false}
 use Rattle.geometry.specs.Polygons.{vertexOnGrid}
 use Rattle.files.specs.Formats.{fileWords}
-use Rattle.files.proofs.Polygons.{Passing, pass-start, pass-turn, pass-fail, pass-stop}
+use Rattle.files_code.proofs.Passing.{Passing, pass-start, pass-turn, pass-fail, pass-stop}
 use Rattle.files_code.proofs.polygon_on_grid.Statement.{statement}
 use Rattle.files_code.proofs.polygon_on_grid.Tie as tie
 

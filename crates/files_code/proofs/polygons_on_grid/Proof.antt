@@ -9,7 +9,7 @@ use Rattle.files.specs.Formats.{fileWords, polygonFile}
 use Rattle.files.specs.Contents.{amountOf}
 use Rattle.files.proofs.Reading.{length-file}
 use Rattle.files.proofs.Right.{IsRight, right, in-file, file-body}
-use Rattle.files.proofs.Polygons.{Cutting, cut-start, in-units, in-body, cut-turn, cut-off, cut-stop}
+use Rattle.files_code.proofs.Passing.{Cutting, cut-start, in-units, in-body, cut-turn, cut-off, cut-stop}
 use Rattle.files_code.proofs.polygons_on_grid.Statement.{statement}
 use Rattle.files_code.proofs.polygons_on_grid.Tie as tie
 

@@ -1,7 +1,7 @@
 use mathlib.Core.Path.{sym, _∙_}
 use borrow.Author.Needs.{needs}
 use Rattle.files.specs.Formats.{fileWords}
-use Rattle.files.proofs.Polygons.{vertex-off, vertex-by}
+use Rattle.files_code.proofs.Passing.{vertex-off, vertex-by}
 use Rattle.files_code.proofs.vertex_on_grid.Statement.{statement}
 use Rattle.files_code.proofs.vertex_on_grid.Tie as tie
 
