@@ -10,3 +10,4 @@ pub mod Fracturing
 pub mod Exact
 pub mod Table
 mod Examples
+pub mod Seen

@@ -15,8 +15,9 @@ use Rattle.calls.specs.declared.Deoverlapped.{Deoverlapped}
 use Rattle.calls.specs.declared.Equality.{Equality}
 use Rattle.calls.specs.declared.Containment.{Containment}
 use Rattle.calls.specs.Answers.{fracturedAnswer, combinedAnswer, deoverlappedAnswer, equalityAnswer, pointAnswer}
+use Rattle.calls.specs.Packed.{packed, packedEquality, packedPoint, packedFile, packedCount}
 use Rattle.calls.specs.Rows.{pointAt}
-use Rattle.calls.specs.Outcomes.{observed, fractureOutcome, combined, deoverlapOutcome, equalOutcome, containsAnswer}
+use Rattle.calls.specs.Outcomes.{Outcome, observed, fractureOutcome, combined, deoverlapOutcome, equalOutcome, containsAnswer}
 
 -- ---- calls with an output and a scratch area (paper 01: work area): what the two held before, the answer, and what they hold then
 abbrev pub FractureKept : List ℕ → List ℤ → List ℤ → Fractured → List ℤ → List ℤ → Type 0
@@ -44,3 +45,34 @@ WriteKept words out answer out-then = files.observed (files.writtenAnswer answer
 
 abbrev pub ComponentsKept : List ℤ → List ℕ → Connected → List ℕ → Type 0
 ComponentsKept a numbers answer numbers-then = connectivity.observed (connectivity.connectedAnswer answer) numbers-then ≡ connectivity.componentsOutcome a numbers
+
+-- ---- the functions for C: the answer is one number. Of an outcome o, what was seen: the answer's number, and the words left
+abbrev pub SeenFromC : {A : Type 0} → (A → ℕ) → Outcome A → ℕ → List ℤ → List ℤ → Type 0
+SeenFromC pack o answer out scratch = (answer ≡ pack (o .answer)) × (out ≡ o .out) × (scratch ≡ o .scratch)
+
+abbrev pub FileSeenFromC : {W : Type 0} → files.Outcome W → ℕ → List W → Type 0
+FileSeenFromC o answer out = (answer ≡ packedFile (o .answer)) × (out ≡ o .out)
+
+abbrev pub FractureKeptForC : List ℕ → List ℤ → List ℤ → ℕ → List ℤ → List ℤ → Type 0
+FractureKeptForC file out scratch answer out-then scratch-then = SeenFromC packed (fractureOutcome file out scratch) answer out-then scratch-then
+
+abbrev pub CombineKeptForC : ℕ → List ℤ → List ℤ → List ℤ → List ℤ → ℕ → List ℤ → List ℤ → Type 0
+CombineKeptForC code a b out scratch answer out-then scratch-then = SeenFromC packed (combined code a b out scratch) answer out-then scratch-then
+
+abbrev pub DeoverlapKeptForC : List ℤ → List ℤ → List ℤ → ℕ → List ℤ → List ℤ → Type 0
+DeoverlapKeptForC a out scratch answer out-then scratch-then = SeenFromC packed (deoverlapOutcome a out scratch) answer out-then scratch-then
+
+abbrev pub EqualKeptForC : List ℤ → List ℤ → List ℤ → List ℤ → ℕ → List ℤ → List ℤ → Type 0
+EqualKeptForC a b out scratch answer out-then scratch-then = SeenFromC packedEquality (equalOutcome a b out scratch) answer out-then scratch-then
+
+abbrev pub ContainsKeptForC : ℤ → ℤ → ℤ → List ℤ → List ℤ → ℕ → ℕ → Type 0
+ContainsKeptForC x y d a b code answer = answer ≡ packedPoint (containsAnswer (pointAt x y d) a b code)
+
+abbrev pub ReadKeptForC : List ℕ → List ℤ → ℕ → List ℤ → Type 0
+ReadKeptForC file out answer out-then = FileSeenFromC (files.readLayers file out) answer out-then
+
+abbrev pub WriteKeptForC : List ℤ → List ℕ → ℕ → List ℕ → Type 0
+WriteKeptForC words out answer out-then = FileSeenFromC (files.writeLayers words out) answer out-then
+
+abbrev pub ComponentsKeptForC : List ℤ → List ℕ → ℕ → List ℕ → Type 0
+ComponentsKeptForC a numbers answer numbers-then = (answer ≡ packedCount (connectivity.componentsOutcome a numbers .answer)) × (numbers-then ≡ connectivity.componentsOutcome a numbers .numbers)

@@ -11,11 +11,8 @@ ghost use mathlib.Core.Path.{_≡_};
 ghost use Prim.Native.Nat.{_<_, _≤_};
 ghost use Rattle.records.specs.Limits.{maxRecords};
 ghost use Rattle.geometry.specs.Fitness.{SmallRefusal};
-ghost use Rattle.files.specs.Outcomes.{readLayers, writeLayers};
-ghost use Rattle.calls.specs.Components.{componentsOutcome};
-ghost use Rattle.calls.specs.Rows.{pointAt};
-ghost use Rattle.calls.specs.Outcomes.{fractureOutcome, combined, deoverlapOutcome, equalOutcome, containsAnswer};
-ghost use Rattle.calls.specs.Packed.{refusal as refusalOf, success as successOf, packed, packedEquality, packedPoint, packedFile, packedCount};
+ghost use Rattle.calls.specs.Packed.{refusal as refusalOf, success as successOf};
+ghost use Rattle.calls.specs.Contracts.{FractureKeptForC, CombineKeptForC, DeoverlapKeptForC, EqualKeptForC, ContainsKeptForC, ReadKeptForC, WriteKeptForC, ComponentsKeptForC};
 
 fn refusal(number: u32, place: usize) -> u64
     requires { ⌜ SmallRefusal number place ⌝ }
@@ -33,9 +30,7 @@ fn success(high: usize, overlays: usize) -> u64
 
 #[no_mangle]
 pub extern "C" fn loxurfa_fracture(file: &[u8], out: &mut [i32], scratch: &mut [i32]) -> u64
-    ensures { λ r. ⌜ r ≡ packed (fractureOutcome (now (file .entry)) (now (out .entry)) (now (scratch .entry)) .answer) ⌝ }
-    ensures { λ _. ⌜ now (out .exit) ≡ fractureOutcome (now (file .entry)) (now (out .entry)) (now (scratch .entry)) .out ⌝ }
-    ensures { λ _. ⌜ now (scratch .exit) ≡ fractureOutcome (now (file .entry)) (now (out .entry)) (now (scratch .entry)) .scratch ⌝ }
+    ensures { λ r. ⌜ FractureKeptForC (now (file .entry)) (now (out .entry)) (now (scratch .entry)) r (now (out .exit)) (now (scratch .exit)) ⌝ }
 {
     let answer = loxurfa::fracture(file, out, scratch);
     match answer {
@@ -56,9 +51,7 @@ pub extern "C" fn loxurfa_combine(
     out: &mut [i32],
     scratch: &mut [i32],
 ) -> u64
-    ensures { λ r. ⌜ r ≡ packed (combined code (now (a .entry)) (now (b .entry)) (now (out .entry)) (now (scratch .entry)) .answer) ⌝ }
-    ensures { λ _. ⌜ now (out .exit) ≡ combined code (now (a .entry)) (now (b .entry)) (now (out .entry)) (now (scratch .entry)) .out ⌝ }
-    ensures { λ _. ⌜ now (scratch .exit) ≡ combined code (now (a .entry)) (now (b .entry)) (now (out .entry)) (now (scratch .entry)) .scratch ⌝ }
+    ensures { λ r. ⌜ CombineKeptForC code (now (a .entry)) (now (b .entry)) (now (out .entry)) (now (scratch .entry)) r (now (out .exit)) (now (scratch .exit)) ⌝ }
 {
     let answer = loxurfa::combine(code, a, b, out, scratch);
     match answer {
@@ -73,9 +66,7 @@ pub extern "C" fn loxurfa_combine(
 
 #[no_mangle]
 pub extern "C" fn loxurfa_deoverlap(a: &[i32], out: &mut [i32], scratch: &mut [i32]) -> u64
-    ensures { λ r. ⌜ r ≡ packed (deoverlapOutcome (now (a .entry)) (now (out .entry)) (now (scratch .entry)) .answer) ⌝ }
-    ensures { λ _. ⌜ now (out .exit) ≡ deoverlapOutcome (now (a .entry)) (now (out .entry)) (now (scratch .entry)) .out ⌝ }
-    ensures { λ _. ⌜ now (scratch .exit) ≡ deoverlapOutcome (now (a .entry)) (now (out .entry)) (now (scratch .entry)) .scratch ⌝ }
+    ensures { λ r. ⌜ DeoverlapKeptForC (now (a .entry)) (now (out .entry)) (now (scratch .entry)) r (now (out .exit)) (now (scratch .exit)) ⌝ }
 {
     let answer = loxurfa::deoverlap(a, out, scratch);
     match answer {
@@ -90,9 +81,7 @@ pub extern "C" fn loxurfa_deoverlap(a: &[i32], out: &mut [i32], scratch: &mut [i
 
 #[no_mangle]
 pub extern "C" fn loxurfa_equal(a: &[i32], b: &[i32], out: &mut [i32], scratch: &mut [i32]) -> u64
-    ensures { λ r. ⌜ r ≡ packedEquality (equalOutcome (now (a .entry)) (now (b .entry)) (now (out .entry)) (now (scratch .entry)) .answer) ⌝ }
-    ensures { λ _. ⌜ now (out .exit) ≡ equalOutcome (now (a .entry)) (now (b .entry)) (now (out .entry)) (now (scratch .entry)) .out ⌝ }
-    ensures { λ _. ⌜ now (scratch .exit) ≡ equalOutcome (now (a .entry)) (now (b .entry)) (now (out .entry)) (now (scratch .entry)) .scratch ⌝ }
+    ensures { λ r. ⌜ EqualKeptForC (now (a .entry)) (now (b .entry)) (now (out .entry)) (now (scratch .entry)) r (now (out .exit)) (now (scratch .exit)) ⌝ }
 {
     let answer = loxurfa::equal(a, b, out, scratch);
     match answer {
@@ -110,7 +99,7 @@ pub extern "C" fn loxurfa_equal(a: &[i32], b: &[i32], out: &mut [i32], scratch: 
 
 #[no_mangle]
 pub extern "C" fn loxurfa_contains(x: i32, y: i32, d: i32, a: &[i32], b: &[i32], code: u32) -> u64
-    ensures { λ r. ⌜ r ≡ packedPoint (containsAnswer (pointAt x y d) (now (a .entry)) (now (b .entry)) code) ⌝ }
+    ensures { λ r. ⌜ ContainsKeptForC x y d (now (a .entry)) (now (b .entry)) code r ⌝ }
 {
     let answer = loxurfa::contains(x, y, d, a, b, code);
     match answer {
@@ -128,8 +117,7 @@ pub extern "C" fn loxurfa_contains(x: i32, y: i32, d: i32, a: &[i32], b: &[i32],
 
 #[no_mangle]
 pub extern "C" fn loxurfa_read_layers(file: &[u8], out: &mut [i32]) -> u64
-    ensures { λ r. ⌜ r ≡ packedFile (readLayers (now (file .entry)) (now (out .entry)) .answer) ⌝ }
-    ensures { λ _. ⌜ now (out .exit) ≡ readLayers (now (file .entry)) (now (out .entry)) .out ⌝ }
+    ensures { λ r. ⌜ ReadKeptForC (now (file .entry)) (now (out .entry)) r (now (out .exit)) ⌝ }
 {
     let answer = loxurfa::read_layers(file, out);
     match answer {
@@ -144,8 +132,7 @@ pub extern "C" fn loxurfa_read_layers(file: &[u8], out: &mut [i32]) -> u64
 
 #[no_mangle]
 pub extern "C" fn loxurfa_write_layers(words: &[i32], out: &mut [u8]) -> u64
-    ensures { λ r. ⌜ r ≡ packedFile (writeLayers (now (words .entry)) (now (out .entry)) .answer) ⌝ }
-    ensures { λ _. ⌜ now (out .exit) ≡ writeLayers (now (words .entry)) (now (out .entry)) .out ⌝ }
+    ensures { λ r. ⌜ WriteKeptForC (now (words .entry)) (now (out .entry)) r (now (out .exit)) ⌝ }
 {
     let answer = loxurfa::write_layers(words, out);
     match answer {
@@ -160,8 +147,7 @@ pub extern "C" fn loxurfa_write_layers(words: &[i32], out: &mut [u8]) -> u64
 
 #[no_mangle]
 pub extern "C" fn loxurfa_components(a: &[i32], numbers: &mut [u32]) -> u64
-    ensures { λ r. ⌜ r ≡ packedCount (componentsOutcome (now (a .entry)) (now (numbers .entry)) .answer) ⌝ }
-    ensures { λ _. ⌜ now (numbers .exit) ≡ componentsOutcome (now (a .entry)) (now (numbers .entry)) .numbers ⌝ }
+    ensures { λ r. ⌜ ComponentsKeptForC (now (a .entry)) (now (numbers .entry)) r (now (numbers .exit)) ⌝ }
 {
     let answer = loxurfa::components(a, numbers);
     match answer {

@@ -1,9 +1,9 @@
 use mathlib.Core.Path.{sym, _∙_, ap, subst}
 use borrow.Author.Needs.{needs}
 use Rattle.calls.specs.declared.Deoverlapped.{Deoverlapped}
-use Rattle.calls.specs.Answers.{Answer, deoverlappedAnswer, Small}
-use Rattle.calls.specs.Outcomes.{Outcome}
+use Rattle.calls.specs.Answers.{deoverlappedAnswer, Small}
 use Rattle.calls.specs.Packed.{packed}
+use Rattle.calls.proofs.Seen.{seen}
 use Rattle.loxurfa_c.proofs.loxurfa_deoverlap.Statement.{statement}
 use Rattle.loxurfa_c.proofs.loxurfa_deoverlap.Tie as tie
 
@@ -13,7 +13,7 @@ refusal-requires c κs = subst (λ (r : Deoverlapped). Small (deoverlappedAnswer
 returns : tie.Need-returns
 returns c =
     let e = c .before .before .before .before .before .before .deoverlap .ensures .0 in
-    (c .refusal .ensures ∙ ap (λ (r : Deoverlapped). packed (deoverlappedAnswer r)) (sym (c .before .before .answer .given .1)) ∙ ap (λ (x : Outcome Answer). packed (x .answer)) e, (ap (λ (x : Outcome Answer). x .out) e, ap (λ (x : Outcome Answer). x .scratch) e))
+    seen packed e (c .refusal .ensures ∙ ap (λ (r : Deoverlapped). packed (deoverlappedAnswer r)) (sym (c .before .before .answer .given .1)))
 
 success-requires : tie.Need-success-requires
 success-requires c κs = subst (λ (r : Deoverlapped). Small (deoverlappedAnswer r)) (c .before .answer2 .given .1) (c .before .before .before .before .before .deoverlap .ensures .1)
@@ -21,7 +21,7 @@ success-requires c κs = subst (λ (r : Deoverlapped). Small (deoverlappedAnswer
 returns-2 : tie.Need-returns-2
 returns-2 c =
     let e = c .before .before .before .before .before .before .deoverlap .ensures .0 in
-    (c .success .ensures ∙ ap (λ (r : Deoverlapped). packed (deoverlappedAnswer r)) (sym (c .before .before .answer2 .given .1)) ∙ ap (λ (x : Outcome Answer). packed (x .answer)) e, (ap (λ (x : Outcome Answer). x .out) e, ap (λ (x : Outcome Answer). x .scratch) e))
+    seen packed e (c .success .ensures ∙ ap (λ (r : Deoverlapped). packed (deoverlappedAnswer r)) (sym (c .before .before .answer2 .given .1)))
 
 pub loxurfa-deoverlap-spec : {M : Type 1} → statement M
 loxurfa-deoverlap-spec =

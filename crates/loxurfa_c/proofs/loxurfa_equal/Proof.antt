@@ -2,9 +2,9 @@ use mathlib.Core.Path.{sym, _∙_, ap, subst}
 use native.Mathlib.Omega.{arith}
 use borrow.Author.Needs.{needs}
 use Rattle.calls.specs.declared.Equality.{Equality}
-use Rattle.calls.specs.Answers.{EqualityAnswer, equalityAnswer, SmallEquality}
-use Rattle.calls.specs.Outcomes.{Outcome}
+use Rattle.calls.specs.Answers.{equalityAnswer, SmallEquality}
 use Rattle.calls.specs.Packed.{packedEquality}
+use Rattle.calls.proofs.Seen.{seen}
 use Rattle.loxurfa_c.proofs.loxurfa_equal.Statement.{statement}
 use Rattle.loxurfa_c.proofs.loxurfa_equal.Tie as tie
 
@@ -14,7 +14,7 @@ refusal-requires c κs = subst (λ (r : Equality). SmallEquality (equalityAnswer
 returns : tie.Need-returns
 returns c =
     let e = c .before .before .before .before .before .before .equal .ensures .0 in
-    (c .refusal .ensures ∙ ap (λ (r : Equality). packedEquality (equalityAnswer r)) (sym (c .before .before .answer .given .1)) ∙ ap (λ (x : Outcome EqualityAnswer). packedEquality (x .answer)) e, (ap (λ (x : Outcome EqualityAnswer). x .out) e, ap (λ (x : Outcome EqualityAnswer). x .scratch) e))
+    seen packedEquality e (c .refusal .ensures ∙ ap (λ (r : Equality). packedEquality (equalityAnswer r)) (sym (c .before .before .answer .given .1)))
 
 success-requires : tie.Need-success-requires
 success-requires c κs = (omega arith, subst (λ (r : Equality). SmallEquality (equalityAnswer r)) (c .before .answer2 .given .1) (c .before .before .before .before .before .equal .ensures .1))
@@ -22,7 +22,7 @@ success-requires c κs = (omega arith, subst (λ (r : Equality). SmallEquality (
 returns-2 : tie.Need-returns-2
 returns-2 c =
     let e = c .before .before .before .before .before .before .equal .ensures .0 in
-    (c .success .ensures ∙ ap (λ (r : Equality). packedEquality (equalityAnswer r)) (sym (c .before .before .answer2 .given .1)) ∙ ap (λ (x : Outcome EqualityAnswer). packedEquality (x .answer)) e, (ap (λ (x : Outcome EqualityAnswer). x .out) e, ap (λ (x : Outcome EqualityAnswer). x .scratch) e))
+    seen packedEquality e (c .success .ensures ∙ ap (λ (r : Equality). packedEquality (equalityAnswer r)) (sym (c .before .before .answer2 .given .1)))
 
 add-success : tie.Need-add-success
 add-success c = let h = subst (λ (r : Equality). SmallEquality (equalityAnswer r)) (c .before .answer3 .given .1) (c .before .before .before .before .before .equal .ensures .1) in record { fits = omega (arith, h .0) }
@@ -33,7 +33,7 @@ success-requires-2 c κs = let h = subst (λ (r : Equality). SmallEquality (equa
 returns-3 : tie.Need-returns-3
 returns-3 c =
     let e = c .before .before .before .before .before .before .equal .ensures .0 in
-    (c .success2 .ensures ∙ ap (λ (r : Equality). packedEquality (equalityAnswer r)) (sym (c .before .before .answer3 .given .1)) ∙ ap (λ (x : Outcome EqualityAnswer). packedEquality (x .answer)) e, (ap (λ (x : Outcome EqualityAnswer). x .out) e, ap (λ (x : Outcome EqualityAnswer). x .scratch) e))
+    seen packedEquality e (c .success2 .ensures ∙ ap (λ (r : Equality). packedEquality (equalityAnswer r)) (sym (c .before .before .answer3 .given .1)))
 
 pub loxurfa-equal-spec : {M : Type 1} → statement M
 loxurfa-equal-spec =

@@ -1,9 +1,9 @@
 use mathlib.Core.Path.{sym, _∙_, ap, subst}
-use Prim.Native.Nat.{ℕ}
 use borrow.Author.Needs.{needs}
 use Rattle.files.specs.declared.LayersWritten.{LayersWritten}
-use Rattle.files.specs.Outcomes.{writtenAnswer, Small, Outcome}
+use Rattle.files.specs.Outcomes.{writtenAnswer, Small}
 use Rattle.calls.specs.Packed.{packedFile}
+use Rattle.calls.proofs.Seen.{file-seen}
 use Rattle.loxurfa_c.proofs.loxurfa_write_layers.Statement.{statement}
 use Rattle.loxurfa_c.proofs.loxurfa_write_layers.Tie as tie
 
@@ -13,7 +13,7 @@ refusal-requires c κs = subst (λ (r : LayersWritten). Small (writtenAnswer r))
 returns : tie.Need-returns
 returns c =
     let e = c .before .before .before .before .before .before .write-layers .ensures .0 in
-    (c .refusal .ensures ∙ ap (λ (r : LayersWritten). packedFile (writtenAnswer r)) (sym (c .before .before .answer .given .1)) ∙ ap (λ (x : Outcome ℕ). packedFile (x .answer)) e, ap (λ (x : Outcome ℕ). x .out) e)
+    file-seen e (c .refusal .ensures ∙ ap (λ (r : LayersWritten). packedFile (writtenAnswer r)) (sym (c .before .before .answer .given .1)))
 
 success-requires : tie.Need-success-requires
 success-requires c κs =
@@ -22,7 +22,7 @@ success-requires c κs =
 returns-2 : tie.Need-returns-2
 returns-2 c =
     let e = c .before .before .before .before .before .before .write-layers .ensures .0 in
-    (c .success .ensures ∙ ap (λ (r : LayersWritten). packedFile (writtenAnswer r)) (sym (c .before .before .answer2 .given .1)) ∙ ap (λ (x : Outcome ℕ). packedFile (x .answer)) e, ap (λ (x : Outcome ℕ). x .out) e)
+    file-seen e (c .success .ensures ∙ ap (λ (r : LayersWritten). packedFile (writtenAnswer r)) (sym (c .before .before .answer2 .given .1)))
 
 pub loxurfa-write-layers-spec : {M : Type 1} → statement M
 loxurfa-write-layers-spec =

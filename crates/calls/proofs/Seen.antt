@@ -1,0 +1,15 @@
+-- What is seen of a call from C, by what its contract says of the answer and the words that it left.
+use mathlib.Core.Path.{_≡_, ap, _∙_}
+use mathlib.Core.List.{List}
+use Prim.Native.Nat.{ℕ}
+use lib.IntN.{ℤ}
+use Rattle.files.specs.Outcomes as files
+use Rattle.calls.specs.Outcomes.{Outcome, observed}
+use Rattle.calls.specs.Packed.{packedFile}
+use Rattle.calls.specs.Contracts.{SeenFromC, FileSeenFromC}
+
+pub seen : {A : Type 0} (pack : A → ℕ) {o : Outcome A} {answer : A} {out scratch : List ℤ} → observed answer out scratch ≡ o → {n : ℕ} → n ≡ pack answer → SeenFromC pack o n out scratch
+seen {A} pack e h = (h ∙ ap (λ (x : Outcome A). pack (x .answer)) e, ap (λ (x : Outcome A). x .out) e, ap (λ (x : Outcome A). x .scratch) e)
+
+pub file-seen : {W : Type 0} {o : files.Outcome W} {answer : files.Answer} {out : List W} → files.observed answer out ≡ o → {n : ℕ} → n ≡ packedFile answer → FileSeenFromC o n out
+file-seen {W} e h = (h ∙ ap (λ (x : files.Outcome W). packedFile (x .answer)) e, ap (λ (x : files.Outcome W). x .out) e)
