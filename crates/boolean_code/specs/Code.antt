@@ -1,12 +1,20 @@
--- What the equality test answers, by the definitions.
+-- What the set operations write and what the equality test answers, by the definitions.
 use mathlib.Core.Path.{_≡_}
 use mathlib.Core.List.{List, []}
 use Prim.Native.Nat.{ℕ, _≤_}
+use lib.ListN.{length}
+use lib.IntN.{ℤ}
 use Rattle.geometry.specs.declared.Trapezoid.{Trapezoid}
+use Rattle.boolean.specs.declared.Folded.{Folded}
 use Rattle.boolean.specs.declared.Compared.{Compared}
 use Rattle.boolean.specs.declared.Compared.the-variants.{TooShort, Same, Differs}
-use Rattle.boolean.specs.Operations.{difference, Side}
-use Rattle.boolean.specs.Space.{enough, short, space, equalityMarks}
+use Rattle.boolean.specs.Operations.{difference, Side, Code, result}
+use Rattle.boolean.specs.Space.{enough, short, space, equalityMarks, marks}
+use Rattle.remainder_code.specs.Code.{FoldedAs}
+
+-- the result of a code on A and B, written into a buffer that was d₀
+abbrev pub ResultWritten : Code → List ℤ → ℕ → List Trapezoid → List Trapezoid → Folded → List ℤ → Type 0
+ResultWritten code d₀ room A B r d = FoldedAs (length d₀) room (result code A B) (marks code A B) r d
 
 abbrev pub ComparedAs : ℕ → List Trapezoid → List Trapezoid → Compared → Type 0
 ComparedAs room A B (TooShort overlays) = space room (equalityMarks A B) ≡ short overlays

@@ -1,2 +1,2 @@
--- What the equality test answers, by the definitions.
+-- What the set operations write and what the equality test answers, by the definitions.
 pub mod Code

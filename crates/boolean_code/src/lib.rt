@@ -6,7 +6,6 @@ ghost use mathlib.Core.Path.{_≡_};
 ghost use mathlib.Core.Bool.{not, _&&_, _||_};
 ghost use mathlib.Core.List.{[]};
 ghost use Prim.Native.Nat.{_<_, _≤_};
-ghost use lib.ListN.{length};
 ghost use lib.IntN.{pos};
 ghost use Rattle.lists.specs.Lists.{All};
 ghost use Rattle.records.specs.Limits.{maxRecords};
@@ -14,12 +13,12 @@ ghost use Rattle.records.specs.Records.{Blank};
 ghost use Rattle.geometry.specs.Limit.{coordinateLimit};
 ghost use Rattle.geometry.specs.Fitness.{FitFor, Layer};
 ghost use Rattle.geometry.specs.Trapezoids.{layerOf, liesInLayer};
-ghost use Rattle.boolean.specs.Operations.{union, either-not-both, codeAt, result, difference, says as saysOf};
-ghost use Rattle.boolean.specs.Space.{enough, space, marks, differenceMarks};
+ghost use Rattle.boolean.specs.Operations.{union, either-not-both, codeAt, difference, says as saysOf};
+ghost use Rattle.boolean.specs.Space.{enough, space, differenceMarks};
 ghost use Rattle.geometry_code.specs.Code.{pointOf, SmallPoint};
 ghost use Rattle.trapezoids_code.specs.Tails.{Borrowed};
-ghost use Rattle.remainder_code.specs.Code.{overlaysOfLayer, maxOverlays, OverlaysWithin, FoldedAs};
-ghost use Rattle.boolean_code.specs.Code.{ComparedAs, ComparedWithin};
+ghost use Rattle.remainder_code.specs.Code.{overlaysOfLayer, maxOverlays, OverlaysWithin, ScratchFor};
+ghost use Rattle.boolean_code.specs.Code.{ComparedAs, ComparedWithin, ResultWritten};
 
 // The first layer, and then the second less the first.
 fn union_into(
@@ -30,8 +29,8 @@ fn union_into(
     room: usize,
 ) -> Folded
     requires { ⌜ Layer (now first) × Layer (now second) × Borrowed (now out) room × (room ≤ maxRecords) ⌝ }
-    requires { ⌜ Blank (pos 0) (now scratch) × (length (now scratch) ≡ length (now out)) ⌝ }
-    ensures { λ r. ⌜ FoldedAs (length (now (out .entry))) room (result union (layerOf (now (first .entry))) (layerOf (now (second .entry)))) (marks union (layerOf (now (first .entry))) (layerOf (now (second .entry)))) r (now (out .exit)) ⌝ }
+    requires { ⌜ ScratchFor (now out) (now scratch) ⌝ }
+    ensures { λ r. ⌜ ResultWritten union (now (out .entry)) room (layerOf (now (first .entry))) (layerOf (now (second .entry))) r (now (out .exit)) ⌝ }
     ensures { λ r. ⌜ OverlaysWithin overlaysOfLayer r ⌝ }
     ensures { λ _. ⌜ Blank (pos 0) (now (scratch .exit)) ⌝ }
 {
@@ -53,8 +52,8 @@ fn either_into(
     room: usize,
 ) -> Folded
     requires { ⌜ Layer (now first) × Layer (now second) × Borrowed (now out) room × (room ≤ maxRecords) ⌝ }
-    requires { ⌜ Blank (pos 0) (now scratch) × (length (now scratch) ≡ length (now out)) ⌝ }
-    ensures { λ r. ⌜ FoldedAs (length (now (out .entry))) room (result either-not-both (layerOf (now (first .entry))) (layerOf (now (second .entry)))) (marks either-not-both (layerOf (now (first .entry))) (layerOf (now (second .entry)))) r (now (out .exit)) ⌝ }
+    requires { ⌜ ScratchFor (now out) (now scratch) ⌝ }
+    ensures { λ r. ⌜ ResultWritten either-not-both (now (out .entry)) room (layerOf (now (first .entry))) (layerOf (now (second .entry))) r (now (out .exit)) ⌝ }
     ensures { λ r. ⌜ OverlaysWithin maxOverlays r ⌝ }
     ensures { λ _. ⌜ Blank (pos 0) (now (scratch .exit)) ⌝ }
 {
@@ -81,8 +80,8 @@ pub fn combine_into(
 ) -> Folded
     requires { ⌜ (code < 5) × Layer (now first) × Layer (now second) ⌝ }
     requires { ⌜ Borrowed (now out) room × (room ≤ maxRecords) ⌝ }
-    requires { ⌜ Blank (pos 0) (now scratch) × (length (now scratch) ≡ length (now out)) ⌝ }
-    ensures { λ r. ⌜ FoldedAs (length (now (out .entry))) room (result (codeAt code) (layerOf (now (first .entry))) (layerOf (now (second .entry)))) (marks (codeAt code) (layerOf (now (first .entry))) (layerOf (now (second .entry)))) r (now (out .exit)) ⌝ }
+    requires { ⌜ ScratchFor (now out) (now scratch) ⌝ }
+    ensures { λ r. ⌜ ResultWritten (codeAt code) (now (out .entry)) room (layerOf (now (first .entry))) (layerOf (now (second .entry))) r (now (out .exit)) ⌝ }
     ensures { λ r. ⌜ OverlaysWithin maxOverlays r ⌝ }
     ensures { λ _. ⌜ Blank (pos 0) (now (scratch .exit)) ⌝ }
 {
@@ -111,7 +110,7 @@ fn second_side(
     room: usize,
 ) -> Compared
     requires { ⌜ Layer (now first) × Layer (now second) × Borrowed (now out) room × (room ≤ maxRecords) ⌝ }
-    requires { ⌜ Blank (pos 0) (now scratch) × (length (now scratch) ≡ length (now out)) ⌝ }
+    requires { ⌜ ScratchFor (now out) (now scratch) ⌝ }
     requires { ⌜ (difference (layerOf (now first)) (layerOf (now second)) ≡ []) × (space room (differenceMarks 0 (layerOf (now first)) (layerOf (now second))) ≡ enough made) × (made ≤ overlaysOfLayer) ⌝ }
     ensures { λ r. ⌜ ComparedAs room (layerOf (now (first .entry))) (layerOf (now (second .entry))) r ⌝ }
     ensures { λ r. ⌜ ComparedWithin maxOverlays r ⌝ }
@@ -146,7 +145,7 @@ pub fn equal_into(
 ) -> Compared
     requires { ⌜ Layer (now first) × Layer (now second) ⌝ }
     requires { ⌜ Borrowed (now out) room × (room ≤ maxRecords) ⌝ }
-    requires { ⌜ Blank (pos 0) (now scratch) × (length (now scratch) ≡ length (now out)) ⌝ }
+    requires { ⌜ ScratchFor (now out) (now scratch) ⌝ }
     ensures { λ r. ⌜ ComparedAs room (layerOf (now (first .entry))) (layerOf (now (second .entry))) r ⌝ }
     ensures { λ r. ⌜ ComparedWithin maxOverlays r ⌝ }
     ensures { λ _. ⌜ Blank (pos 0) (now (out .exit)) × Blank (pos 0) (now (scratch .exit)) ⌝ }

@@ -2,7 +2,6 @@
 use boolean::Folded;
 use geometry::Placed;
 ghost use mathlib.Core.Path.{_≡_};
-ghost use mathlib.Core.List.{[], _∷_};
 ghost use Prim.Native.Nat.{_+_, _*_, _-_, _≤_};
 ghost use lib.ListN.{length};
 ghost use lib.IntN.{pos};
@@ -10,11 +9,10 @@ ghost use Rattle.records.specs.Limits.{memoryWidth, maxRecords};
 ghost use Rattle.records.specs.Records.{Blank};
 ghost use Rattle.geometry.specs.Trapezoids.{layerOf};
 ghost use Rattle.geometry.specs.Fitness.{Layer};
-ghost use Rattle.boolean.specs.Operations.{lessAll, deoverlapped};
-ghost use Rattle.boolean.specs.Space.{lessAllMarks, oneMarks, deoverlappedMarks};
 ghost use Rattle.trapezoids_code.specs.Placed.{PlacedAs};
 ghost use Rattle.trapezoids_code.specs.Tails.{Borrowed};
-ghost use Rattle.remainder_code.specs.Code.{front, rest, from, overlaysOfOne, maxOverlays, OverlaysWithin, held, Remaining, FoldedAs};
+ghost use Rattle.remainder_code.specs.Code.{front, rest, from, overlaysOfOne, maxOverlays, OverlaysWithin, held, Remaining, LessAllWritten, OneWritten, ScratchFor};
+ghost use Rattle.deoverlap_code.specs.Code.{DeoverlappedWritten};
 
 // `out` holds k trapezoids and, past them, n more, the remainder: each of those less the first k from number `start` on,
 // until none remains.
@@ -28,8 +26,8 @@ fn lessen_by_front(
 ) -> Folded
     requires { ⌜ Layer (front (now out) k) × (start ≤ k) × (k ≤ room) × (room ≤ maxRecords) ⌝ }
     requires { ⌜ (memoryWidth * room ≤ length (now out)) × Remaining (rest (now out) k) n (room - k) ⌝ }
-    requires { ⌜ Blank (pos 0) (now scratch) × (length (now scratch) ≡ length (now out)) ⌝ }
-    ensures { λ r. ⌜ FoldedAs (length (rest (now (out .entry)) k)) (room - k) (lessAll (held (rest (now (out .entry)) k) n) (from (front (now (out .entry)) k) start)) (lessAllMarks 0 (held (rest (now (out .entry)) k) n) (from (front (now (out .entry)) k) start)) r (rest (now (out .exit)) k) ⌝ }
+    requires { ⌜ ScratchFor (now out) (now scratch) ⌝ }
+    ensures { λ r. ⌜ LessAllWritten (rest (now (out .entry)) k) (room - k) (held (rest (now (out .entry)) k) n) (from (front (now (out .entry)) k) start) r (rest (now (out .exit)) k) ⌝ }
     ensures { λ _. ⌜ front (now (out .exit)) k ≡ front (now (out .entry)) k ⌝ }
     ensures { λ r. ⌜ OverlaysWithin (maxRecords * (maxRecords - start)) r ⌝ }
     ensures { λ _. ⌜ Blank (pos 0) (now (scratch .exit)) ⌝ }
@@ -77,8 +75,8 @@ fn one_past(
     room: usize,
 ) -> Folded
     requires { ⌜ PlacedAs (a .shape) a × Remaining (now out) k room × (room ≤ maxRecords) ⌝ }
-    requires { ⌜ Blank (pos 0) (now scratch) × (length (now scratch) ≡ length (now out)) ⌝ }
-    ensures { λ r. ⌜ FoldedAs (length (rest (now (out .entry)) k)) (room - k) (lessAll (a .shape ∷ []) (from (front (now (out .entry)) k) j)) (oneMarks 0 (a .shape) (from (front (now (out .entry)) k) j)) r (rest (now (out .exit)) k) ⌝ }
+    requires { ⌜ ScratchFor (now out) (now scratch) ⌝ }
+    ensures { λ r. ⌜ OneWritten (rest (now (out .entry)) k) (room - k) (a .shape) (from (front (now (out .entry)) k) j) r (rest (now (out .exit)) k) ⌝ }
     ensures { λ _. ⌜ front (now (out .exit)) k ≡ front (now (out .entry)) k ⌝ }
     ensures { λ r. ⌜ OverlaysWithin (maxRecords * (maxRecords - j) + 1) r ⌝ }
     ensures { λ _. ⌜ Blank (pos 0) (now (scratch .exit)) ⌝ }
@@ -104,8 +102,8 @@ fn one_past(
 // any room, those before the first that overlaps it are passed over, as in `one_into`.
 fn one_by_front(a: Placed, k: usize, out: &mut [i32], scratch: &mut [i32], room: usize) -> Folded
     requires { ⌜ PlacedAs (a .shape) a × Remaining (now out) k room × (room ≤ maxRecords) ⌝ }
-    requires { ⌜ Blank (pos 0) (now scratch) × (length (now scratch) ≡ length (now out)) ⌝ }
-    ensures { λ r. ⌜ FoldedAs (length (rest (now (out .entry)) k)) (room - k) (lessAll (a .shape ∷ []) (held (now (out .entry)) k)) (oneMarks 0 (a .shape) (held (now (out .entry)) k)) r (rest (now (out .exit)) k) ⌝ }
+    requires { ⌜ ScratchFor (now out) (now scratch) ⌝ }
+    ensures { λ r. ⌜ OneWritten (rest (now (out .entry)) k) (room - k) (a .shape) (held (now (out .entry)) k) r (rest (now (out .exit)) k) ⌝ }
     ensures { λ _. ⌜ front (now (out .exit)) k ≡ front (now (out .entry)) k ⌝ }
     ensures { λ r. ⌜ OverlaysWithin overlaysOfOne r ⌝ }
     ensures { λ _. ⌜ Blank (pos 0) (now (scratch .exit)) ⌝ }
@@ -123,8 +121,8 @@ fn one_by_front(a: Placed, k: usize, out: &mut [i32], scratch: &mut [i32], room:
 pub fn deoverlap_into(layer: &[i32], out: &mut [i32], scratch: &mut [i32], room: usize) -> Folded
     requires { ⌜ Layer (now layer) ⌝ }
     requires { ⌜ Borrowed (now out) room × (room ≤ maxRecords) ⌝ }
-    requires { ⌜ Blank (pos 0) (now scratch) × (length (now scratch) ≡ length (now out)) ⌝ }
-    ensures { λ r. ⌜ FoldedAs (length (now (out .entry))) room (deoverlapped (layerOf (now (layer .entry)))) (deoverlappedMarks [] (layerOf (now (layer .entry)))) r (now (out .exit)) ⌝ }
+    requires { ⌜ ScratchFor (now out) (now scratch) ⌝ }
+    ensures { λ r. ⌜ DeoverlappedWritten (now (out .entry)) room (layerOf (now (layer .entry))) r (now (out .exit)) ⌝ }
     ensures { λ r. ⌜ OverlaysWithin maxOverlays r ⌝ }
     ensures { λ _. ⌜ Blank (pos 0) (now (scratch .exit)) ⌝ }
 {

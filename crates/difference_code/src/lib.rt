@@ -1,20 +1,16 @@
 // The difference of two layers of trapezoids.
 use boolean::Folded;
 use geometry::Placed;
-ghost use mathlib.Core.Path.{_≡_};
-ghost use mathlib.Core.List.{[], _∷_, _++_};
 ghost use Prim.Native.Nat.{_+_, _*_, _-_, _≤_};
-ghost use lib.ListN.{length};
 ghost use lib.IntN.{pos};
 ghost use Rattle.records.specs.Limits.{maxRecords};
 ghost use Rattle.records.specs.Records.{Blank};
 ghost use Rattle.geometry.specs.Trapezoids.{layerOf};
 ghost use Rattle.geometry.specs.Fitness.{Layer};
-ghost use Rattle.boolean.specs.Operations.{lessAll, difference};
-ghost use Rattle.boolean.specs.Space.{oneMarks, differenceMarks};
 ghost use Rattle.trapezoids_code.specs.Placed.{PlacedAs};
 ghost use Rattle.trapezoids_code.specs.Tails.{Borrowed};
-ghost use Rattle.remainder_code.specs.Code.{from, overlaysOfOne, overlaysOfLayer, OverlaysWithin, held, Holding, FoldedAs};
+ghost use Rattle.remainder_code.specs.Code.{from, overlaysOfOne, overlaysOfLayer, OverlaysWithin, Holding, OneWritten, ScratchFor};
+ghost use Rattle.difference_code.specs.Code.{DifferenceAdded};
 
 // One trapezoid less the trapezoids of a layer from number j on, and what remains of it added.
 fn one_from(
@@ -26,8 +22,8 @@ fn one_from(
     room: usize,
 ) -> Folded
     requires { ⌜ PlacedAs (a .shape) a × Layer (now layer) × Borrowed (now out) room × (room ≤ maxRecords) ⌝ }
-    requires { ⌜ Blank (pos 0) (now scratch) × (length (now scratch) ≡ length (now out)) ⌝ }
-    ensures { λ r. ⌜ FoldedAs (length (now (out .entry))) room (lessAll (a .shape ∷ []) (from (now (layer .entry)) j)) (oneMarks 0 (a .shape) (from (now (layer .entry)) j)) r (now (out .exit)) ⌝ }
+    requires { ⌜ ScratchFor (now out) (now scratch) ⌝ }
+    ensures { λ r. ⌜ OneWritten (now (out .entry)) room (a .shape) (from (now (layer .entry)) j) r (now (out .exit)) ⌝ }
     ensures { λ r. ⌜ OverlaysWithin (maxRecords * (maxRecords - j) + 1) r ⌝ }
     ensures { λ _. ⌜ Blank (pos 0) (now (scratch .exit)) ⌝ }
 {
@@ -52,8 +48,8 @@ fn one_from(
 // it whole: with any room, those before the first that does are counted and passed over.
 fn one_into(a: Placed, layer: &[i32], out: &mut [i32], scratch: &mut [i32], room: usize) -> Folded
     requires { ⌜ PlacedAs (a .shape) a × Layer (now layer) × Borrowed (now out) room × (room ≤ maxRecords) ⌝ }
-    requires { ⌜ Blank (pos 0) (now scratch) × (length (now scratch) ≡ length (now out)) ⌝ }
-    ensures { λ r. ⌜ FoldedAs (length (now (out .entry))) room (lessAll (a .shape ∷ []) (layerOf (now (layer .entry)))) (oneMarks 0 (a .shape) (layerOf (now (layer .entry)))) r (now (out .exit)) ⌝ }
+    requires { ⌜ ScratchFor (now out) (now scratch) ⌝ }
+    ensures { λ r. ⌜ OneWritten (now (out .entry)) room (a .shape) (layerOf (now (layer .entry))) r (now (out .exit)) ⌝ }
     ensures { λ r. ⌜ OverlaysWithin overlaysOfOne r ⌝ }
     ensures { λ _. ⌜ Blank (pos 0) (now (scratch .exit)) ⌝ }
 {
@@ -75,8 +71,8 @@ pub fn difference_into(
     room: usize,
 ) -> Folded
     requires { ⌜ Layer (now first) × Layer (now second) × Holding (now out) start room × (room ≤ maxRecords) ⌝ }
-    requires { ⌜ Blank (pos 0) (now scratch) × (length (now scratch) ≡ length (now out)) ⌝ }
-    ensures { λ r. ⌜ FoldedAs (length (now (out .entry))) room (held (now (out .entry)) start ++ difference (layerOf (now (first .entry))) (layerOf (now (second .entry)))) (differenceMarks start (layerOf (now (first .entry))) (layerOf (now (second .entry)))) r (now (out .exit)) ⌝ }
+    requires { ⌜ ScratchFor (now out) (now scratch) ⌝ }
+    ensures { λ r. ⌜ DifferenceAdded (now (out .entry)) room start (layerOf (now (first .entry))) (layerOf (now (second .entry))) r (now (out .exit)) ⌝ }
     ensures { λ r. ⌜ OverlaysWithin overlaysOfLayer r ⌝ }
     ensures { λ _. ⌜ Blank (pos 0) (now (scratch .exit)) ⌝ }
 {

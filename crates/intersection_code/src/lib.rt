@@ -8,11 +8,10 @@ ghost use Rattle.geometry.specs.Limit.{coordinateLimit};
 ghost use Rattle.geometry.specs.Fitness.{FitFor, Layer};
 ghost use Rattle.geometry.specs.Trapezoids.{layerOf};
 ghost use Rattle.overlay.specs.Overlay.{overlay as overlayOf, tagged};
-ghost use Rattle.boolean.specs.Operations.{common, intersection};
-ghost use Rattle.boolean.specs.Space.{commonMarks, intersectionMarks};
 ghost use Rattle.trapezoids_code.specs.Placed.{PlacedAs, Pair};
 ghost use Rattle.trapezoids_code.specs.Tails.{Borrowed, FilledAs};
-ghost use Rattle.remainder_code.specs.Code.{overlaysOfLayer, OverlaysWithin, FoldedAs};
+ghost use Rattle.remainder_code.specs.Code.{overlaysOfLayer, OverlaysWithin};
+ghost use Rattle.intersection_code.specs.Code.{CommonWritten, IntersectionWritten};
 
 // The parts common to two trapezoids, and nothing at once where they do not overlap.
 fn common_parts(a: Placed, b: Placed, out: &mut [i32], room: usize) -> Fill
@@ -29,7 +28,7 @@ fn common_parts(a: Placed, b: Placed, out: &mut [i32], room: usize) -> Fill
 pub fn common_into(a: Placed, layer: &[i32], out: &mut [i32], room: usize) -> Folded
     requires { ⌜ All (FitFor coordinateLimit) (layerOf (now layer)) ⌝ }
     requires { ⌜ PlacedAs (a .shape) a × Borrowed (now out) room ⌝ }
-    ensures { λ r. ⌜ FoldedAs (length (now (out .entry))) room (common (a .shape) (layerOf (now (layer .entry)))) (commonMarks 0 (a .shape) (layerOf (now (layer .entry)))) r (now (out .exit)) ⌝ }
+    ensures { λ r. ⌜ CommonWritten (now (out .entry)) room (a .shape) (layerOf (now (layer .entry))) r (now (out .exit)) ⌝ }
 {
     let n = layer.len() / records::MEMORY_WIDTH;
     let mut k = 0;
@@ -54,7 +53,7 @@ pub fn common_into(a: Placed, layer: &[i32], out: &mut [i32], room: usize) -> Fo
 // The parts common to each trapezoid of the first layer, in order, and each of the second.
 pub fn intersection_into(first: &[i32], second: &[i32], out: &mut [i32], room: usize) -> Folded
     requires { ⌜ Layer (now first) × Layer (now second) × Borrowed (now out) room ⌝ }
-    ensures { λ r. ⌜ FoldedAs (length (now (out .entry))) room (intersection (layerOf (now (first .entry))) (layerOf (now (second .entry)))) (intersectionMarks 0 (layerOf (now (first .entry))) (layerOf (now (second .entry)))) r (now (out .exit)) ⌝ }
+    ensures { λ r. ⌜ IntersectionWritten (now (out .entry)) room (layerOf (now (first .entry))) (layerOf (now (second .entry))) r (now (out .exit)) ⌝ }
     ensures { λ r. ⌜ OverlaysWithin overlaysOfLayer r ⌝ }
 {
     let n = first.len() / records::MEMORY_WIDTH;

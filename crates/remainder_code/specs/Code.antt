@@ -7,16 +7,17 @@ use lib.ListN.{length, take, drop, replicate}
 use lib.IntN.{ℤ, pos}
 use Rattle.lists.specs.Lists.{All}
 use Rattle.records.specs.Limits.{memoryWidth, maxRecords}
-use Rattle.records.specs.Records.{recordsFrom, image, count}
+use Rattle.records.specs.Records.{recordsFrom, image, count, Blank}
 use Rattle.geometry.specs.declared.Trapezoid.{Trapezoid}
 use Rattle.geometry.specs.Limit.{coordinateLimit}
 use Rattle.geometry.specs.Fitness.{FitFor}
 use Rattle.geometry.specs.Trapezoids.{trapezoidCodec}
 use Rattle.geometry.specs.declared.Fill.the-variants.{Written}
 use Rattle.overlay.specs.Overlaps.{overlaps}
+use Rattle.boolean.specs.Operations.{less, lessAll}
 use Rattle.boolean.specs.declared.Folded.{Folded}
 use Rattle.boolean.specs.declared.Folded.the-variants.{Short, Done}
-use Rattle.boolean.specs.Space.{Mark, enough, short, space}
+use Rattle.boolean.specs.Space.{Mark, enough, short, space, lessMarks, lessAllMarks, oneMarks}
 use Rattle.trapezoids_code.specs.Tails.{FilledAs}
 
 -- of a tail of n words, for a fold with the result ts and the marks ms: the space was short after so many overlays, and the tail is blank; or
@@ -24,6 +25,20 @@ use Rattle.trapezoids_code.specs.Tails.{FilledAs}
 abbrev pub FoldedAs : ℕ → ℕ → List Trapezoid → List Mark → Folded → List ℤ → Type 0
 FoldedAs n room ts ms (Short overlays) d = (space room ms ≡ short overlays) × (d ≡ replicate n (pos 0))
 FoldedAs n room ts ms (Done trapezoids overlays) d = (space room ms ≡ enough overlays) × FilledAs n room ts (Written trapezoids) d
+
+-- the trapezoids rs less b, the trapezoids rs less all of bs, and one trapezoid a less all of bs and added, written into a tail that was d₀
+abbrev pub LessWritten : List ℤ → ℕ → List Trapezoid → Trapezoid → Folded → List ℤ → Type 0
+LessWritten d₀ room rs b r d = FoldedAs (length d₀) room (less rs b) (lessMarks 0 rs b) r d
+
+abbrev pub LessAllWritten : List ℤ → ℕ → List Trapezoid → List Trapezoid → Folded → List ℤ → Type 0
+LessAllWritten d₀ room rs bs r d = FoldedAs (length d₀) room (lessAll rs bs) (lessAllMarks 0 rs bs) r d
+
+abbrev pub OneWritten : List ℤ → ℕ → Trapezoid → List Trapezoid → Folded → List ℤ → Type 0
+OneWritten d₀ room a bs r d = FoldedAs (length d₀) room (lessAll (a ∷ []) bs) (oneMarks 0 a bs) r d
+
+-- a scratch area that is blank and as long as the output
+abbrev pub ScratchFor : List ℤ → List ℤ → Type 0
+ScratchFor out scratch = Blank (pos 0) scratch × (length scratch ≡ length out)
 
 -- the first n trapezoids of a buffer
 abbrev pub held : List ℤ → ℕ → List Trapezoid

@@ -13,17 +13,16 @@ ghost use Rattle.records.specs.Records.{count, Blank};
 ghost use Rattle.geometry.specs.Limit.{coordinateLimit};
 ghost use Rattle.geometry.specs.Fitness.{FitFor, Layer};
 ghost use Rattle.geometry.specs.Trapezoids.{trapezoidCodec, layerOf};
-ghost use Rattle.boolean.specs.Operations.{less, lessAll};
-ghost use Rattle.boolean.specs.Space.{addition, lessMarks, lessAllMarks};
+ghost use Rattle.boolean.specs.Space.{addition};
 ghost use Rattle.trapezoids_code.specs.Placed.{PlacedAs, Pair};
 ghost use Rattle.trapezoids_code.specs.Tails.{Borrowed};
-ghost use Rattle.remainder_code.specs.Code.{from, maxOverlays, withOverlays, OverlaysWithin, held, Remaining, FoldedAs, overlapsAny, apartBefore};
+ghost use Rattle.remainder_code.specs.Code.{from, maxOverlays, withOverlays, OverlaysWithin, held, Remaining, FoldedAs, overlapsAny, apartBefore, LessWritten, LessAllWritten, ScratchFor};
 
 // Each trapezoid of the remainder, in order, replaced by its parts that are not in b. Those not yet reached count against the room.
 pub fn less_into(remainder: &[i32], b: Placed, out: &mut [i32], room: usize) -> Folded
     requires { ⌜ All (FitFor coordinateLimit) (layerOf (now remainder)) × (count trapezoidCodec (now remainder) ≤ room + 1) ⌝ }
     requires { ⌜ PlacedAs (b .shape) b × Borrowed (now out) room ⌝ }
-    ensures { λ r. ⌜ FoldedAs (length (now (out .entry))) room (less (layerOf (now (remainder .entry))) (b .shape)) (lessMarks 0 (layerOf (now (remainder .entry))) (b .shape)) r (now (out .exit)) ⌝ }
+    ensures { λ r. ⌜ LessWritten (now (out .entry)) room (layerOf (now (remainder .entry))) (b .shape) r (now (out .exit)) ⌝ }
 {
     let n = remainder.len() / records::MEMORY_WIDTH;
     let mut k = 0;
@@ -77,8 +76,8 @@ fn any_overlapping(layer: &[i32], b: Placed) -> bool
 // The n trapezoids that `out` holds are the remainder: each replaced by its parts that are not in b. They stand if none overlaps b.
 pub fn lessen(b: Placed, n: usize, out: &mut [i32], scratch: &mut [i32], room: usize) -> Folded
     requires { ⌜ PlacedAs (b .shape) b × Remaining (now out) n room ⌝ }
-    requires { ⌜ Blank (pos 0) (now scratch) × (length (now scratch) ≡ length (now out)) ⌝ }
-    ensures { λ r. ⌜ FoldedAs (length (now (out .entry))) room (less (held (now (out .entry)) n) (b .shape)) (lessMarks 0 (held (now (out .entry)) n) (b .shape)) r (now (out .exit)) ⌝ }
+    requires { ⌜ ScratchFor (now out) (now scratch) ⌝ }
+    ensures { λ r. ⌜ LessWritten (now (out .entry)) room (held (now (out .entry)) n) (b .shape) r (now (out .exit)) ⌝ }
     ensures { λ _. ⌜ Blank (pos 0) (now (scratch .exit)) ⌝ }
 {
     let end = records::MEMORY_WIDTH * n;
@@ -104,8 +103,8 @@ pub fn lessen_by_rest(
     room: usize,
 ) -> Folded
     requires { ⌜ Layer (now layer) × (start ≤ count trapezoidCodec (now layer)) × Remaining (now out) n room × (room ≤ maxRecords) ⌝ }
-    requires { ⌜ Blank (pos 0) (now scratch) × (length (now scratch) ≡ length (now out)) ⌝ }
-    ensures { λ r. ⌜ FoldedAs (length (now (out .entry))) room (lessAll (held (now (out .entry)) n) (from (now (layer .entry)) start)) (lessAllMarks 0 (held (now (out .entry)) n) (from (now (layer .entry)) start)) r (now (out .exit)) ⌝ }
+    requires { ⌜ ScratchFor (now out) (now scratch) ⌝ }
+    ensures { λ r. ⌜ LessAllWritten (now (out .entry)) room (held (now (out .entry)) n) (from (now (layer .entry)) start) r (now (out .exit)) ⌝ }
     ensures { λ r. ⌜ OverlaysWithin (maxRecords * (maxRecords - start)) r ⌝ }
     ensures { λ _. ⌜ Blank (pos 0) (now (scratch .exit)) ⌝ }
 {
@@ -162,7 +161,7 @@ pub fn more_overlays(n: usize, f: Folded) -> Folded
 // One trapezoid less one other.
 pub fn first_into(a: Placed, b: Placed, out: &mut [i32], room: usize) -> Folded
     requires { ⌜ Pair a b × Borrowed (now out) room ⌝ }
-    ensures { λ r. ⌜ FoldedAs (length (now (out .entry))) room (less (a .shape ∷ []) (b .shape)) (lessMarks 0 (a .shape ∷ []) (b .shape)) r (now (out .exit)) ⌝ }
+    ensures { λ r. ⌜ LessWritten (now (out .entry)) room (a .shape ∷ []) (b .shape) r (now (out .exit)) ⌝ }
 {
     let f = overlay_code::overlay_into(a, b, 1, out, room);
     match f {

@@ -1,0 +1,2 @@
+-- What the functions write, by the definitions.
+pub mod Code
