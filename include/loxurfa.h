@@ -4,7 +4,7 @@
  *
  * LAYERS. A layer is signed 32-bit words and their number: LOXURFA_TRAPEZOID_WORDS words to a trapezoid, at most
  * LOXURFA_MAX_TRAPEZOIDS trapezoids. A trapezoid is the two lines of its left base, the two of its right base, its bottom and
- * its top, each line as x1 y1 x2 y2 with x1 < x2 and coordinates from -LOXURFA_COORDINATE_LIMIT to LOXURFA_COORDINATE_LIMIT.
+ * its top, each line as x1 y1 x2 y2 with x1 < x2 and coordinates from -LOXURFA_PLATE_LIMIT to LOXURFA_PLATE_LIMIT.
  *
  * OUTPUTS. `out` takes trapezoids in the same form; past them its words are set to 0. `scratch` has as many words as `out`, and
  * all of them are 0 in the end. What either held before does not matter.
@@ -36,7 +36,7 @@ extern "C" {
 /* Limits. */
 #define LOXURFA_TRAPEZOID_WORDS 24     /* words of a trapezoid */
 #define LOXURFA_MAX_TRAPEZOIDS 512     /* in a layer, an output, or all layers of a file */
-#define LOXURFA_COORDINATE_LIMIT 2048  /* coordinates are from minus this to this */
+#define LOXURFA_PLATE_LIMIT 2048  /* coordinates are from minus this to this */
 #define LOXURFA_MAX_DENOMINATOR 1024   /* of a point */
 #define LOXURFA_MAX_POLYGONS 64        /* in a polygon file */
 #define LOXURFA_MIN_VERTICES 3         /* of a polygon */
@@ -98,7 +98,7 @@ uint64_t loxurfa_equal(const int32_t *a, size_t a_words, const int32_t *b, size_
                        int32_t *out, size_t out_words, int32_t *scratch, size_t scratch_words);
 
 /* Whether the point (x/d, y/d) lies in the result of the set operation with this code on a and b; d is from 1 to
- * LOXURFA_MAX_DENOMINATOR, x and y from -LOXURFA_COORDINATE_LIMIT times d to LOXURFA_COORDINATE_LIMIT times d. Value: 1 yes, 0 no. */
+ * LOXURFA_MAX_DENOMINATOR, x and y from -LOXURFA_PLATE_LIMIT times d to LOXURFA_PLATE_LIMIT times d. Value: 1 yes, 0 no. */
 uint64_t loxurfa_contains(int32_t x, int32_t y, int32_t d, const int32_t *a, size_t a_words,
                           const int32_t *b, size_t b_words, uint32_t code);
 

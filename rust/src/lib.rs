@@ -28,8 +28,8 @@ pub const TRAPEZOID_WORDS: usize = 24;
 /// The most trapezoids in one layer or output.
 pub const MAX_TRAPEZOIDS: usize = 512;
 
-/// Coordinates are from -COORDINATE_LIMIT to COORDINATE_LIMIT.
-pub const COORDINATE_LIMIT: i32 = 2048;
+/// Coordinates are from -PLATE_LIMIT to PLATE_LIMIT.
+pub const PLATE_LIMIT: i32 = 2048;
 
 /// The largest denominator of a point.
 pub const MAX_DENOMINATOR: i32 = 1024;

@@ -68,7 +68,7 @@ fn format(name: &str) -> BTreeMap<String, i64> {
 fn constants() -> Vec<(&'static str, i64, i64)> {
     let width = defined(LIMITS, "memoryWidth");
     let most = defined(LIMITS, "maxRecords");
-    let limit = defined("crates/geometry/specs/Limit.antt", "coordinateLimit");
+    let limit = defined("crates/calls/specs/Rows.antt", "plateLimit");
     let denominator = between("crates/calls/specs/Rows.antt", "leZ (P .D) (pos ", "))");
     let (polygons, layers) = (format("polygonFile"), format("layerFile"));
     let bytes = between(FORMATS, "leb n ", ")");
@@ -76,7 +76,7 @@ fn constants() -> Vec<(&'static str, i64, i64)> {
     vec![
         ("TRAPEZOID_WORDS", width, loxurfa::TRAPEZOID_WORDS as i64),
         ("MAX_TRAPEZOIDS", most, loxurfa::MAX_TRAPEZOIDS as i64),
-        ("COORDINATE_LIMIT", limit, loxurfa::COORDINATE_LIMIT.into()),
+        ("PLATE_LIMIT", limit, loxurfa::PLATE_LIMIT.into()),
         (
             "MAX_DENOMINATOR",
             denominator,
@@ -294,9 +294,9 @@ fn functions() {
     );
     let most = named["MAX_TRAPEZOIDS"];
     assert_eq!(constant(records, "MAX_RECORDS: usize"), most);
-    let geometry = "crates/geometry/src/lib.rt";
-    let limit = named["COORDINATE_LIMIT"];
-    assert_eq!(constant(geometry, "COORDINATE_LIMIT: u32"), limit);
+    let calls = "crates/calls/src/lib.rt";
+    let limit = named["PLATE_LIMIT"];
+    assert_eq!(constant(calls, "PLATE_LIMIT: u32"), limit);
     let directory = "crates/directory_code/src/lib.rt";
     let bytes = between(directory, "return n <= ", ";");
     assert_eq!(bytes, named["MAX_FILE_BYTES"]);
@@ -320,7 +320,7 @@ fn sentences() {
     let named: BTreeMap<&str, String> = constants().iter().map(|c| (c.0, said(c.1))).collect();
     let width = &named["TRAPEZOID_WORDS"];
     let most = &named["MAX_TRAPEZOIDS"];
-    let limit = &named["COORDINATE_LIMIT"];
+    let limit = &named["PLATE_LIMIT"];
     let (polygons, layers) = (format("polygonFile"), format("layerFile"));
     let (count, layer_count) = (polygons["count"], layers["count"]);
     let (least, largest) = (polygons["least"], polygons["most"]);

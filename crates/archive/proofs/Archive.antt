@@ -13,7 +13,7 @@ use Rattle.geometry.specs.Trapezoids.{layerOf, LiesInLayer, Disjoint}
 use Rattle.boolean.specs.Statements.{IsYes}
 use Rattle.files.specs.Contents.{layersOf}
 use Rattle.files.specs.Outcomes as files
-use Rattle.files.specs.Statements.{bytesWritten}
+use Rattle.files.specs.Statements.{bytesWritten, WordsHold}
 use Rattle.files.proofs.RoundTrip.{written-reads}
 use Rattle.files.proofs.Words.{layers-back}
 use Rattle.chains.specs.Chains.{Layer, layerAt, held, entryAt, evaluation}
@@ -26,26 +26,26 @@ use Rattle.archive.specs.Statements.{ArchiveExact}
 use Rattle.archive.proofs.Sources.{sources-disjoint, sources-fed}
 
 -- ---- written and read back
-module _ (w : WriteCall) (written : WriteAccepted w) (r : ReadCall) (file : r .file ≡ bytesBy w) (kept : ReadRight r) (room : length (w .words) ≤ length (r .out)) where
-  file-is : r .file ≡ bytesWritten (w .words) (w .out)
+module _ (w : WriteCall) (hold : WordsHold (w .limit)) (written : WriteAccepted w) (r : ReadCall) (more : w .limit ≤ r .limit) (file : r .file ≡ bytesBy w) (kept : ReadRight r) (room : length (w .words) ≤ length (r .out)) where
+  file-is : r .file ≡ bytesWritten (w .limit) (w .words) (w .out)
   file-is = file ∙ ap (λ (o : files.Outcome ℕ). take (4 * length (w .words)) (o .out)) (written .kept)
 
-  write-done : T (files.isDone (files.writeLayers (w .words) (w .out) .answer))
+  write-done : T (files.isDone (files.writeLayers (w .limit) (w .words) (w .out) .answer))
   write-done = subst (λ (o : files.Outcome ℕ). T (files.isDone (o .answer))) (written .kept) (written .accepted)
 
-  read-is : files.observed (files.readAnswer (r .answer)) (r .out-then) ≡ files.readLayers (bytesWritten (w .words) (w .out)) (r .out)
-  read-is = kept ∙ ap (λ (bytes : List ℕ). files.readLayers bytes (r .out)) file-is
+  read-is : files.observed (files.readAnswer (r .answer)) (r .out-then) ≡ files.readLayers (r .limit) (bytesWritten (w .limit) (w .words) (w .out)) (r .out)
+  read-is = kept ∙ ap (λ (bytes : List ℕ). files.readLayers (r .limit) bytes (r .out)) file-is
 
   back-accepted : ReadAccepted r
   back-accepted =
-      let e = ap (λ (o : files.Outcome ℤ). o .answer) read-is ∙ written-reads (w .words) (w .out) (r .out) write-done room .0 in
+      let e = ap (λ (o : files.Outcome ℤ). o .answer) read-is ∙ written-reads (w .limit) (r .limit) hold more (w .words) (w .out) (r .out) write-done room .0 in
       record { kept = kept; accepted = subst (λ (a : files.Answer). T (files.isDone a)) (sym e) write-done }
 
   back-words : wordsBy r ≡ w .words
   back-words =
       ap (λ (o : files.Outcome ℤ). take (length (r .file) / 4) (o .out)) read-is
-      ∙ ap (λ (bytes : List ℕ). take (length bytes / 4) (files.readLayers (bytesWritten (w .words) (w .out)) (r .out) .out)) file-is
-      ∙ written-reads (w .words) (w .out) (r .out) write-done room .1
+      ∙ ap (λ (bytes : List ℕ). take (length bytes / 4) (files.readLayers (r .limit) (bytesWritten (w .limit) (w .words) (w .out)) (r .out) .out)) file-is
+      ∙ written-reads (w .limit) (r .limit) hold more (w .words) (w .out) (r .out) write-done room .1
 
 -- ---- the layers chosen
 chosen-at : (layers : List Layer) (numbers : List ℕ) (i : ℕ) → i < length numbers → getD (chosen layers numbers) i [] ≡ layerOf (layerAt layers (getD numbers i 0))
@@ -58,13 +58,13 @@ chosen-all R layers f [] = tt
 chosen-all R layers f (n ∷ numbers) = (f n, chosen-all R layers f numbers)
 
 pub archive-exact : ArchiveExact
-archive-exact sources accepted calls contracts numbers w words written r file kept room =
+archive-exact sources accepted calls contracts numbers w hold words written r more file kept room =
     let start = map layerFrom sources in
     let p = every-chain start (sources-disjoint sources accepted) .0 calls contracts in
     let layers : layersOf (wordsBy r) ≡ chosen (held start calls) numbers
-    = ap layersOf (back-words w written r file kept room ∙ words) ∙ layers-back (chosen (held start calls) numbers) in
+    = ap layersOf (back-words w hold written r more file kept room ∙ words) ∙ layers-back (chosen (held start calls) numbers) in
     record {
-      read = back-accepted w written r file kept room;
+      read = back-accepted w hold written r more file kept room;
       layers = layers;
       points = λ P hP i h.
           subst (λ (ts : List Trapezoid). IsYes (entryAt (evaluation (map (sent P) sources) start calls) (getD numbers i 0)) (LiesInLayer P ts))

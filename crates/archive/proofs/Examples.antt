@@ -2,7 +2,8 @@
 -- into a layer file, which is written and read back.
 use mathlib.Core.Path.{_≡_, refl}
 use mathlib.Core.List.{List, [], _∷_, map}
-use Prim.Native.Nat.{ℕ}
+use Prim.Native.Nat.{ℕ, _≤_}
+use native.Mathlib.Omega.{arith}
 use lib.IntN.{ℤ, pos}
 use lib.ListN.{length, replicate}
 use Rattle.lists.specs.Lists.{All, cut}
@@ -38,10 +39,11 @@ use Rattle.files.specs.Directory.{numberFrom, countOf, pairLength, endOf, pairs
 use Rattle.files.specs.Contents.{lengthsFrom, vertexOf, vertexWords, pairsOf, layerFileWords}
 use Rattle.files.specs.Rows.{firstOffGrid, polygonFileChecked, layersChecked, layerFileChecked}
 use Rattle.files.specs.Outcomes.{readLayers, writeLayers}
+use Rattle.files.specs.Statements.{WordsHold}
 use Rattle.calls.specs.declared.Fractured.the-variants as fractured
 use Rattle.calls.specs.declared.Deoverlapped.the-variants as deoverlapped
 use Rattle.calls.specs.declared.Combined.the-variants as combined
-use Rattle.calls.specs.Rows.{fractureChecked, combineChecked, deoverlapChecked}
+use Rattle.calls.specs.Rows.{plateLimit, fractureChecked, combineChecked, deoverlapChecked}
 use Rattle.calls.specs.Outcomes.{fractureOutcome, deoverlapOutcome}
 use Rattle.calls.specs.Outcomes as outcomes
 use Rattle.calls.specs.Table.{lent, cleared, vertex, fileOf}
@@ -56,6 +58,7 @@ triangle = map pos (0 ∷ 0 ∷ 1 ∷ 0 ∷ 0 ∷ 0 ∷ 1 ∷ 1 ∷ 0 ∷ 0 ∷ 
 abbrev fracturing : FractureCall
 fracturing =
     record {
+      limit = plateLimit;
       file = fileOf (vertex 0 0 ∷ vertex 2 0 ∷ vertex 0 2 ∷ []);
       out = lent 1;
       scratch = lent 1;
@@ -65,7 +68,7 @@ fracturing =
     }
 
 abbrev deoverlapping : DeoverlapCall
-deoverlapping = record { layer = triangle; out = lent 1; scratch = lent 1; answer = deoverlapped.Done 1 0; out-then = triangle; scratch-then = cleared 1 }
+deoverlapping = record { limit = plateLimit; layer = triangle; out = lent 1; scratch = lent 1; answer = deoverlapped.Done 1 0; out-then = triangle; scratch-then = cleared 1 }
 
 abbrev sources : List Source
 sources = polygons fracturing deoverlapping ∷ []
@@ -74,7 +77,7 @@ sources = polygons fracturing deoverlapping ∷ []
 abbrev calls : List Call
 calls =
     record {
-      step = record { code = 0; first = 0; second = 0; out = lent 1; scratch = lent 1 };
+      step = record { limit = plateLimit; code = 0; first = 0; second = 0; out = lent 1; scratch = lent 1 };
       answer = combined.Done 1 1;
       out = triangle;
       scratch = cleared 1;
@@ -89,13 +92,13 @@ abbrev bytes : List ℕ
 bytes = wordsOf wordCodec words
 
 abbrev writing : WriteCall
-writing = record { words = words; out = replicate 108 7; answer = written.Done 1 0; out-then = bytes }
+writing = record { limit = plateLimit; words = words; out = replicate 108 7; answer = written.Done 1 0; out-then = bytes }
 
 abbrev reading : ReadCall
-reading = record { file = bytes; out = replicate 27 (pos 7); answer = read.Done 1 0; out-then = words }
+reading = record { limit = plateLimit; file = bytes; out = replicate 27 (pos 7); answer = read.Done 1 0; out-then = words }
 
 examples : All Accepted sources × Contracts (map layerFrom sources) calls × (words ≡ archiveWords (held (map layerFrom sources) calls) (1 ∷ []))
-    × WriteAccepted writing × (reading .file ≡ bytesBy writing) × ReadRight reading
+    × WordsHold plateLimit × WriteAccepted writing × (plateLimit ≤ plateLimit) × (reading .file ≡ bytesBy writing) × ReadRight reading
 unfolding _⊕_ _⊖_ _⊗_ ⊝_ orderOf before sized recordAt recordsFrom wordsOf unsigned signed wordOf bytesOf insert levels
     onGrid dx dy offset det numer crosses root meet heights rightOf below trapezoidOf trapezoidWords
     lineOnGrid isLine belowBetween shapeVerdict verdict firstRefusal keep sum spans inside crossInside slabs upTo column columns sweep
@@ -111,7 +114,9 @@ examples = (
   (record { fractured = record { kept = refl; accepted = tt }; lent = refl; deoverlapped = record { kept = refl; accepted = tt } }, tt),
   (λ f g. refl, tt),
   refl,
+  omega arith,
   record { kept = refl; accepted = tt },
+  omega arith,
   refl,
   refl,
 )

@@ -42,12 +42,12 @@ module _ (f : FractureCall) (d : DeoverlapCall) (h : BothAccepted f d) where
   fractured-points : (P : Point) → IsPoint P → LiesInLayer P (layerOf (fracturedBy f)) ↔ Any (Wound P) (polygonsOf (fileWords (f .file)))
   fractured-points P hP =
       by-definition (λ (A : Layer). LiesInLayer P (layerOf A) ↔ Any (Wound P) (polygonsOf (fileWords (f .file)))) _ _ (h .fractured .kept) (h .fractured .accepted)
-      (λ t. fracture-file-exact (f .file) (f .out) (f .scratch) t .1 P hP)
+      (λ t. fracture-file-exact (f .limit) (f .file) (f .out) (f .scratch) t .1 P hP)
 
   deoverlapped-right : DisjointLayer (deoverlappedBy d) × SamePoints (layerOf (deoverlappedBy d)) (layerOf (d .layer))
   deoverlapped-right =
       by-definition (λ (A : Layer). DisjointLayer A × SamePoints (layerOf A) (layerOf (d .layer))) _ _ (h .deoverlapped .kept) (h .deoverlapped .accepted)
-      (λ t. let k = deoverlap-exact (d .layer) (d .out) (d .scratch) t in (k .1, k .2))
+      (λ t. let k = deoverlap-exact (d .limit) (d .layer) (d .out) (d .scratch) t in (k .1, k .2))
 
   polygons-points : (P : Point) → IsPoint P → LiesInLayer P (layerOf (deoverlappedBy d)) ↔ Any (Wound P) (polygonsOf (fileWords (f .file)))
   polygons-points P hP =
@@ -59,22 +59,22 @@ module _ (f : FractureCall) (d : DeoverlapCall) (h : BothAccepted f d) where
 
 -- ---- a layer of a layer file
 module _ (r : ReadCall) (n : ℕ) (h : LayerAccepted r n) where
-  read-done : T (files.isDone (files.readLayers (r .file) (r .out) .answer))
+  read-done : T (files.isDone (files.readLayers (r .limit) (r .file) (r .out) .answer))
   read-done = subst (λ (o : files.Outcome ℤ). T (files.isDone (o .answer))) (h .read .kept) (h .read .accepted)
 
-  words-are : wordsBy r ≡ wordsRead (r .file) (r .out)
+  words-are : wordsBy r ≡ wordsRead (r .limit) (r .file) (r .out)
   words-are = ap (λ (o : files.Outcome ℤ). take (length (r .file) / 4) (o .out)) (h .read .kept)
 
-  layers-are : layersOf (wordsRead (r .file) (r .out)) ≡ fileLayersOf (fileWords (r .file))
-  layers-are = let p = read-passed (r .file) (r .out) read-done in ap layersOf (read-words (r .file) (r .out) (p .0) (p .1))
+  layers-are : layersOf (wordsRead (r .limit) (r .file) (r .out)) ≡ fileLayersOf (fileWords (r .file))
+  layers-are = let p = read-passed (r .limit) (r .file) (r .out) read-done in ap layersOf (read-words (r .limit) (r .file) (r .out) (p .0) (p .1))
 
-  counted : n < countIn (wordsRead (r .file) (r .out))
-  counted = omega (arith, h .within, ap length layers-are, lists-length trapezoidCodec (wordsRead (r .file) (r .out)))
+  counted : n < countIn (wordsRead (r .limit) (r .file) (r .out))
+  counted = omega (arith, h .within, ap length layers-are, lists-length trapezoidCodec (wordsRead (r .limit) (r .file) (r .out)))
 
   layer-is : layerOf (layerWordsAt (wordsBy r) n) ≡ fileLayerAt (r .file) n
   layer-is =
       ap (λ (ws : List ℤ). layerOf (layerWordsAt ws n)) words-are
-      ∙ layer-at (wordsRead (r .file) (r .out)) (countIn (wordsRead (r .file) (r .out))) n (read-pairs (r .file) (r .out) read-done) counted
+      ∙ layer-at (wordsRead (r .limit) (r .file) (r .out)) (countIn (wordsRead (r .limit) (r .file) (r .out))) n (read-pairs (r .limit) (r .file) (r .out) read-done) counted
       ∙ ap (λ (tss : List (List Trapezoid)). getD tss n []) layers-are
 
 -- ---- any source

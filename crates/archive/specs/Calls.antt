@@ -1,4 +1,4 @@
--- Calls that were made: what each was lent, what it answered, and what it left in the words that it was lent. A call is right if it kept the function's
+-- Calls that were made: the coordinate limit that each went by, what it was lent, what it answered, and what it left in the words that it was lent. A call is right if it kept the function's
 -- contract, and accepted if its answer is no refusal.
 use mathlib.Core.List.{List}
 use Prim.Native.Nat.{ℕ, _*_, _/_}
@@ -17,6 +17,7 @@ use Rattle.chains.specs.Chains.{Layer}
 
 -- ---- `fracture` of a polygon file's bytes
 pub record FractureCall : Type 0 where
+  pub limit : ℕ
   pub file : List ℕ
   pub out : List ℤ
   pub scratch : List ℤ
@@ -25,7 +26,7 @@ pub record FractureCall : Type 0 where
   pub scratch-then : List ℤ
 
 pub record FractureAccepted (c : FractureCall) : Type 0 where
-  pub kept : FractureKept (c .file) (c .out) (c .scratch) (c .answer) (c .out-then) (c .scratch-then)
+  pub kept : FractureKept (c .limit) (c .file) (c .out) (c .scratch) (c .answer) (c .out-then) (c .scratch-then)
   pub accepted : T (isDone (fracturedAnswer (c .answer)))
 
 -- what it wrote
@@ -34,6 +35,7 @@ fracturedBy c = recordsOf (fracturedAnswer (c .answer)) (c .out-then)
 
 -- ---- `deoverlap` of a layer
 pub record DeoverlapCall : Type 0 where
+  pub limit : ℕ
   pub layer : Layer
   pub out : List ℤ
   pub scratch : List ℤ
@@ -42,7 +44,7 @@ pub record DeoverlapCall : Type 0 where
   pub scratch-then : List ℤ
 
 pub record DeoverlapAccepted (c : DeoverlapCall) : Type 0 where
-  pub kept : DeoverlapKept (c .layer) (c .out) (c .scratch) (c .answer) (c .out-then) (c .scratch-then)
+  pub kept : DeoverlapKept (c .limit) (c .layer) (c .out) (c .scratch) (c .answer) (c .out-then) (c .scratch-then)
   pub accepted : T (isDone (deoverlappedAnswer (c .answer)))
 
 abbrev pub deoverlappedBy : DeoverlapCall → Layer
@@ -50,13 +52,14 @@ deoverlappedBy c = recordsOf (deoverlappedAnswer (c .answer)) (c .out-then)
 
 -- ---- `write_layers` of a layer file's words
 pub record WriteCall : Type 0 where
+  pub limit : ℕ
   pub words : List ℤ
   pub out : List ℕ
   pub answer : LayersWritten
   pub out-then : List ℕ
 
 pub record WriteAccepted (c : WriteCall) : Type 0 where
-  pub kept : WriteKept (c .words) (c .out) (c .answer) (c .out-then)
+  pub kept : WriteKept (c .limit) (c .words) (c .out) (c .answer) (c .out-then)
   pub accepted : T (files.isDone (files.writtenAnswer (c .answer)))
 
 -- the bytes that it wrote, four for each word
@@ -65,13 +68,14 @@ bytesBy c = take (4 * length (c .words)) (c .out-then)
 
 -- ---- `read_layers` of a layer file's bytes
 pub record ReadCall : Type 0 where
+  pub limit : ℕ
   pub file : List ℕ
   pub out : List ℤ
   pub answer : LayersRead
   pub out-then : List ℤ
 
 abbrev pub ReadRight : ReadCall → Type 0
-ReadRight c = ReadKept (c .file) (c .out) (c .answer) (c .out-then)
+ReadRight c = ReadKept (c .limit) (c .file) (c .out) (c .answer) (c .out-then)
 
 pub record ReadAccepted (c : ReadCall) : Type 0 where
   pub kept : ReadRight c

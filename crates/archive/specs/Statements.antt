@@ -8,6 +8,7 @@ use Rattle.geometry.specs.Points.{Point, IsPoint}
 use Rattle.geometry.specs.Trapezoids.{LiesInLayer, Disjoint}
 use Rattle.boolean.specs.Statements.{IsYes}
 use Rattle.files.specs.Contents.{layersOf}
+use Rattle.files.specs.Statements.{WordsHold}
 use Rattle.chains.specs.Chains.{Call, held, Contracts, entryAt, evaluation}
 use Rattle.archive.specs.Calls.{WriteCall, WriteAccepted, bytesBy, ReadCall, ReadRight, ReadAccepted, wordsBy}
 use Rattle.archive.specs.Archive.{Source, layerFrom, Accepted, sent, chosen, archiveWords}
@@ -25,11 +26,11 @@ pub record OnFile (sources : List Source) (calls : List Call) (numbers : List �
   pub disjoint : All Disjoint (layersOf (wordsBy r))
 
 -- From accepted sources, by any calls of the set operations, refused ones included, to a file that the writer wrote of any of the layers held, read back by any
--- call whose output has room (proofs/Archive.antt: `archive-exact`)
+-- call with no smaller limit whose output has room (proofs/Archive.antt: `archive-exact`)
 abbrev pub ArchiveExact : Type 0
 ArchiveExact =
     (sources : List Source) → All Accepted sources
     → (calls : List Call) → Contracts (map layerFrom sources) calls
-    → (numbers : List ℕ) (w : WriteCall) → w .words ≡ archiveWords (held (map layerFrom sources) calls) numbers → WriteAccepted w
-    → (r : ReadCall) → r .file ≡ bytesBy w → ReadRight r → length (w .words) ≤ length (r .out)
+    → (numbers : List ℕ) (w : WriteCall) → WordsHold (w .limit) → w .words ≡ archiveWords (held (map layerFrom sources) calls) numbers → WriteAccepted w
+    → (r : ReadCall) → w .limit ≤ r .limit → r .file ≡ bytesBy w → ReadRight r → length (w .words) ≤ length (r .out)
     → OnFile sources calls numbers r

@@ -11,7 +11,6 @@ use Rattle.integer.specs.Integer.{⊝_, _⊗_}
 use Rattle.integer.proofs.Linear.{zarith, parts, one-part, minus⁺, minus⁻}
 use Rattle.integer.proofs.Magnitude.{mul-magnitude}
 use Rattle.integer.proofs.Tests.{le-yes}
-use Rattle.geometry.specs.Limit.{coordinateLimit}
 use Rattle.geometry.specs.Points.{Point, IsPoint}
 use Rattle.calls.specs.Rows.{withinTimes, pointPasses}
 
@@ -39,23 +38,23 @@ times-within L n z d least most h =
     omega (arith, m, mul-le-mul l h)
 
 -- at the limit of row 3
-pub within-magnitude : (n : ℕ) (z d : ℤ) → withinTimes z d ≡ true → natAbs d ≤ n → natAbs z ≤ n * coordinateLimit
-within-magnitude n z d e =
-    let b = pos coordinateLimit ⊗ d in
-    times-within coordinateLimit n z d (le-yes (⊝ b) z (and-left (leZ (⊝ b) z) (leZ z b) e)) (le-yes z b (and-right (leZ (⊝ b) z) (leZ z b) e))
+pub within-magnitude : (L n : ℕ) (z d : ℤ) → withinTimes L z d ≡ true → natAbs d ≤ n → natAbs z ≤ n * L
+within-magnitude L n z d e =
+    let b = pos L ⊗ d in
+    times-within L n z d (le-yes (⊝ b) z (and-left (leZ (⊝ b) z) (leZ z b) e)) (le-yes z b (and-right (leZ (⊝ b) z) (leZ z b) e))
 
-module _ (P : Point) where
-  pub denominator-of : pointPasses P ≡ true → leZ (pos 1) (P .D) && leZ (P .D) (pos 1024) ≡ true
+module _ (L : ℕ) (P : Point) where
+  pub denominator-of : pointPasses L P ≡ true → leZ (pos 1) (P .D) && leZ (P .D) (pos 1024) ≡ true
   unfolding pointPasses
   denominator-of e = and-left (leZ (pos 1) (P .D) && leZ (P .D) (pos 1024)) _ e
 
-  pub across-of : pointPasses P ≡ true → withinTimes (P .X) (P .D) ≡ true
+  pub across-of : pointPasses L P ≡ true → withinTimes L (P .X) (P .D) ≡ true
   unfolding pointPasses
-  across-of e = and-left (withinTimes (P .X) (P .D)) _ (and-right (leZ (pos 1) (P .D) && leZ (P .D) (pos 1024)) _ e)
+  across-of e = and-left (withinTimes L (P .X) (P .D)) _ (and-right (leZ (pos 1) (P .D) && leZ (P .D) (pos 1024)) _ e)
 
-  pub up-of : pointPasses P ≡ true → withinTimes (P .Y) (P .D) ≡ true
+  pub up-of : pointPasses L P ≡ true → withinTimes L (P .Y) (P .D) ≡ true
   unfolding pointPasses
-  up-of e = and-right (withinTimes (P .X) (P .D)) _ (and-right (leZ (pos 1) (P .D) && leZ (P .D) (pos 1024)) _ e)
+  up-of e = and-right (withinTimes L (P .X) (P .D)) _ (and-right (leZ (pos 1) (P .D) && leZ (P .D) (pos 1024)) _ e)
 
-  pub point-real : pointPasses P ≡ true → IsPoint P
+  pub point-real : pointPasses L P ≡ true → IsPoint P
   point-real e = denominator-positive (P .D) (denominator-of e)

@@ -10,10 +10,11 @@ use lib.IntN.{ℤ}
 use borrow.Author.Tests.{ltb-true, eqb-true}
 use Rattle.lists.specs.Lists.{All}
 use Rattle.lists.proofs.Conjunction.{and-left, and-right}
-use Rattle.lists.proofs.Lists.{all-left, all-right}
+use Rattle.lists.proofs.Lists.{all-left, all-right, all-map}
 use Rattle.records.specs.Limits.{memoryWidth, maxRecords, sized}
 use Rattle.records.specs.Records.{count}
 use Rattle.records.proofs.Records.{length-from}
+use Rattle.geometry.specs.declared.Trapezoid.{Trapezoid}
 use Rattle.geometry.specs.declared.Checked.{Checked}
 use Rattle.geometry.specs.declared.Checked.the-variants.{Passed}
 use Rattle.geometry.specs.Limit.{coordinateLimit}
@@ -21,7 +22,7 @@ use Rattle.geometry.specs.Points.{Point}
 use Rattle.geometry.specs.Trapezoids.{trapezoidCodec, layerOf}
 use Rattle.geometry.specs.Fitness.{FitFor, firstRefusal, Layer}
 use Rattle.geometry.proofs.Refusals.{SmallChecked, small-first}
-use Rattle.geometry.proofs.Fitness.{layer-exact}
+use Rattle.geometry.proofs.Fitness.{layer-exact, fit-more}
 use Rattle.boolean.specs.Operations.{isCode}
 use Rattle.calls.specs.Rows.{row, buffersSized, pointPasses, layersChecked, combineChecked, deoverlapChecked, equalChecked, containsChecked}
 use Rattle.calls.proofs.Rows.{sized-most, sized-whole}
@@ -31,8 +32,20 @@ pub row-passed : (n : ℕ) (b : Bool) (c : Checked) → row n b c ≡ Passed →
 row-passed n true c e = (refl, e)
 row-passed n false c e = let z : _≡_ {A = ℕ} 0 1 = cc in absurd (omega arith)
 
-layer-ready : (a : List ℤ) → sized (length a) ≡ true → All (FitFor coordinateLimit) (layerOf a) → Layer a
-layer-ready a e h = record { fit = h; few = omega (arith, sized-most (length a) e) }
+-- the words of a layer of at most 512 trapezoids, fit for a limit
+pub record LayerFor (L : ℕ) (a : List ℤ) : Type 0 where
+  pub fit : All (FitFor L) (layerOf a)
+  pub few : count trapezoidCodec a ≤ maxRecords
+
+layer-ready : (L : ℕ) (a : List ℤ) → sized (length a) ≡ true → All (FitFor L) (layerOf a) → LayerFor L a
+layer-ready L a e h = record { fit = h; few = omega (arith, sized-most (length a) e) }
+
+-- under any limit that the arithmetic carries
+pub fit-carried : (L : ℕ) → L ≤ coordinateLimit → (ts : List Trapezoid) → All (FitFor L) ts → All (FitFor coordinateLimit) ts
+fit-carried L l ts h = all-map (λ (t : Trapezoid). fit-more L coordinateLimit t l) ts h
+
+pub layer-of : (L : ℕ) (a : List ℤ) → L ≤ coordinateLimit → LayerFor L a → Layer a
+layer-of L a l h = record { fit = fit-carried L l (layerOf a) (h .fit); few = h .few }
 
 -- a scratch area as long as the output, which takes so many trapezoids and no part of one
 pub record Buffers (out scratch : ℕ) : Type 0 where
@@ -48,83 +61,83 @@ buffers-ready out scratch e =
       whole = omega (arith, sized-whole out (and-left (sized out) (sized scratch && eqb scratch out) e));
     }
 
-module _ (a b : List ℤ) where
+module _ (L : ℕ) (a b : List ℤ) where
   -- rows 7 to 11 of two layers
-  first-fit : layersChecked a b ≡ Passed → All (FitFor coordinateLimit) (layerOf a)
-  first-fit e = all-left (FitFor coordinateLimit) (layerOf a) (layerOf b) (layer-exact coordinateLimit 0 (layerOf a ++ layerOf b) .0 e)
+  first-fit : layersChecked L a b ≡ Passed → All (FitFor L) (layerOf a)
+  first-fit e = all-left (FitFor L) (layerOf a) (layerOf b) (layer-exact L 0 (layerOf a ++ layerOf b) .0 e)
 
-  second-fit : layersChecked a b ≡ Passed → All (FitFor coordinateLimit) (layerOf b)
-  second-fit e = all-right (FitFor coordinateLimit) (layerOf a) (layerOf b) (layer-exact coordinateLimit 0 (layerOf a ++ layerOf b) .0 e)
+  second-fit : layersChecked L a b ≡ Passed → All (FitFor L) (layerOf b)
+  second-fit e = all-right (FitFor L) (layerOf a) (layerOf b) (layer-exact L 0 (layerOf a ++ layerOf b) .0 e)
 
-  module _ (out scratch : ℕ) (s : sized (length a) && (sized (length b) && buffersSized out scratch) ≡ true) (e : layersChecked a b ≡ Passed) where
-    first-ready : Layer a
-    first-ready = layer-ready a (and-left _ _ s) (first-fit e)
+  module _ (out scratch : ℕ) (s : sized (length a) && (sized (length b) && buffersSized out scratch) ≡ true) (e : layersChecked L a b ≡ Passed) where
+    first-ready : LayerFor L a
+    first-ready = layer-ready L a (and-left _ _ s) (first-fit e)
 
-    second-ready : Layer b
-    second-ready = layer-ready b (and-left _ _ (and-right (sized (length a)) _ s)) (second-fit e)
+    second-ready : LayerFor L b
+    second-ready = layer-ready L b (and-left _ _ (and-right (sized (length a)) _ s)) (second-fit e)
 
     both-buffers : Buffers out scratch
     both-buffers = buffers-ready out scratch (and-right (sized (length b)) _ (and-right (sized (length a)) _ s))
 
-pub record CombineReady (code : ℕ) (a b : List ℤ) (out scratch : ℕ) : Type 0 where
+pub record CombineReady (L code : ℕ) (a b : List ℤ) (out scratch : ℕ) : Type 0 where
   pub is-code : code < 5
-  pub first : Layer a
-  pub second : Layer b
+  pub first : LayerFor L a
+  pub second : LayerFor L b
   pub buffers : Buffers out scratch
 
-pub combine-ready : (code : ℕ) (a b : List ℤ) (out scratch : ℕ) → combineChecked code a b out scratch ≡ Passed → CombineReady code a b out scratch
+pub combine-ready : (L code : ℕ) (a b : List ℤ) (out scratch : ℕ) → combineChecked L code a b out scratch ≡ Passed → CombineReady L code a b out scratch
 unfolding combineChecked
-combine-ready code a b out scratch e =
-    let h = row-passed 1 (sized (length a) && (sized (length b) && buffersSized out scratch)) (row 2 (isCode code) (layersChecked a b)) e in
-    let k = row-passed 2 (isCode code) (layersChecked a b) (h .1) in
+combine-ready L code a b out scratch e =
+    let h = row-passed 1 (sized (length a) && (sized (length b) && buffersSized out scratch)) (row 2 (isCode code) (layersChecked L a b)) e in
+    let k = row-passed 2 (isCode code) (layersChecked L a b) (h .1) in
     record {
       is-code = ltb-true code 5 (k .0);
-      first = first-ready a b out scratch (h .0) (k .1);
-      second = second-ready a b out scratch (h .0) (k .1);
-      buffers = both-buffers a b out scratch (h .0) (k .1);
+      first = first-ready L a b out scratch (h .0) (k .1);
+      second = second-ready L a b out scratch (h .0) (k .1);
+      buffers = both-buffers L a b out scratch (h .0) (k .1);
     }
 
-pub record DeoverlapReady (a : List ℤ) (out scratch : ℕ) : Type 0 where
-  pub layer : Layer a
+pub record DeoverlapReady (L : ℕ) (a : List ℤ) (out scratch : ℕ) : Type 0 where
+  pub layer : LayerFor L a
   pub buffers : Buffers out scratch
 
-pub deoverlap-ready : (a : List ℤ) (out scratch : ℕ) → deoverlapChecked a out scratch ≡ Passed → DeoverlapReady a out scratch
+pub deoverlap-ready : (L : ℕ) (a : List ℤ) (out scratch : ℕ) → deoverlapChecked L a out scratch ≡ Passed → DeoverlapReady L a out scratch
 unfolding deoverlapChecked
-deoverlap-ready a out scratch e =
-    let h = row-passed 1 (sized (length a) && buffersSized out scratch) (firstRefusal coordinateLimit 0 (layerOf a)) e in
+deoverlap-ready L a out scratch e =
+    let h = row-passed 1 (sized (length a) && buffersSized out scratch) (firstRefusal L 0 (layerOf a)) e in
     record {
-      layer = layer-ready a (and-left (sized (length a)) _ (h .0)) (layer-exact coordinateLimit 0 (layerOf a) .0 (h .1));
+      layer = layer-ready L a (and-left (sized (length a)) _ (h .0)) (layer-exact L 0 (layerOf a) .0 (h .1));
       buffers = buffers-ready out scratch (and-right (sized (length a)) _ (h .0));
     }
 
-pub record EqualReady (a b : List ℤ) (out scratch : ℕ) : Type 0 where
-  pub first : Layer a
-  pub second : Layer b
+pub record EqualReady (L : ℕ) (a b : List ℤ) (out scratch : ℕ) : Type 0 where
+  pub first : LayerFor L a
+  pub second : LayerFor L b
   pub buffers : Buffers out scratch
 
-pub equal-ready : (a b : List ℤ) (out scratch : ℕ) → equalChecked a b out scratch ≡ Passed → EqualReady a b out scratch
+pub equal-ready : (L : ℕ) (a b : List ℤ) (out scratch : ℕ) → equalChecked L a b out scratch ≡ Passed → EqualReady L a b out scratch
 unfolding equalChecked
-equal-ready a b out scratch e =
-    let h = row-passed 1 (sized (length a) && (sized (length b) && buffersSized out scratch)) (layersChecked a b) e in
-    record { first = first-ready a b out scratch (h .0) (h .1); second = second-ready a b out scratch (h .0) (h .1); buffers = both-buffers a b out scratch (h .0) (h .1) }
+equal-ready L a b out scratch e =
+    let h = row-passed 1 (sized (length a) && (sized (length b) && buffersSized out scratch)) (layersChecked L a b) e in
+    record { first = first-ready L a b out scratch (h .0) (h .1); second = second-ready L a b out scratch (h .0) (h .1); buffers = both-buffers L a b out scratch (h .0) (h .1) }
 
-pub record ContainsReady (P : Point) (a b : List ℤ) (code : ℕ) : Type 0 where
+pub record ContainsReady (L : ℕ) (P : Point) (a b : List ℤ) (code : ℕ) : Type 0 where
   pub is-code : code < 5
-  pub point : pointPasses P ≡ true
-  pub first : Layer a
-  pub second : Layer b
+  pub point : pointPasses L P ≡ true
+  pub first : LayerFor L a
+  pub second : LayerFor L b
 
-pub contains-ready : (P : Point) (a b : List ℤ) (code : ℕ) → containsChecked P a b code ≡ Passed → ContainsReady P a b code
+pub contains-ready : (L : ℕ) (P : Point) (a b : List ℤ) (code : ℕ) → containsChecked L P a b code ≡ Passed → ContainsReady L P a b code
 unfolding containsChecked
-contains-ready P a b code e =
-    let h = row-passed 1 (sized (length a) && sized (length b)) (row 2 (isCode code) (row 3 (pointPasses P) (layersChecked a b))) e in
-    let k = row-passed 2 (isCode code) (row 3 (pointPasses P) (layersChecked a b)) (h .1) in
-    let j = row-passed 3 (pointPasses P) (layersChecked a b) (k .1) in
+contains-ready L P a b code e =
+    let h = row-passed 1 (sized (length a) && sized (length b)) (row 2 (isCode code) (row 3 (pointPasses L P) (layersChecked L a b))) e in
+    let k = row-passed 2 (isCode code) (row 3 (pointPasses L P) (layersChecked L a b)) (h .1) in
+    let j = row-passed 3 (pointPasses L P) (layersChecked L a b) (k .1) in
     record {
       is-code = ltb-true code 5 (k .0);
       point = j .0;
-      first = layer-ready a (and-left (sized (length a)) (sized (length b)) (h .0)) (first-fit a b (j .1));
-      second = layer-ready b (and-right (sized (length a)) (sized (length b)) (h .0)) (second-fit a b (j .1));
+      first = layer-ready L a (and-left (sized (length a)) (sized (length b)) (h .0)) (first-fit L a b (j .1));
+      second = layer-ready L b (and-right (sized (length a)) (sized (length b)) (h .0)) (second-fit L a b (j .1));
     }
 
 -- ---- refused
@@ -135,34 +148,34 @@ small-row n l false c h = (l, omega arith)
 layer-length : (a : List ℤ) → sized (length a) ≡ true → length (layerOf a) ≤ maxRecords
 layer-length a e = omega (arith, length-from trapezoidCodec (count trapezoidCodec a) a 0, sized-most (length a) e)
 
-small-layers : (a b : List ℤ) → sized (length a) ≡ true → sized (length b) ≡ true → SmallChecked (layersChecked a b)
-small-layers a b e f =
+small-layers : (L : ℕ) (a b : List ℤ) → sized (length a) ≡ true → sized (length b) ≡ true → SmallChecked (layersChecked L a b)
+small-layers L a b e f =
     let n = length-append (layerOf a) (layerOf b) in
-    small-first coordinateLimit 0 (layerOf a ++ layerOf b) (omega (arith, n, layer-length a e, layer-length b f))
+    small-first L 0 (layerOf a ++ layerOf b) (omega (arith, n, layer-length a e, layer-length b f))
 
-pub combine-refused : (code : ℕ) (a b : List ℤ) (out scratch : ℕ) → SmallChecked (combineChecked code a b out scratch)
+pub combine-refused : (L code : ℕ) (a b : List ℤ) (out scratch : ℕ) → SmallChecked (combineChecked L code a b out scratch)
 unfolding combineChecked
-combine-refused code a b out scratch =
-    small-row 1 (omega arith) (sized (length a) && (sized (length b) && buffersSized out scratch)) (row 2 (isCode code) (layersChecked a b)) (λ s.
-    small-row 2 (omega arith) (isCode code) (layersChecked a b) (λ e.
-    small-layers a b (and-left (sized (length a)) _ s) (and-left (sized (length b)) _ (and-right (sized (length a)) _ s))))
+combine-refused L code a b out scratch =
+    small-row 1 (omega arith) (sized (length a) && (sized (length b) && buffersSized out scratch)) (row 2 (isCode code) (layersChecked L a b)) (λ s.
+    small-row 2 (omega arith) (isCode code) (layersChecked L a b) (λ e.
+    small-layers L a b (and-left (sized (length a)) _ s) (and-left (sized (length b)) _ (and-right (sized (length a)) _ s))))
 
-pub deoverlap-refused : (a : List ℤ) (out scratch : ℕ) → SmallChecked (deoverlapChecked a out scratch)
+pub deoverlap-refused : (L : ℕ) (a : List ℤ) (out scratch : ℕ) → SmallChecked (deoverlapChecked L a out scratch)
 unfolding deoverlapChecked
-deoverlap-refused a out scratch =
-    small-row 1 (omega arith) (sized (length a) && buffersSized out scratch) (firstRefusal coordinateLimit 0 (layerOf a)) (λ s.
-    small-first coordinateLimit 0 (layerOf a) (omega (arith, layer-length a (and-left (sized (length a)) _ s))))
+deoverlap-refused L a out scratch =
+    small-row 1 (omega arith) (sized (length a) && buffersSized out scratch) (firstRefusal L 0 (layerOf a)) (λ s.
+    small-first L 0 (layerOf a) (omega (arith, layer-length a (and-left (sized (length a)) _ s))))
 
-pub equal-refused : (a b : List ℤ) (out scratch : ℕ) → SmallChecked (equalChecked a b out scratch)
+pub equal-refused : (L : ℕ) (a b : List ℤ) (out scratch : ℕ) → SmallChecked (equalChecked L a b out scratch)
 unfolding equalChecked
-equal-refused a b out scratch =
-    small-row 1 (omega arith) (sized (length a) && (sized (length b) && buffersSized out scratch)) (layersChecked a b) (λ s.
-    small-layers a b (and-left (sized (length a)) _ s) (and-left (sized (length b)) _ (and-right (sized (length a)) _ s)))
+equal-refused L a b out scratch =
+    small-row 1 (omega arith) (sized (length a) && (sized (length b) && buffersSized out scratch)) (layersChecked L a b) (λ s.
+    small-layers L a b (and-left (sized (length a)) _ s) (and-left (sized (length b)) _ (and-right (sized (length a)) _ s)))
 
-pub contains-refused : (P : Point) (a b : List ℤ) (code : ℕ) → SmallChecked (containsChecked P a b code)
+pub contains-refused : (L : ℕ) (P : Point) (a b : List ℤ) (code : ℕ) → SmallChecked (containsChecked L P a b code)
 unfolding containsChecked
-contains-refused P a b code =
-    small-row 1 (omega arith) (sized (length a) && sized (length b)) (row 2 (isCode code) (row 3 (pointPasses P) (layersChecked a b))) (λ s.
-    small-row 2 (omega arith) (isCode code) (row 3 (pointPasses P) (layersChecked a b)) (λ e.
-    small-row 3 (omega arith) (pointPasses P) (layersChecked a b) (λ p.
-    small-layers a b (and-left (sized (length a)) (sized (length b)) s) (and-right (sized (length a)) (sized (length b)) s))))
+contains-refused L P a b code =
+    small-row 1 (omega arith) (sized (length a) && sized (length b)) (row 2 (isCode code) (row 3 (pointPasses L P) (layersChecked L a b))) (λ s.
+    small-row 2 (omega arith) (isCode code) (row 3 (pointPasses L P) (layersChecked L a b)) (λ e.
+    small-row 3 (omega arith) (pointPasses L P) (layersChecked L a b) (λ p.
+    small-layers L a b (and-left (sized (length a)) (sized (length b)) s) (and-right (sized (length a)) (sized (length b)) s))))

@@ -15,7 +15,6 @@ use Rattle.records.specs.Records.{count}
 use Rattle.records.proofs.Records.{length-from}
 use Rattle.geometry.specs.declared.Checked.{Checked}
 use Rattle.geometry.specs.declared.Checked.the-variants.{Passed, Refused}
-use Rattle.geometry.specs.Limit.{coordinateLimit}
 use Rattle.geometry.specs.Trapezoids.{trapezoidCodec, layerOf}
 use Rattle.geometry.specs.Fitness.{FitFor, SmallRefusal, pass, firstRefusal}
 use Rattle.geometry.proofs.Refusals.{SmallChecked, small-first}
@@ -37,13 +36,13 @@ unfolding listsSized
 lists-one-each a n e = eqb-true n (count trapezoidCodec a) (and-right (sized (length a)) (eqb n (count trapezoidCodec a)) e)
 
 -- ---- passed
-module _ (a : List ℤ) (numbers : List ℕ) (e : componentsChecked a (length numbers) ≡ Passed) where
-  pub rows : (listsSized a (length numbers) ≡ true) × (firstRefusal coordinateLimit 0 (layerOf a) ≡ Passed)
+module _ (L : ℕ) (a : List ℤ) (numbers : List ℕ) (e : componentsChecked L a (length numbers) ≡ Passed) where
+  pub rows : (listsSized a (length numbers) ≡ true) × (firstRefusal L 0 (layerOf a) ≡ Passed)
   unfolding componentsChecked
-  rows = row-passed 1 (listsSized a (length numbers)) (firstRefusal coordinateLimit 0 (layerOf a)) e
+  rows = row-passed 1 (listsSized a (length numbers)) (firstRefusal L 0 (layerOf a)) e
 
-  pub passed-fit : All (FitFor coordinateLimit) (layerOf a)
-  passed-fit = layer-exact coordinateLimit 0 (layerOf a) .0 (rows .1)
+  pub passed-fit : All (FitFor L) (layerOf a)
+  passed-fit = layer-exact L 0 (layerOf a) .0 (rows .1)
 
   pub passed-one-each : length numbers ≡ count trapezoidCodec a
   passed-one-each = lists-one-each a (length numbers) (rows .0)
@@ -51,33 +50,33 @@ module _ (a : List ℤ) (numbers : List ℕ) (e : componentsChecked a (length nu
   pub passed-few : length numbers ≤ maxRecords
   passed-few = omega (arith, lists-few a (length numbers) (rows .0), lists-one-each a (length numbers) (rows .0))
 
-  pub passed-outcome : {d : List ℕ} {n : ℕ} → d ≡ componentNumbers (layerOf a) → n ≡ componentCount (layerOf a) → observed (counted n) d ≡ componentsOutcome a numbers
+  pub passed-outcome : {d : List ℕ} {n : ℕ} → d ≡ componentNumbers (layerOf a) → n ≡ componentCount (layerOf a) → observed (counted n) d ≡ componentsOutcome L a numbers
   unfolding componentsOutcome
   passed-outcome {d} {n} f g = rw e (λ j. record { answer = counted (g j); numbers = f j })
 
 -- ---- refused
-small-checked : (a : List ℤ) (n : ℕ) → SmallChecked (componentsChecked a n)
+small-checked : (L : ℕ) (a : List ℤ) (n : ℕ) → SmallChecked (componentsChecked L a n)
 unfolding componentsChecked
-small-checked a n =
-    small-row 1 (omega arith) (listsSized a n) (firstRefusal coordinateLimit 0 (layerOf a)) (λ e.
-    small-first coordinateLimit 0 (layerOf a) (omega (arith, length-from trapezoidCodec (count trapezoidCodec a) a 0, lists-few a n e)))
+small-checked L a n =
+    small-row 1 (omega arith) (listsSized a n) (firstRefusal L 0 (layerOf a)) (λ e.
+    small-first L 0 (layerOf a) (omega (arith, length-from trapezoidCodec (count trapezoidCodec a) a 0, lists-few a n e)))
 
-pub refused-small : (a : List ℤ) (n : ℕ) {number place : ℕ} → componentsChecked a n ≡ Refused number place → SmallRefusal number place
-refused-small a n e = subst SmallChecked e (small-checked a n)
+pub refused-small : (L : ℕ) (a : List ℤ) (n : ℕ) {number place : ℕ} → componentsChecked L a n ≡ Refused number place → SmallRefusal number place
+refused-small L a n e = subst SmallChecked e (small-checked L a n)
 
-pub refused-outcome : (a : List ℤ) (numbers : List ℕ) {number place : ℕ} → componentsChecked a (length numbers) ≡ Refused number place → observed (refused number place) numbers ≡ componentsOutcome a numbers
+pub refused-outcome : (L : ℕ) (a : List ℤ) (numbers : List ℕ) {number place : ℕ} → componentsChecked L a (length numbers) ≡ Refused number place → observed (refused number place) numbers ≡ componentsOutcome L a numbers
 unfolding componentsOutcome
-refused-outcome a numbers e = rw e
+refused-outcome L a numbers e = rw e
 
 -- ---- what a success means
 pub outcome-exact : OutcomeExact
 unfolding componentsOutcome
-outcome-exact a numbers n e = go (componentsChecked a (length numbers)) refl e
+outcome-exact L a numbers n e = go (componentsChecked L a (length numbers)) refl e
   where
-    go : (c : Checked) → componentsChecked a (length numbers) ≡ c
+    go : (c : Checked) → componentsChecked L a (length numbers) ≡ c
         → outcome c (observed (counted (componentCount (layerOf a))) (componentNumbers (layerOf a))) numbers .answer ≡ counted n
         → ComponentsOf (layerOf a) (outcome c (observed (counted (componentCount (layerOf a))) (componentNumbers (layerOf a))) numbers .numbers) n
     go Passed f g =
         let h : componentCount (layerOf a) ≡ n = cc in
-        subst (ComponentsOf (layerOf a) (componentNumbers (layerOf a))) h (components-exact coordinateLimit (layerOf a) (passed-fit a numbers f))
+        subst (ComponentsOf (layerOf a) (componentNumbers (layerOf a))) h (components-exact L (layerOf a) (passed-fit L a numbers f))
     go (Refused number place) f g = let z : _≡_ {A = ℕ} 0 1 = cc in absurd (omega arith)

@@ -8,7 +8,6 @@ use Rattle.lists.specs.Lists.{All, Any}
 use Rattle.geometry.specs.declared.Trapezoid.{Trapezoid}
 use Rattle.geometry.specs.declared.Checked.{Checked}
 use Rattle.geometry.specs.declared.Checked.the-variants.{Passed, Refused}
-use Rattle.geometry.specs.Limit.{coordinateLimit}
 use Rattle.geometry.specs.Trapezoids.{layerOf, LiesInLayer, liesInLayer, Disjoint}
 use Rattle.geometry.proofs.Layers.{lies-in-layer-exact}
 use Rattle.boolean.specs.Operations.{codeAt, result, says}
@@ -31,33 +30,33 @@ use Rattle.calls.proofs.Same.{equal-exactly}
 use Rattle.calls.proofs.Fracturing.{fracture-accepted}
 
 pub fracture-file-exact : FractureFileExact
-fracture-file-exact file out scratch h =
-    let k = fracture-accepted file out scratch h in
+fracture-file-exact L file out scratch h =
+    let k = fracture-accepted L file out scratch h in
     let ps = polygonsOf (fileWords file) in (
       k .fit,
-      (λ P hP. subst (λ (ts : List Trapezoid). LiesInLayer P ts ↔ Any (Wound P) ps) (sym (k .is)) (fracture-exact coordinateLimit ps P hP)),
-      subst (λ (ts : List Trapezoid). All (SidesOfOne ps) ts) (sym (k .is)) (fracture-all-sides coordinateLimit ps),
+      (λ P hP. subst (λ (ts : List Trapezoid). LiesInLayer P ts ↔ Any (Wound P) ps) (sym (k .is)) (fracture-exact L ps P hP)),
+      subst (λ (ts : List Trapezoid). All (SidesOfOne ps) ts) (sym (k .is)) (fracture-all-sides L ps),
     )
 
 pub combine-exact : CombineExact
-combine-exact code a b out scratch h =
-    let k = combined-accepted code a b out scratch h in (
+combine-exact L code a b out scratch h =
+    let k = combined-accepted L code a b out scratch h in (
       k .fit,
       (λ P hP x y hx hy.
           subst (λ (ts : List Trapezoid). IsYes (says (codeAt code) x y) (LiesInLayer P ts)) (sym (k .is))
-          (result-exact coordinateLimit (layerOf a) (layerOf b) (k .first) (k .second) P hP (codeAt code) x y hx hy)),
+          (result-exact L (layerOf a) (layerOf b) (k .first) (k .second) P hP (codeAt code) x y hx hy)),
     )
 
 pub deoverlap-exact : DeoverlapExact
-deoverlap-exact a out scratch h =
-    let k = deoverlap-accepted a out scratch h in (
+deoverlap-exact L a out scratch h =
+    let k = deoverlap-accepted L a out scratch h in (
       k .fit,
-      subst Disjoint (sym (k .is)) (deoverlapped-disjoint coordinateLimit (layerOf a) (k .layer)),
-      subst (λ (ts : List Trapezoid). SamePoints ts (layerOf a)) (sym (k .is)) (deoverlapped-exact coordinateLimit (layerOf a) (k .layer)),
+      subst Disjoint (sym (k .is)) (deoverlapped-disjoint L (layerOf a) (k .layer)),
+      subst (λ (ts : List Trapezoid). SamePoints ts (layerOf a)) (sym (k .is)) (deoverlapped-exact L (layerOf a) (k .layer)),
     )
 
 pub equal-exact : EqualExact
-equal-exact a b out scratch h = equal-exactly a b out scratch h
+equal-exact L a b out scratch h = equal-exactly L a b out scratch h
 
 -- ---- the point question
 record Asked (c : Checked) (b : Bool) : Type 0 where
@@ -71,10 +70,10 @@ asked-is (Refused number place) b h = absurd h
 
 pub contains-exact : ContainsExact
 unfolding containsAnswer
-contains-exact P a b code h x y hx hy =
+contains-exact L P a b code h x y hx hy =
     let ts = result (codeAt code) (layerOf a) (layerOf b) in
-    let k = asked-is (containsChecked P a b code) (liesInLayer P ts) h in
-    let r = contains-ready P a b code (k .passed) in
-    let e = result-exact coordinateLimit (layerOf a) (layerOf b) (r .first .fit) (r .second .fit) P (point-real P (r .point)) (codeAt code) x y hx hy in
+    let k = asked-is (containsChecked L P a b code) (liesInLayer P ts) h in
+    let r = contains-ready L P a b code (k .passed) in
+    let e = result-exact L (layerOf a) (layerOf b) (r .first .fit) (r .second .fit) P (point-real L P (r .point)) (codeAt code) x y hx hy in
     let f = lies-in-layer-exact P ts in
     ((λ z. e .1 (f .0 (subst T (k .answers) z))), (λ z. subst T (sym (k .answers)) (f .1 (e .0 z))))

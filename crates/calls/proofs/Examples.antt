@@ -33,7 +33,7 @@ use Rattle.files.specs.Rows.{firstOffGrid, polygonFileChecked, layersChecked, l
 use Rattle.files.specs.Outcomes as files
 use Rattle.calls.specs.Components as connectivity
 use Rattle.calls.specs.Answers.{refused, refused-equality, refused-point}
-use Rattle.calls.specs.Rows.{pointPasses, fractureChecked, combineChecked, deoverlapChecked, equalChecked, containsChecked}
+use Rattle.calls.specs.Rows.{plateLimit, pointPasses, fractureChecked, combineChecked, deoverlapChecked, equalChecked, containsChecked}
 use Rattle.calls.specs.Outcomes.{fractureOutcome, combined, deoverlapOutcome, equalOutcome, containsAnswer}
 use Rattle.calls.specs.Table.{box, Q, layer, q, vertex, fileOf, point}
 
@@ -52,34 +52,34 @@ odd = pos 1 ∷ []
 -- row 1, then 2, then 7 to 11, then 12 (Q and no room)
 abbrev Combined : Type 0
 Combined =
-    (combined 5 odd (layer (far ∷ [])) [] [] .answer ≡ refused 1 0)
-    × (combined 5 (layer (far ∷ [])) q [] [] .answer ≡ refused 2 0)
-    × (combined 0 (layer (far ∷ [])) q [] [] .answer ≡ refused 7 0)
-    × (combined 0 q q [] [] .answer ≡ refused 12 0)
+    (combined plateLimit 5 odd (layer (far ∷ [])) [] [] .answer ≡ refused 1 0)
+    × (combined plateLimit 5 (layer (far ∷ [])) q [] [] .answer ≡ refused 2 0)
+    × (combined plateLimit 0 (layer (far ∷ [])) q [] [] .answer ≡ refused 7 0)
+    × (combined plateLimit 0 q q [] [] .answer ≡ refused 12 0)
 
 -- "7 to 11 are completed for one piece before the next, A's pieces before B's, numbered on from A"
 abbrev Places : Type 0
 Places =
-    (combined 0 (layer (Q ∷ flat ∷ far ∷ [])) (layer (far ∷ [])) [] [] .answer ≡ refused 11 1)
-    × (combined 0 q (layer (Q ∷ far ∷ flat ∷ [])) [] [] .answer ≡ refused 7 2)
-    × (equalOutcome (layer (flat ∷ [])) (layer (far ∷ [])) [] [] .answer ≡ refused-equality 11 0)
+    (combined plateLimit 0 (layer (Q ∷ flat ∷ far ∷ [])) (layer (far ∷ [])) [] [] .answer ≡ refused 11 1)
+    × (combined plateLimit 0 q (layer (Q ∷ far ∷ flat ∷ [])) [] [] .answer ≡ refused 7 2)
+    × (equalOutcome plateLimit (layer (flat ∷ [])) (layer (far ∷ [])) [] [] .answer ≡ refused-equality 11 0)
 
 -- row 1, then 2, then 3, then 7 to 11
 abbrev Asked : Type 0
 Asked =
-    (containsAnswer (point 0 0 0) odd [] 5 ≡ refused-point 1 0)
-    × (containsAnswer (point 0 0 0) (layer (far ∷ [])) [] 5 ≡ refused-point 2 0)
-    × (containsAnswer (point 0 0 0) (layer (far ∷ [])) [] 0 ≡ refused-point 3 0)
-    × (containsAnswer (point 0 0 1) (layer (far ∷ [])) [] 0 ≡ refused-point 7 0)
+    (containsAnswer plateLimit (point 0 0 0) odd [] 5 ≡ refused-point 1 0)
+    × (containsAnswer plateLimit (point 0 0 0) (layer (far ∷ [])) [] 5 ≡ refused-point 2 0)
+    × (containsAnswer plateLimit (point 0 0 0) (layer (far ∷ [])) [] 0 ≡ refused-point 3 0)
+    × (containsAnswer plateLimit (point 0 0 1) (layer (far ∷ [])) [] 0 ≡ refused-point 7 0)
 
 -- row 1, then 7 to 11, of the other calls
 abbrev Others : Type 0
 Others =
-    (deoverlapOutcome (layer (far ∷ [])) odd odd .answer ≡ refused 1 0)
-    × (deoverlapOutcome (layer (far ∷ [])) [] [] .answer ≡ refused 7 0)
-    × (equalOutcome (layer (far ∷ [])) [] odd odd .answer ≡ refused-equality 1 0)
-    × (connectivity.componentsOutcome (layer (far ∷ [])) [] .answer ≡ connectivity.refused 1 0)
-    × (connectivity.componentsOutcome (layer (far ∷ [])) (0 ∷ []) .answer ≡ connectivity.refused 7 0)
+    (deoverlapOutcome plateLimit (layer (far ∷ [])) odd odd .answer ≡ refused 1 0)
+    × (deoverlapOutcome plateLimit (layer (far ∷ [])) [] [] .answer ≡ refused 7 0)
+    × (equalOutcome plateLimit (layer (far ∷ [])) [] odd odd .answer ≡ refused-equality 1 0)
+    × (connectivity.componentsOutcome plateLimit (layer (far ∷ [])) [] .answer ≡ connectivity.refused 1 0)
+    × (connectivity.componentsOutcome plateLimit (layer (far ∷ [])) (0 ∷ []) .answer ≡ connectivity.refused 7 0)
 
 -- ---- files: row 1, then 4, 5, 6, 7, then 12
 abbrev bytes : List ℤ → List ℕ
@@ -88,25 +88,25 @@ bytes ws = wordsOf wordCodec ws
 -- three bytes; 65 polygons; a length of 2; a vertex beyond the grid
 abbrev Polygons : Type 0
 Polygons =
-    (fractureOutcome (1 ∷ 2 ∷ 3 ∷ []) odd odd .answer ≡ refused 1 0)
-    × (fractureOutcome (1 ∷ 2 ∷ 3 ∷ []) [] [] .answer ≡ refused 4 0)
-    × (fractureOutcome (bytes (pos 65 ∷ pos 1 ∷ [])) [] [] .answer ≡ refused 5 0)
-    × (fractureOutcome (bytes (pos 1 ∷ pos 0 ∷ pos 2 ∷ pos 2049 ∷ pos 0 ∷ [])) [] [] .answer ≡ refused 6 0)
-    × (fractureOutcome (fileOf (vertex 2049 0 ∷ vertex 2 0 ∷ vertex 0 2 ∷ [])) [] [] .answer ≡ refused 7 0)
-    × (fractureOutcome (fileOf (vertex 0 0 ∷ vertex 2 0 ∷ vertex 0 2 ∷ [])) [] [] .answer ≡ refused 12 0)
+    (fractureOutcome plateLimit (1 ∷ 2 ∷ 3 ∷ []) odd odd .answer ≡ refused 1 0)
+    × (fractureOutcome plateLimit (1 ∷ 2 ∷ 3 ∷ []) [] [] .answer ≡ refused 4 0)
+    × (fractureOutcome plateLimit (bytes (pos 65 ∷ pos 1 ∷ [])) [] [] .answer ≡ refused 5 0)
+    × (fractureOutcome plateLimit (bytes (pos 1 ∷ pos 0 ∷ pos 2 ∷ pos 2049 ∷ pos 0 ∷ [])) [] [] .answer ≡ refused 6 0)
+    × (fractureOutcome plateLimit (fileOf (vertex 2049 0 ∷ vertex 2 0 ∷ vertex 0 2 ∷ [])) [] [] .answer ≡ refused 7 0)
+    × (fractureOutcome plateLimit (fileOf (vertex 0 0 ∷ vertex 2 0 ∷ vertex 0 2 ∷ [])) [] [] .answer ≡ refused 12 0)
 
 -- 17 layers; an offset of 1; a trapezoid beyond the grid; and an output that is too short for any of them. "in a book they are numbered through all
 -- layers": the second layer's first trapezoid is number 1.
 abbrev Layers : Type 0
 Layers =
-    (files.readLayers (1 ∷ 2 ∷ 3 ∷ []) [] .answer ≡ files.refused 4 0)
-    × (files.readLayers (bytes (pos 17 ∷ pos 1 ∷ [])) [] .answer ≡ files.refused 5 0)
-    × (files.readLayers (bytes (pos 1 ∷ pos 1 ∷ pos 1 ∷ layer (far ∷ []))) [] .answer ≡ files.refused 6 0)
-    × (files.readLayers (bytes (pos 1 ∷ pos 0 ∷ pos 1 ∷ layer (far ∷ []))) [] .answer ≡ files.refused 7 0)
-    × (files.readLayers (bytes (pos 1 ∷ pos 0 ∷ pos 1 ∷ q)) [] .answer ≡ files.refused 12 0)
-    × (files.writeLayers (pos 17 ∷ pos 1 ∷ []) [] .answer ≡ files.refused 5 0)
-    × (files.writeLayers (pos 2 ∷ pos 0 ∷ pos 1 ∷ pos 1 ∷ pos 1 ∷ layer (Q ∷ far ∷ [])) [] .answer ≡ files.refused 7 1)
-    × (files.writeLayers (pos 1 ∷ pos 0 ∷ pos 1 ∷ q) [] .answer ≡ files.refused 12 0)
+    (files.readLayers plateLimit (1 ∷ 2 ∷ 3 ∷ []) [] .answer ≡ files.refused 4 0)
+    × (files.readLayers plateLimit (bytes (pos 17 ∷ pos 1 ∷ [])) [] .answer ≡ files.refused 5 0)
+    × (files.readLayers plateLimit (bytes (pos 1 ∷ pos 1 ∷ pos 1 ∷ layer (far ∷ []))) [] .answer ≡ files.refused 6 0)
+    × (files.readLayers plateLimit (bytes (pos 1 ∷ pos 0 ∷ pos 1 ∷ layer (far ∷ []))) [] .answer ≡ files.refused 7 0)
+    × (files.readLayers plateLimit (bytes (pos 1 ∷ pos 0 ∷ pos 1 ∷ q)) [] .answer ≡ files.refused 12 0)
+    × (files.writeLayers plateLimit (pos 17 ∷ pos 1 ∷ []) [] .answer ≡ files.refused 5 0)
+    × (files.writeLayers plateLimit (pos 2 ∷ pos 0 ∷ pos 1 ∷ pos 1 ∷ pos 1 ∷ layer (Q ∷ far ∷ [])) [] .answer ≡ files.refused 7 1)
+    × (files.writeLayers plateLimit (pos 1 ∷ pos 0 ∷ pos 1 ∷ q) [] .answer ≡ files.refused 12 0)
 
 -- ---- "Files are signed 32-bit words, low byte first."
 abbrev Bytes : Type 0

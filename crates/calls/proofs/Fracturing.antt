@@ -2,14 +2,13 @@
 -- gives.
 use mathlib.Core.Path.{_≡_, sym, _∙_, ap, subst}
 use mathlib.Core.List.{List, [], _∷_}
-use Prim.Native.Nat.{ℕ, _≤_}
+use Prim.Native.Nat.{ℕ, _≤_, _<_}
 use native.Mathlib.Omega.{arith}
 use lib.Dec.{T}
 use lib.ListN.{length}
 use lib.IntN.{ℤ}
 use Rattle.records.specs.Limits.{maxRecords}
 use Rattle.geometry.specs.declared.Checked.the-variants.{Passed}
-use Rattle.geometry.specs.Limit.{coordinateLimit}
 use Rattle.geometry.specs.Trapezoids.{layerOf}
 use Rattle.geometry.proofs.Refusals.{SmallChecked}
 use Rattle.boolean.specs.Space.{addition}
@@ -27,34 +26,33 @@ use Rattle.calls.proofs.Checks.{Buffers, row-passed, buffers-ready, sma
 use Rattle.calls.proofs.Room.{addition-room}
 use Rattle.calls.proofs.Success.{passed, outcome-wrote, layer-words, words-fit}
 
-pub record FractureReady (file : List ℕ) (out scratch : ℕ) : Type 0 where
-  pub rows : polygonFileChecked coordinateLimit file ≡ Passed
+pub record FractureReady (L : ℕ) (file : List ℕ) (out scratch : ℕ) : Type 0 where
+  pub rows : polygonFileChecked L file ≡ Passed
   pub buffers : Buffers out scratch
 
-pub fracture-ready : (file : List ℕ) (out scratch : ℕ) → fractureChecked file out scratch ≡ Passed → FractureReady file out scratch
+pub fracture-ready : (L : ℕ) (file : List ℕ) (out scratch : ℕ) → fractureChecked L file out scratch ≡ Passed → FractureReady L file out scratch
 unfolding fractureChecked
-fracture-ready file out scratch e =
-    let h = row-passed 1 (buffersSized out scratch) (polygonFileChecked coordinateLimit file) e in
+fracture-ready L file out scratch e =
+    let h = row-passed 1 (buffersSized out scratch) (polygonFileChecked L file) e in
     record { rows = h .1; buffers = buffers-ready out scratch (h .0) }
 
-pub fracture-refused : (file : List ℕ) (out scratch : ℕ) → SmallChecked (fractureChecked file out scratch)
+pub fracture-refused : (L : ℕ) (file : List ℕ) (out scratch : ℕ) → SmallChecked (fractureChecked L file out scratch)
 unfolding fractureChecked
-fracture-refused file out scratch = small-row 1 (omega arith) (buffersSized out scratch) (polygonFileChecked coordinateLimit file) (λ s. polygon-file-small coordinateLimit file)
+fracture-refused L file out scratch = small-row 1 (omega arith) (buffersSized out scratch) (polygonFileChecked L file) (λ s. polygon-file-small L file)
 
 -- ---- a success, with the records R
-pub record Fractures (file : List ℕ) (R : List ℤ) : Type 0 where
-  pub is : layerOf R ≡ fracturedOf file
-  pub fit : FitLayer R
+pub record Fractures (L : ℕ) (file : List ℕ) (R : List ℤ) : Type 0 where
+  pub is : layerOf R ≡ fracturedOf L file
+  pub fit : 0 < L → FitLayer L R
 
-pub fracture-accepted : (file : List ℕ) (out scratch : List ℤ) → T (isDone (fractureOutcome file out scratch .answer))
-    → Fractures file (recordsOf (fractureOutcome file out scratch .answer) (fractureOutcome file out scratch .out))
+pub fracture-accepted : (L : ℕ) (file : List ℕ) (out scratch : List ℤ) → T (isDone (fractureOutcome L file out scratch .answer))
+    → Fractures L file (recordsOf (fractureOutcome L file out scratch .answer) (fractureOutcome L file out scratch .out))
 unfolding fractureOutcome
-fracture-accepted file out scratch h =
-    let ts = fracturedOf file in
+fracture-accepted L file out scratch h =
+    let ts = fracturedOf L file in
     let ms = addition (length ts) ∷ [] in
-    let checked = fractureChecked file (length out) (length scratch) in
-    let r = fracture-ready file (length out) (length scratch) (passed checked out scratch ts ms h) in
+    let checked = fractureChecked L file (length out) (length scratch) in
+    let r = fracture-ready L file (length out) (length scratch) (passed checked out scratch ts ms h) in
     let w = outcome-wrote checked out scratch ts ms h in
     let l : length ts ≤ maxRecords = omega (arith, addition-room (roomOf out) (length ts) (w .room), r .buffers .few) in
-    let g = fracture-fit coordinateLimit (polygonsOf (fileWords file)) (omega arith) (checked-grid coordinateLimit file (r .rows)) in
-    record { is = ap layerOf (w .is) ∙ layer-words ts; fit = subst FitLayer (sym (w .is)) (words-fit ts g l) }
+    record { is = ap layerOf (w .is) ∙ layer-words ts; fit = λ p. subst (FitLayer L) (sym (w .is)) (words-fit L ts (fracture-fit L (polygonsOf (fileWords file)) p (checked-grid L file (r .rows))) l) }

@@ -9,7 +9,6 @@ use lib.ListN.{length}
 use Rattle.geometry.specs.declared.Trapezoid.{Trapezoid}
 use Rattle.geometry.specs.declared.Checked.{Checked}
 use Rattle.geometry.specs.declared.Checked.the-variants.{Passed, Refused}
-use Rattle.geometry.specs.Limit.{coordinateLimit}
 use Rattle.geometry.specs.Trapezoids.{layerOf}
 use Rattle.boolean.specs.Operations.{difference}
 use Rattle.boolean.specs.Space.{Space, enough, short, space, equalityMarks}
@@ -76,11 +75,11 @@ decided : (ts : List Trapezoid) → ((Empty ts → ⊥) → ⊥) → Empty ts
 decided [] n = refl
 decided (t ∷ ts) n = absurd (n (some t ts))
 
-compares : (answer : EqualityAnswer) (A B : List Trapezoid) → FitTrapezoids A → FitTrapezoids B → ByDifferences answer (difference A B) (difference B A) → Compares answer A B
-compares answer A B hA hB k =
-    let e = equality-exact coordinateLimit A B hA hB in
-    let f = difference-some coordinateLimit A B hA hB in
-    let g = difference-some coordinateLimit B A hB hA in
+compares : (L : ℕ) (answer : EqualityAnswer) (A B : List Trapezoid) → FitTrapezoids L A → FitTrapezoids L B → ByDifferences answer (difference A B) (difference B A) → Compares answer A B
+compares L answer A B hA hB k =
+    let e = equality-exact L A B hA hB in
+    let f = difference-some L A B hA hB in
+    let g = difference-some L B A hB hA in
     record {
       same = ((λ x. e .0 (k .same .0 x)), (λ y. k .same .1 (e .1 y)));
       side-0 = ((λ x. f .0 (k .side-0 .0 x)), (λ y. k .side-0 .1 (f .1 y)));
@@ -91,14 +90,14 @@ compares answer A B hA hB k =
     }
 
 -- ---- the test
-pub equal-exactly : (A B out scratch : List ℤ) → T (not (isRefused (equalOutcome A B out scratch .answer))) → Compares (equalOutcome A B out scratch .answer) (layerOf A) (layerOf B)
+pub equal-exactly : (L : ℕ) (A B out scratch : List ℤ) → T (not (isRefused (equalOutcome L A B out scratch .answer))) → Compares (equalOutcome L A B out scratch .answer) (layerOf A) (layerOf B)
 unfolding equalOutcome
-equal-exactly A B out scratch h =
+equal-exactly L A B out scratch h =
     let ts = difference (layerOf A) (layerOf B) in
     let us = difference (layerOf B) (layerOf A) in
     let s = space (roomOf out) (equalityMarks (layerOf A) (layerOf B)) in
-    let p = passes (equalChecked A B (length out) (length scratch)) out scratch (comparedIn ts us s) h in
-    let f = equal-ready A B (length out) (length scratch) (p .passed) in
+    let p = passes (equalChecked L A B (length out) (length scratch)) out scratch (comparedIn ts us s) h in
+    let f = equal-ready L A B (length out) (length scratch) (p .passed) in
     let k = compared-in-by ts us s (subst (λ (answer : EqualityAnswer). T (not (isRefused answer))) (p .answers) h) in
     subst (λ (answer : EqualityAnswer). Compares answer (layerOf A) (layerOf B)) (sym (p .answers))
-    (compares (comparedIn ts us s) (layerOf A) (layerOf B) (f .first .fit) (f .second .fit) k)
+    (compares L (comparedIn ts us s) (layerOf A) (layerOf B) (f .first .fit) (f .second .fit) k)

@@ -17,7 +17,6 @@ use Rattle.records.proofs.Buffer.{image-take}
 use Rattle.geometry.specs.declared.Trapezoid.{Trapezoid}
 use Rattle.geometry.specs.declared.Checked.{Checked}
 use Rattle.geometry.specs.declared.Checked.the-variants.{Passed, Refused}
-use Rattle.geometry.specs.Limit.{coordinateLimit}
 use Rattle.geometry.specs.Trapezoids.{trapezoidCodec, layerOf}
 use Rattle.geometry.specs.Fitness.{FitFor, firstRefusal}
 use Rattle.geometry.proofs.Fitness.{layer-exact}
@@ -32,8 +31,8 @@ use Rattle.calls.specs.Statements.{FitLayer}
 use Rattle.calls.proofs.Room.{isEnough, result-room, deoverlapped-room}
 use Rattle.calls.proofs.Checks.{combine-ready, deoverlap-ready}
 
-abbrev pub FitTrapezoids : List Trapezoid → Type 0
-FitTrapezoids ts = All (FitFor coordinateLimit) ts
+abbrev pub FitTrapezoids : ℕ → List Trapezoid → Type 0
+FitTrapezoids L ts = All (FitFor L) ts
 
 -- ---- what a success wrote
 pub record Wrote (s : Space) (ts : List Trapezoid) (records : List ℤ) : Type 0 where
@@ -64,56 +63,56 @@ few-sized n h =
     (subst (λ (k : ℕ). T (eqb k 0)) (sym (mul-mod-right memoryWidth n)) (eqb-refl 0))
     (le→leb (memoryWidth * n) (memoryWidth * maxRecords) (omega arith))
 
-pub words-fit : (ts : List Trapezoid) → FitTrapezoids ts → length ts ≤ maxRecords → FitLayer (wordsOf trapezoidCodec ts)
-words-fit ts h l =
+pub words-fit : (L : ℕ) (ts : List Trapezoid) → FitTrapezoids L ts → length ts ≤ maxRecords → FitLayer L (wordsOf trapezoidCodec ts)
+words-fit L ts h l =
     record {
       size = subst (λ (n : ℕ). T (sized n)) (sym (length-words trapezoidCodec trapezoid-faithful ts)) (few-sized (length ts) l);
-      rows = ap (firstRefusal coordinateLimit 0) (layer-words ts) ∙ layer-exact coordinateLimit 0 ts .1 h;
+      rows = ap (firstRefusal L 0) (layer-words ts) ∙ layer-exact L 0 ts .1 h;
     }
 
 -- ---- a call of code c on A and B with the records R
-pub record Accepted (c : Code) (A B R : List ℤ) : Type 0 where
-  pub first : FitTrapezoids (layerOf A)
-  pub second : FitTrapezoids (layerOf B)
+pub record Accepted (L : ℕ) (c : Code) (A B R : List ℤ) : Type 0 where
+  pub first : FitTrapezoids L (layerOf A)
+  pub second : FitTrapezoids L (layerOf B)
   pub is : layerOf R ≡ result c (layerOf A) (layerOf B)
-  pub fit : FitLayer R
+  pub fit : FitLayer L R
 
-pub combined-accepted : (code : ℕ) (A B out scratch : List ℤ) → T (isDone (combined code A B out scratch .answer))
-    → Accepted (codeAt code) A B (recordsOf (combined code A B out scratch .answer) (combined code A B out scratch .out))
+pub combined-accepted : (L code : ℕ) (A B out scratch : List ℤ) → T (isDone (combined L code A B out scratch .answer))
+    → Accepted L (codeAt code) A B (recordsOf (combined L code A B out scratch .answer) (combined L code A B out scratch .out))
 unfolding combined
-combined-accepted code A B out scratch h =
+combined-accepted L code A B out scratch h =
     let c = codeAt code in
     let ts = result c (layerOf A) (layerOf B) in
     let ms = marks c (layerOf A) (layerOf B) in
-    let checked = combineChecked code A B (length out) (length scratch) in
-    let r = combine-ready code A B (length out) (length scratch) (passed checked out scratch ts ms h) in
+    let checked = combineChecked L code A B (length out) (length scratch) in
+    let r = combine-ready L code A B (length out) (length scratch) (passed checked out scratch ts ms h) in
     let w = outcome-wrote checked out scratch ts ms h in
     let l : length ts ≤ maxRecords = omega (arith, result-room (roomOf out) c (layerOf A) (layerOf B) (w .room), r .buffers .few) in
     record {
       first = r .first .fit;
       second = r .second .fit;
       is = ap layerOf (w .is) ∙ layer-words ts;
-      fit = subst FitLayer (sym (w .is)) (words-fit ts (result-fit coordinateLimit (layerOf A) (layerOf B) (r .first .fit) (r .second .fit) c) l);
+      fit = subst (FitLayer L) (sym (w .is)) (words-fit L ts (result-fit L (layerOf A) (layerOf B) (r .first .fit) (r .second .fit) c) l);
     }
 
 -- ---- a call that deoverlaps A, with the records R
-pub record Deoverlaps (A R : List ℤ) : Type 0 where
-  pub layer : FitTrapezoids (layerOf A)
+pub record Deoverlaps (L : ℕ) (A R : List ℤ) : Type 0 where
+  pub layer : FitTrapezoids L (layerOf A)
   pub is : layerOf R ≡ deoverlapped (layerOf A)
-  pub fit : FitLayer R
+  pub fit : FitLayer L R
 
-pub deoverlap-accepted : (A out scratch : List ℤ) → T (isDone (deoverlapOutcome A out scratch .answer))
-    → Deoverlaps A (recordsOf (deoverlapOutcome A out scratch .answer) (deoverlapOutcome A out scratch .out))
+pub deoverlap-accepted : (L : ℕ) (A out scratch : List ℤ) → T (isDone (deoverlapOutcome L A out scratch .answer))
+    → Deoverlaps L A (recordsOf (deoverlapOutcome L A out scratch .answer) (deoverlapOutcome L A out scratch .out))
 unfolding deoverlapOutcome
-deoverlap-accepted A out scratch h =
+deoverlap-accepted L A out scratch h =
     let ts = deoverlapped (layerOf A) in
     let ms = deoverlappedMarks [] (layerOf A) in
-    let checked = deoverlapChecked A (length out) (length scratch) in
-    let r = deoverlap-ready A (length out) (length scratch) (passed checked out scratch ts ms h) in
+    let checked = deoverlapChecked L A (length out) (length scratch) in
+    let r = deoverlap-ready L A (length out) (length scratch) (passed checked out scratch ts ms h) in
     let w = outcome-wrote checked out scratch ts ms h in
     let l : length ts ≤ maxRecords = omega (arith, deoverlapped-room (roomOf out) (layerOf A) (w .room), r .buffers .few) in
     record {
       layer = r .layer .fit;
       is = ap layerOf (w .is) ∙ layer-words ts;
-      fit = subst FitLayer (sym (w .is)) (words-fit ts (deoverlapped-fit coordinateLimit (layerOf A) (r .layer .fit)) l);
+      fit = subst (FitLayer L) (sym (w .is)) (words-fit L ts (deoverlapped-fit L (layerOf A) (r .layer .fit)) l);
     }

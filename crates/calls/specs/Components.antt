@@ -10,7 +10,6 @@ use Rattle.records.specs.Limits.{maxRecords, sized}
 use Rattle.records.specs.Records.{count}
 use Rattle.geometry.specs.declared.Checked.{Checked}
 use Rattle.geometry.specs.declared.Checked.the-variants.{Passed, Refused}
-use Rattle.geometry.specs.Limit.{coordinateLimit}
 use Rattle.geometry.specs.Trapezoids.{trapezoidCodec, layerOf}
 use Rattle.geometry.specs.Fitness.{SmallRefusal, firstRefusal}
 use Rattle.connectivity.specs.Components.{componentNumbers, componentCount, ComponentsOf}
@@ -23,9 +22,9 @@ use Rattle.calls.specs.Rows.{row}
 unfoldable pub listsSized : List ℤ → ℕ → Bool
 listsSized a n = sized (length a) && eqb n (count trapezoidCodec a)
 
--- row 1, of a list of n numbers, then rows 7 to 11
-unfoldable pub componentsChecked : List ℤ → ℕ → Checked
-componentsChecked a n = row 1 (listsSized a n) (firstRefusal coordinateLimit 0 (layerOf a))
+-- row 1, of a list of n numbers, then rows 7 to 11 under a coordinate limit
+unfoldable pub componentsChecked : ℕ → List ℤ → ℕ → Checked
+componentsChecked L a n = row 1 (listsSized a n) (firstRefusal L 0 (layerOf a))
 
 -- ---- the answer
 -- "A refusal answers its number and place, a success its pieces and cuts."; of components: "Each gets the lowest piece number of its component; the answer counts components."
@@ -55,9 +54,9 @@ abbrev pub outcome : Checked → Outcome → List ℕ → Outcome
 outcome (Refused number place) done numbers = observed (refused number place) numbers
 outcome Passed done numbers = done
 
-unfoldable pub componentsOutcome : List ℤ → List ℕ → Outcome
-componentsOutcome a numbers = outcome (componentsChecked a (length numbers)) (observed (counted (componentCount (layerOf a))) (componentNumbers (layerOf a))) numbers
+unfoldable pub componentsOutcome : ℕ → List ℤ → List ℕ → Outcome
+componentsOutcome L a numbers = outcome (componentsChecked L a (length numbers)) (observed (counted (componentCount (layerOf a))) (componentNumbers (layerOf a))) numbers
 
 -- ---- what a success means, for words of any number and content (proofs/Components.antt: `outcome-exact`)
 abbrev pub OutcomeExact : Type 0
-OutcomeExact = (a : List ℤ) (numbers : List ℕ) (n : ℕ) → componentsOutcome a numbers .answer ≡ counted n → ComponentsOf (layerOf a) (componentsOutcome a numbers .numbers) n
+OutcomeExact = (L : ℕ) (a : List ℤ) (numbers : List ℕ) (n : ℕ) → componentsOutcome L a numbers .answer ≡ counted n → ComponentsOf (layerOf a) (componentsOutcome L a numbers .numbers) n

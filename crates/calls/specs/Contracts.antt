@@ -1,4 +1,4 @@
--- The contract of each public function, said of one call: of what it was lent, of what it answered, and of what the words that it was lent are then. The
+-- The contract of each public function, said of one call under a coordinate limit: of what it was lent, of what it answered, and of what the words that it was lent are then. The
 -- functions' `ensures` cite these, and so do the theorems about calls, so that both speak of the same.
 use mathlib.Core.Path.{_≡_}
 use mathlib.Core.List.{List}
@@ -20,31 +20,31 @@ use Rattle.calls.specs.Rows.{pointAt}
 use Rattle.calls.specs.Outcomes.{Outcome, observed, fractureOutcome, combined, deoverlapOutcome, equalOutcome, containsAnswer}
 
 -- ---- calls with an output and a scratch area (paper 01: work area): what the two held before, the answer, and what they hold then
-abbrev pub FractureKept : List ℕ → List ℤ → List ℤ → Fractured → List ℤ → List ℤ → Type 0
-FractureKept file out scratch answer out-then scratch-then = observed (fracturedAnswer answer) out-then scratch-then ≡ fractureOutcome file out scratch
+abbrev pub FractureKept : ℕ → List ℕ → List ℤ → List ℤ → Fractured → List ℤ → List ℤ → Type 0
+FractureKept L file out scratch answer out-then scratch-then = observed (fracturedAnswer answer) out-then scratch-then ≡ fractureOutcome L file out scratch
 
-abbrev pub CombineKept : ℕ → List ℤ → List ℤ → List ℤ → List ℤ → Combined → List ℤ → List ℤ → Type 0
-CombineKept code a b out scratch answer out-then scratch-then = observed (combinedAnswer answer) out-then scratch-then ≡ combined code a b out scratch
+abbrev pub CombineKept : ℕ → ℕ → List ℤ → List ℤ → List ℤ → List ℤ → Combined → List ℤ → List ℤ → Type 0
+CombineKept L code a b out scratch answer out-then scratch-then = observed (combinedAnswer answer) out-then scratch-then ≡ combined L code a b out scratch
 
-abbrev pub DeoverlapKept : List ℤ → List ℤ → List ℤ → Deoverlapped → List ℤ → List ℤ → Type 0
-DeoverlapKept a out scratch answer out-then scratch-then = observed (deoverlappedAnswer answer) out-then scratch-then ≡ deoverlapOutcome a out scratch
+abbrev pub DeoverlapKept : ℕ → List ℤ → List ℤ → List ℤ → Deoverlapped → List ℤ → List ℤ → Type 0
+DeoverlapKept L a out scratch answer out-then scratch-then = observed (deoverlappedAnswer answer) out-then scratch-then ≡ deoverlapOutcome L a out scratch
 
-abbrev pub EqualKept : List ℤ → List ℤ → List ℤ → List ℤ → Equality → List ℤ → List ℤ → Type 0
-EqualKept a b out scratch answer out-then scratch-then = observed (equalityAnswer answer) out-then scratch-then ≡ equalOutcome a b out scratch
+abbrev pub EqualKept : ℕ → List ℤ → List ℤ → List ℤ → List ℤ → Equality → List ℤ → List ℤ → Type 0
+EqualKept L a b out scratch answer out-then scratch-then = observed (equalityAnswer answer) out-then scratch-then ≡ equalOutcome L a b out scratch
 
 -- ---- the point question: no words are lent to be written
-abbrev pub ContainsKept : ℤ → ℤ → ℤ → List ℤ → List ℤ → ℕ → Containment → Type 0
-ContainsKept x y d a b code answer = pointAnswer answer ≡ containsAnswer (pointAt x y d) a b code
+abbrev pub ContainsKept : ℕ → ℤ → ℤ → ℤ → List ℤ → List ℤ → ℕ → Containment → Type 0
+ContainsKept L x y d a b code answer = pointAnswer answer ≡ containsAnswer L (pointAt x y d) a b code
 
 -- ---- calls with one output
-abbrev pub ReadKept : List ℕ → List ℤ → LayersRead → List ℤ → Type 0
-ReadKept file out answer out-then = files.observed (files.readAnswer answer) out-then ≡ files.readLayers file out
+abbrev pub ReadKept : ℕ → List ℕ → List ℤ → LayersRead → List ℤ → Type 0
+ReadKept L file out answer out-then = files.observed (files.readAnswer answer) out-then ≡ files.readLayers L file out
 
-abbrev pub WriteKept : List ℤ → List ℕ → LayersWritten → List ℕ → Type 0
-WriteKept words out answer out-then = files.observed (files.writtenAnswer answer) out-then ≡ files.writeLayers words out
+abbrev pub WriteKept : ℕ → List ℤ → List ℕ → LayersWritten → List ℕ → Type 0
+WriteKept L words out answer out-then = files.observed (files.writtenAnswer answer) out-then ≡ files.writeLayers L words out
 
-abbrev pub ComponentsKept : List ℤ → List ℕ → Connected → List ℕ → Type 0
-ComponentsKept a numbers answer numbers-then = connectivity.observed (connectivity.connectedAnswer answer) numbers-then ≡ connectivity.componentsOutcome a numbers
+abbrev pub ComponentsKept : ℕ → List ℤ → List ℕ → Connected → List ℕ → Type 0
+ComponentsKept L a numbers answer numbers-then = connectivity.observed (connectivity.connectedAnswer answer) numbers-then ≡ connectivity.componentsOutcome L a numbers
 
 -- ---- the functions for C: the answer is one number. Of an outcome o, what was seen: the answer's number, and the words left
 abbrev pub SeenFromC : {A : Type 0} → (A → ℕ) → Outcome A → ℕ → List ℤ → List ℤ → Type 0
@@ -53,26 +53,26 @@ SeenFromC pack o answer out scratch = (answer ≡ pack (o .answer)) × (out ≡ 
 abbrev pub FileSeenFromC : {W : Type 0} → files.Outcome W → ℕ → List W → Type 0
 FileSeenFromC o answer out = (answer ≡ packedFile (o .answer)) × (out ≡ o .out)
 
-abbrev pub FractureKeptForC : List ℕ → List ℤ → List ℤ → ℕ → List ℤ → List ℤ → Type 0
-FractureKeptForC file out scratch answer out-then scratch-then = SeenFromC packed (fractureOutcome file out scratch) answer out-then scratch-then
+abbrev pub FractureKeptForC : ℕ → List ℕ → List ℤ → List ℤ → ℕ → List ℤ → List ℤ → Type 0
+FractureKeptForC L file out scratch answer out-then scratch-then = SeenFromC packed (fractureOutcome L file out scratch) answer out-then scratch-then
 
-abbrev pub CombineKeptForC : ℕ → List ℤ → List ℤ → List ℤ → List ℤ → ℕ → List ℤ → List ℤ → Type 0
-CombineKeptForC code a b out scratch answer out-then scratch-then = SeenFromC packed (combined code a b out scratch) answer out-then scratch-then
+abbrev pub CombineKeptForC : ℕ → ℕ → List ℤ → List ℤ → List ℤ → List ℤ → ℕ → List ℤ → List ℤ → Type 0
+CombineKeptForC L code a b out scratch answer out-then scratch-then = SeenFromC packed (combined L code a b out scratch) answer out-then scratch-then
 
-abbrev pub DeoverlapKeptForC : List ℤ → List ℤ → List ℤ → ℕ → List ℤ → List ℤ → Type 0
-DeoverlapKeptForC a out scratch answer out-then scratch-then = SeenFromC packed (deoverlapOutcome a out scratch) answer out-then scratch-then
+abbrev pub DeoverlapKeptForC : ℕ → List ℤ → List ℤ → List ℤ → ℕ → List ℤ → List ℤ → Type 0
+DeoverlapKeptForC L a out scratch answer out-then scratch-then = SeenFromC packed (deoverlapOutcome L a out scratch) answer out-then scratch-then
 
-abbrev pub EqualKeptForC : List ℤ → List ℤ → List ℤ → List ℤ → ℕ → List ℤ → List ℤ → Type 0
-EqualKeptForC a b out scratch answer out-then scratch-then = SeenFromC packedEquality (equalOutcome a b out scratch) answer out-then scratch-then
+abbrev pub EqualKeptForC : ℕ → List ℤ → List ℤ → List ℤ → List ℤ → ℕ → List ℤ → List ℤ → Type 0
+EqualKeptForC L a b out scratch answer out-then scratch-then = SeenFromC packedEquality (equalOutcome L a b out scratch) answer out-then scratch-then
 
-abbrev pub ContainsKeptForC : ℤ → ℤ → ℤ → List ℤ → List ℤ → ℕ → ℕ → Type 0
-ContainsKeptForC x y d a b code answer = answer ≡ packedPoint (containsAnswer (pointAt x y d) a b code)
+abbrev pub ContainsKeptForC : ℕ → ℤ → ℤ → ℤ → List ℤ → List ℤ → ℕ → ℕ → Type 0
+ContainsKeptForC L x y d a b code answer = answer ≡ packedPoint (containsAnswer L (pointAt x y d) a b code)
 
-abbrev pub ReadKeptForC : List ℕ → List ℤ → ℕ → List ℤ → Type 0
-ReadKeptForC file out answer out-then = FileSeenFromC (files.readLayers file out) answer out-then
+abbrev pub ReadKeptForC : ℕ → List ℕ → List ℤ → ℕ → List ℤ → Type 0
+ReadKeptForC L file out answer out-then = FileSeenFromC (files.readLayers L file out) answer out-then
 
-abbrev pub WriteKeptForC : List ℤ → List ℕ → ℕ → List ℕ → Type 0
-WriteKeptForC words out answer out-then = FileSeenFromC (files.writeLayers words out) answer out-then
+abbrev pub WriteKeptForC : ℕ → List ℤ → List ℕ → ℕ → List ℕ → Type 0
+WriteKeptForC L words out answer out-then = FileSeenFromC (files.writeLayers L words out) answer out-then
 
-abbrev pub ComponentsKeptForC : List ℤ → List ℕ → ℕ → List ℕ → Type 0
-ComponentsKeptForC a numbers answer numbers-then = (answer ≡ packedCount (connectivity.componentsOutcome a numbers .answer)) × (numbers-then ≡ connectivity.componentsOutcome a numbers .numbers)
+abbrev pub ComponentsKeptForC : ℕ → List ℤ → List ℕ → ℕ → List ℕ → Type 0
+ComponentsKeptForC L a numbers answer numbers-then = (answer ≡ packedCount (connectivity.componentsOutcome L a numbers .answer)) × (numbers-then ≡ connectivity.componentsOutcome L a numbers .numbers)

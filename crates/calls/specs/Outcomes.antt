@@ -1,4 +1,4 @@
--- What each call answers, and what its output and scratch area (paper 01: work area) hold then.
+-- What each call answers under a coordinate limit L, and what its output and scratch area (paper 01: work area) hold then.
 use mathlib.Core.Bool.{Bool, true, false}
 use mathlib.Core.List.{List, [], _∷_}
 use Prim.Native.Nat.{ℕ, _*_, _/_}
@@ -9,7 +9,6 @@ use Rattle.records.specs.Records.{image}
 use Rattle.geometry.specs.declared.Trapezoid.{Trapezoid}
 use Rattle.geometry.specs.declared.Checked.{Checked}
 use Rattle.geometry.specs.declared.Checked.the-variants.{Passed, Refused}
-use Rattle.geometry.specs.Limit.{coordinateLimit}
 use Rattle.geometry.specs.Points.{Point}
 use Rattle.geometry.specs.Trapezoids.{trapezoidCodec, layerOf, liesInLayer}
 use Rattle.boolean.specs.Operations.{codeAt, result, difference, deoverlapped}
@@ -54,20 +53,20 @@ outcome (Refused number place) out scratch ts ms = record { answer = refused num
 outcome Passed out scratch ts ms = written (length out) ts (space (roomOf out) ms)
 
 -- fracturing the polygons of a polygon file: "Cutting reports 0 cuts."
-abbrev pub fracturedOf : List ℕ → List Trapezoid
-fracturedOf file = fractureAll coordinateLimit (polygonsOf (fileWords file))
+abbrev pub fracturedOf : ℕ → List ℕ → List Trapezoid
+fracturedOf L file = fractureAll L (polygonsOf (fileWords file))
 
-unfoldable pub fractureOutcome : List ℕ → List ℤ → List ℤ → Outcome Answer
-fractureOutcome file out scratch = outcome (fractureChecked file (length out) (length scratch)) out scratch (fracturedOf file) (addition (length (fracturedOf file)) ∷ [])
+unfoldable pub fractureOutcome : ℕ → List ℕ → List ℤ → List ℤ → Outcome Answer
+fractureOutcome L file out scratch = outcome (fractureChecked L file (length out) (length scratch)) out scratch (fracturedOf L file) (addition (length (fracturedOf L file)) ∷ [])
 
 -- the five set operations, by the code's number
-unfoldable pub combined : ℕ → List ℤ → List ℤ → List ℤ → List ℤ → Outcome Answer
-combined code a b out scratch =
-    outcome (combineChecked code a b (length out) (length scratch)) out scratch (result (codeAt code) (layerOf a) (layerOf b)) (marks (codeAt code) (layerOf a) (layerOf b))
+unfoldable pub combined : ℕ → ℕ → List ℤ → List ℤ → List ℤ → List ℤ → Outcome Answer
+combined L code a b out scratch =
+    outcome (combineChecked L code a b (length out) (length scratch)) out scratch (result (codeAt code) (layerOf a) (layerOf b)) (marks (codeAt code) (layerOf a) (layerOf b))
 
 -- deoverlapping (paper 01: disjointing)
-unfoldable pub deoverlapOutcome : List ℤ → List ℤ → List ℤ → Outcome Answer
-deoverlapOutcome a out scratch = outcome (deoverlapChecked a (length out) (length scratch)) out scratch (deoverlapped (layerOf a)) (deoverlappedMarks [] (layerOf a))
+unfoldable pub deoverlapOutcome : ℕ → List ℤ → List ℤ → List ℤ → Outcome Answer
+deoverlapOutcome L a out scratch = outcome (deoverlapChecked L a (length out) (length scratch)) out scratch (deoverlapped (layerOf a)) (deoverlappedMarks [] (layerOf a))
 
 -- ---- equality (paper 01: sameness)
 -- "A−B, and B−A only if that was empty. Answers same, or differs with side 0 (A−B) or 1."
@@ -85,9 +84,9 @@ abbrev pub equalityOutcome : Checked → List ℤ → List ℤ → EqualityAnswe
 equalityOutcome (Refused number place) out scratch answer = record { answer = refused-equality number place; out = out; scratch = scratch }
 equalityOutcome Passed out scratch answer = record { answer = answer; out = zeros (length out); scratch = zeros (length scratch) }
 
-unfoldable pub equalOutcome : List ℤ → List ℤ → List ℤ → List ℤ → Outcome EqualityAnswer
-equalOutcome a b out scratch =
-    equalityOutcome (equalChecked a b (length out) (length scratch)) out scratch
+unfoldable pub equalOutcome : ℕ → List ℤ → List ℤ → List ℤ → List ℤ → Outcome EqualityAnswer
+equalOutcome L a b out scratch =
+    equalityOutcome (equalChecked L a b (length out) (length scratch)) out scratch
     (comparedIn (difference (layerOf a) (layerOf b)) (difference (layerOf b) (layerOf a)) (space (roomOf out) (equalityMarks (layerOf a) (layerOf b))))
 
 -- ---- whether a point lies in the result (paper 01: point question)
@@ -97,5 +96,5 @@ asked Passed true = yes
 asked Passed false = no
 
 -- "X, Y, D, two layers and a code; yes if the point lies in the result"
-unfoldable pub containsAnswer : Point → List ℤ → List ℤ → ℕ → PointAnswer
-containsAnswer P a b code = asked (containsChecked P a b code) (liesInLayer P (result (codeAt code) (layerOf a) (layerOf b)))
+unfoldable pub containsAnswer : ℕ → Point → List ℤ → List ℤ → ℕ → PointAnswer
+containsAnswer L P a b code = asked (containsChecked L P a b code) (liesInLayer P (result (codeAt code) (layerOf a) (layerOf b)))

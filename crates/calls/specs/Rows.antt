@@ -10,12 +10,16 @@ use Rattle.integer.specs.Integer.{⊝_, _⊗_}
 use Rattle.records.specs.Limits.{sized}
 use Rattle.geometry.specs.declared.Checked.{Checked}
 use Rattle.geometry.specs.declared.Checked.the-variants.{Refused}
-use Rattle.geometry.specs.Limit.{coordinateLimit}
 use Rattle.geometry.specs.Points.{Point}
 use Rattle.geometry.specs.Trapezoids.{layerOf}
 use Rattle.geometry.specs.Fitness.{firstRefusal}
 use Rattle.boolean.specs.Operations.{isCode}
 use Rattle.files.specs.Rows.{polygonFileChecked}
+
+-- "A grid coordinate is a whole number from −2,048 to 2,048": the coordinate limit of the plates that the public functions take. Rows 3 and 7 and the mark
+-- at the right edge go by the limit L of a call.
+abbrev pub plateLimit : ℕ
+plateLimit = 2048
 
 -- a row with place 0: it refuses, or the rows below it decide
 abbrev pub row : ℕ → Bool → Checked → Checked
@@ -31,29 +35,29 @@ buffersSized out scratch = sized out && (sized scratch && eqb scratch out)
 abbrev pub pointAt : ℤ → ℤ → ℤ → Point
 pointAt x y d = record { X = x; Y = y; D = d }
 
--- row 3: "D not 1 to 1,024, or X or Y beyond ±2,048 × D"
-abbrev pub withinTimes : ℤ → ℤ → Bool
-withinTimes z d = leZ (⊝ (pos coordinateLimit ⊗ d)) z && leZ z (pos coordinateLimit ⊗ d)
+-- row 3: "D not 1 to 1,024, or X or Y beyond ±2,048 × D", under a limit L ±L × D
+abbrev pub withinTimes : ℕ → ℤ → ℤ → Bool
+withinTimes L z d = leZ (⊝ (pos L ⊗ d)) z && leZ z (pos L ⊗ d)
 
-unfoldable pub pointPasses : Point → Bool
-pointPasses P = (leZ (pos 1) (P .D) && leZ (P .D) (pos 1024)) && (withinTimes (P .X) (P .D) && withinTimes (P .Y) (P .D))
+unfoldable pub pointPasses : ℕ → Point → Bool
+pointPasses L P = (leZ (pos 1) (P .D) && leZ (P .D) (pos 1024)) && (withinTimes L (P .X) (P .D) && withinTimes L (P .Y) (P .D))
 
 -- rows 7 to 11: "A's pieces before B's, numbered on from A"
-abbrev pub layersChecked : List ℤ → List ℤ → Checked
-layersChecked a b = firstRefusal coordinateLimit 0 (layerOf a ++ layerOf b)
+abbrev pub layersChecked : ℕ → List ℤ → List ℤ → Checked
+layersChecked L a b = firstRefusal L 0 (layerOf a ++ layerOf b)
 
--- ---- the rows of each call, with an output and a scratch area of so many words
-unfoldable pub fractureChecked : List ℕ → ℕ → ℕ → Checked
-fractureChecked file out scratch = row 1 (buffersSized out scratch) (polygonFileChecked coordinateLimit file)
+-- ---- the rows of each call, under a coordinate limit, with an output and a scratch area of so many words
+unfoldable pub fractureChecked : ℕ → List ℕ → ℕ → ℕ → Checked
+fractureChecked L file out scratch = row 1 (buffersSized out scratch) (polygonFileChecked L file)
 
-unfoldable pub combineChecked : ℕ → List ℤ → List ℤ → ℕ → ℕ → Checked
-combineChecked code a b out scratch = row 1 (sized (length a) && (sized (length b) && buffersSized out scratch)) (row 2 (isCode code) (layersChecked a b))
+unfoldable pub combineChecked : ℕ → ℕ → List ℤ → List ℤ → ℕ → ℕ → Checked
+combineChecked L code a b out scratch = row 1 (sized (length a) && (sized (length b) && buffersSized out scratch)) (row 2 (isCode code) (layersChecked L a b))
 
-unfoldable pub deoverlapChecked : List ℤ → ℕ → ℕ → Checked
-deoverlapChecked a out scratch = row 1 (sized (length a) && buffersSized out scratch) (firstRefusal coordinateLimit 0 (layerOf a))
+unfoldable pub deoverlapChecked : ℕ → List ℤ → ℕ → ℕ → Checked
+deoverlapChecked L a out scratch = row 1 (sized (length a) && buffersSized out scratch) (firstRefusal L 0 (layerOf a))
 
-unfoldable pub equalChecked : List ℤ → List ℤ → ℕ → ℕ → Checked
-equalChecked a b out scratch = row 1 (sized (length a) && (sized (length b) && buffersSized out scratch)) (layersChecked a b)
+unfoldable pub equalChecked : ℕ → List ℤ → List ℤ → ℕ → ℕ → Checked
+equalChecked L a b out scratch = row 1 (sized (length a) && (sized (length b) && buffersSized out scratch)) (layersChecked L a b)
 
-unfoldable pub containsChecked : Point → List ℤ → List ℤ → ℕ → Checked
-containsChecked P a b code = row 1 (sized (length a) && sized (length b)) (row 2 (isCode code) (row 3 (pointPasses P) (layersChecked a b)))
+unfoldable pub containsChecked : ℕ → Point → List ℤ → List ℤ → ℕ → Checked
+containsChecked L P a b code = row 1 (sized (length a) && sized (length b)) (row 2 (isCode code) (row 3 (pointPasses L P) (layersChecked L a b)))

@@ -1,10 +1,10 @@
--- Demand 2, of what the calls answer and write, for words of any number and content. Each statement is proved under its name in lower case in
+-- Demand 2, of what the calls answer and write, for words of any number and content and under any coordinate limit L. Each statement is proved under its name in lower case in
 -- proofs/Exact.antt.
 use mathlib.Core.Path.{_≡_}
 use mathlib.Core.Bool.{Bool, not}
 use mathlib.Core.List.{List}
 use mathlib.Core.Logic.{_↔_}
-use Prim.Native.Nat.{ℕ}
+use Prim.Native.Nat.{ℕ, _<_}
 use lib.Dec.{T}
 use lib.ListN.{length}
 use lib.IntN.{ℤ}
@@ -12,7 +12,6 @@ use Rattle.lists.specs.Lists.{All, Any}
 use Rattle.records.specs.Limits.{sized}
 use Rattle.geometry.specs.declared.Trapezoid.{Trapezoid}
 use Rattle.geometry.specs.declared.Checked.the-variants.{Passed}
-use Rattle.geometry.specs.Limit.{coordinateLimit}
 use Rattle.geometry.specs.Points.{Point, IsPoint}
 use Rattle.geometry.specs.Trapezoids.{layerOf, LiesInLayer, Disjoint}
 use Rattle.geometry.specs.Fitness.{firstRefusal}
@@ -24,45 +23,45 @@ use Rattle.files.specs.Contents.{polygonsOf}
 use Rattle.calls.specs.Answers.{EqualityAnswer, isDone, isRefused, isSame, isSide, isAnswered, isYes}
 use Rattle.calls.specs.Outcomes.{recordsOf, fractureOutcome, combined, deoverlapOutcome, equalOutcome, containsAnswer}
 
--- "fit as input if row 1 accepts its length and rows 7 to 11 find nothing in its pieces"
-pub record FitLayer (a : List ℤ) : Type 0 where
+-- "fit as input if row 1 accepts its length and rows 7 to 11 find nothing in its pieces", under the limit of the call that made it or takes it
+pub record FitLayer (L : ℕ) (a : List ℤ) : Type 0 where
   pub size : T (sized (length a))
-  pub rows : firstRefusal coordinateLimit 0 (layerOf a) ≡ Passed
+  pub rows : firstRefusal L 0 (layerOf a) ≡ Passed
 
 -- the words that a success of `fracture` wrote
-abbrev pub fracturedLayer : List ℕ → List ℤ → List ℤ → List ℤ
-fracturedLayer file out scratch = recordsOf (fractureOutcome file out scratch .answer) (fractureOutcome file out scratch .out)
+abbrev pub fracturedLayer : ℕ → List ℕ → List ℤ → List ℤ → List ℤ
+fracturedLayer L file out scratch = recordsOf (fractureOutcome L file out scratch .answer) (fractureOutcome L file out scratch .out)
 
 -- they are fit, a rational point lies in them exactly if the winding number of some polygon of the file is not zero there, and every side is a line of an
 -- edge of a polygon of the file
 abbrev pub FractureFileExact : Type 0
 FractureFileExact =
-    (file : List ℕ) (out scratch : List ℤ) → T (isDone (fractureOutcome file out scratch .answer))
-    → FitLayer (fracturedLayer file out scratch)
-    × ((P : Point) → IsPoint P → LiesInLayer P (layerOf (fracturedLayer file out scratch)) ↔ Any (Wound P) (polygonsOf (fileWords file)))
-    × All (SidesOfOne (polygonsOf (fileWords file))) (layerOf (fracturedLayer file out scratch))
+    (L : ℕ) (file : List ℕ) (out scratch : List ℤ) → T (isDone (fractureOutcome L file out scratch .answer))
+    → (0 < L → FitLayer L (fracturedLayer L file out scratch))
+    × ((P : Point) → IsPoint P → LiesInLayer P (layerOf (fracturedLayer L file out scratch)) ↔ Any (Wound P) (polygonsOf (fileWords file)))
+    × All (SidesOfOne (polygonsOf (fileWords file))) (layerOf (fracturedLayer L file out scratch))
 
 -- the words that a success of `combine` wrote
-abbrev pub combinedLayer : ℕ → List ℤ → List ℤ → List ℤ → List ℤ → List ℤ
-combinedLayer code a b out scratch = recordsOf (combined code a b out scratch .answer) (combined code a b out scratch .out)
+abbrev pub combinedLayer : ℕ → ℕ → List ℤ → List ℤ → List ℤ → List ℤ → List ℤ
+combinedLayer L code a b out scratch = recordsOf (combined L code a b out scratch .answer) (combined L code a b out scratch .out)
 
 -- they are fit, and a rational point lies in them exactly if the set words say so, whether the layers are disjoint or not
 abbrev pub CombineExact : Type 0
 CombineExact =
-    (code : ℕ) (a b out scratch : List ℤ) → T (isDone (combined code a b out scratch .answer))
-    → FitLayer (combinedLayer code a b out scratch)
+    (L code : ℕ) (a b out scratch : List ℤ) → T (isDone (combined L code a b out scratch .answer))
+    → FitLayer L (combinedLayer L code a b out scratch)
     × ((P : Point) → IsPoint P → (x y : Bool) → IsYes x (LiesInLayer P (layerOf a)) → IsYes y (LiesInLayer P (layerOf b))
-    → IsYes (says (codeAt code) x y) (LiesInLayer P (layerOf (combinedLayer code a b out scratch))))
+    → IsYes (says (codeAt code) x y) (LiesInLayer P (layerOf (combinedLayer L code a b out scratch))))
 
 -- the words that a success of `deoverlap` wrote
-abbrev pub deoverlappedLayer : List ℤ → List ℤ → List ℤ → List ℤ
-deoverlappedLayer a out scratch = recordsOf (deoverlapOutcome a out scratch .answer) (deoverlapOutcome a out scratch .out)
+abbrev pub deoverlappedLayer : ℕ → List ℤ → List ℤ → List ℤ → List ℤ
+deoverlappedLayer L a out scratch = recordsOf (deoverlapOutcome L a out scratch .answer) (deoverlapOutcome L a out scratch .out)
 
 -- they are fit and disjoint, and hold the same points
 abbrev pub DeoverlapExact : Type 0
 DeoverlapExact =
-    (a out scratch : List ℤ) → T (isDone (deoverlapOutcome a out scratch .answer))
-    → FitLayer (deoverlappedLayer a out scratch) × Disjoint (layerOf (deoverlappedLayer a out scratch)) × SamePoints (layerOf (deoverlappedLayer a out scratch)) (layerOf a)
+    (L : ℕ) (a out scratch : List ℤ) → T (isDone (deoverlapOutcome L a out scratch .answer))
+    → FitLayer L (deoverlappedLayer L a out scratch) × Disjoint (layerOf (deoverlappedLayer L a out scratch)) × SamePoints (layerOf (deoverlappedLayer L a out scratch)) (layerOf a)
 
 -- what an answer of the equality test says of two layers
 pub record Compares (answer : EqualityAnswer) (A B : List Trapezoid) : Type 0 where
@@ -76,10 +75,10 @@ pub record Compares (answer : EqualityAnswer) (A B : List Trapezoid) : Type 0 wh
 -- `equal`, where it is not refused, says that of the layers that it is lent, in this order
 abbrev pub EqualExact : Type 0
 EqualExact =
-    (a b out scratch : List ℤ) → T (not (isRefused (equalOutcome a b out scratch .answer))) → Compares (equalOutcome a b out scratch .answer) (layerOf a) (layerOf b)
+    (L : ℕ) (a b out scratch : List ℤ) → T (not (isRefused (equalOutcome L a b out scratch .answer))) → Compares (equalOutcome L a b out scratch .answer) (layerOf a) (layerOf b)
 
 -- `contains`, where it is not refused, says yes exactly if the set words say that the point lies in the result
 abbrev pub ContainsExact : Type 0
 ContainsExact =
-    (P : Point) (a b : List ℤ) (code : ℕ) → T (isAnswered (containsAnswer P a b code))
-    → (x y : Bool) → IsYes x (LiesInLayer P (layerOf a)) → IsYes y (LiesInLayer P (layerOf b)) → T (isYes (containsAnswer P a b code)) ↔ T (says (codeAt code) x y)
+    (L : ℕ) (P : Point) (a b : List ℤ) (code : ℕ) → T (isAnswered (containsAnswer L P a b code))
+    → (x y : Bool) → IsYes x (LiesInLayer P (layerOf a)) → IsYes y (LiesInLayer P (layerOf b)) → T (isYes (containsAnswer L P a b code)) ↔ T (says (codeAt code) x y)

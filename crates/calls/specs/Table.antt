@@ -17,7 +17,7 @@ use Rattle.overlay.specs.Overlay.{Part, overlay}
 use Rattle.files.specs.Contents.{vertexCodec}
 use Rattle.calls.specs.Components as connectivity
 use Rattle.calls.specs.Answers.{refused, done, same, yes, no}
-use Rattle.calls.specs.Rows.{pointAt}
+use Rattle.calls.specs.Rows.{plateLimit, pointAt}
 use Rattle.calls.specs.Outcomes.{observed, zeros, fractureOutcome, combined, equalOutcome, containsAnswer}
 
 -- ---- squares
@@ -92,26 +92,26 @@ pub record Table : Type 0 where
   -- "(a) Q cut with R: tags 1,1,3,2,2."
   pub a-tags : tags (overlay Q R) ≡ 1 ∷ 1 ∷ 3 ∷ 2 ∷ 2 ∷ []
   -- "(b) Q−R: 2 pieces, 1 cut; space 1 gives 12." Q−R is code 2. At 12 output and scratch area are zero.
-  pub b-counts : combined 2 q r (lent 2) (lent 2) .answer ≡ done 2 1
-  pub b-space : combined 2 q r (lent 1) (lent 1) ≡ observed (refused 12 0) (cleared 1) (cleared 1)
+  pub b-counts : combined plateLimit 2 q r (lent 2) (lent 2) .answer ≡ done 2 1
+  pub b-space : combined plateLimit 2 q r (lent 1) (lent 1) ≡ observed (refused 12 0) (cleared 1) (cleared 1)
   -- "(c) Q∪R: 3 pieces." The union is code 0: Q, then R−Q, which takes 1 cut.
-  pub c-counts : combined 0 q r (lent 3) (lent 3) .answer ≡ done 3 1
+  pub c-counts : combined plateLimit 0 q r (lent 3) (lent 3) .answer ≡ done 3 1
   -- "(d) code 4: 4 pieces, 2 cuts."
-  pub d-counts : combined 4 q r (lent 4) (lent 4) .answer ≡ done 4 2
+  pub d-counts : combined plateLimit 4 q r (lent 4) (lent 4) .answer ≡ done 4 2
   -- "(e) Q and [4,8)×[0,4): tags 1,2, one component." Both get the number 0, in a list that held 7 and 7.
   pub e-tags : tags (overlay Q S) ≡ 1 ∷ 2 ∷ []
-  pub e-components : connectivity.componentsOutcome (layer (Q ∷ S ∷ [])) (7 ∷ 7 ∷ []) ≡ connectivity.observed (connectivity.counted 1) (0 ∷ 0 ∷ [])
+  pub e-components : connectivity.componentsOutcome plateLimit (layer (Q ∷ S ∷ [])) (7 ∷ 7 ∷ []) ≡ connectivity.observed (connectivity.counted 1) (0 ∷ 0 ∷ [])
   -- "(f) (4,0,1) isn't in Q, (0,0,1) is." Asked of the union (code 0) of Q and the empty layer.
-  pub f-outside : containsAnswer (point 4 0 1) q [] 0 ≡ no
-  pub f-inside : containsAnswer (point 0 0 1) q [] 0 ≡ yes
+  pub f-outside : containsAnswer plateLimit (point 4 0 1) q [] 0 ≡ no
+  pub f-inside : containsAnswer plateLimit (point 0 0 1) q [] 0 ≡ yes
   -- "(g) Polygon (0,0),(4,4),(4,0),(0,4): 2 pieces."
-  pub g-counts : fractureOutcome (fileOf bowTie) (lent 2) (lent 2) .answer ≡ done 2 0
+  pub g-counts : fractureOutcome plateLimit (fileOf bowTie) (lent 2) (lent 2) .answer ≡ done 2 0
   -- "(h) (0,0),(2,0),(2,2),(0,2) run through twice: 1 piece."
-  pub h-counts : fractureOutcome (fileOf (square ++ square)) (lent 1) (lent 1) .answer ≡ done 1 0
+  pub h-counts : fractureOutcome plateLimit (fileOf (square ++ square)) (lent 1) (lent 1) .answer ≡ done 1 0
   -- "(i) (2048,2048),(2047,2048),(2048,2047): 1 piece; 2,049 gives 7." The place is polygon 0, and nothing changes.
-  pub i-counts : fractureOutcome (fileOf (cornerFrom 2048 2048)) (lent 1) (lent 1) .answer ≡ done 1 0
-  pub i-beyond-x : fractureOutcome (fileOf (cornerFrom 2049 2048)) (lent 1) (lent 1) ≡ observed (refused 7 0) (lent 1) (lent 1)
-  pub i-beyond-y : fractureOutcome (fileOf (cornerFrom 2048 2049)) (lent 1) (lent 1) ≡ observed (refused 7 0) (lent 1) (lent 1)
+  pub i-counts : fractureOutcome plateLimit (fileOf (cornerFrom 2048 2048)) (lent 1) (lent 1) .answer ≡ done 1 0
+  pub i-beyond-x : fractureOutcome plateLimit (fileOf (cornerFrom 2049 2048)) (lent 1) (lent 1) ≡ observed (refused 7 0) (lent 1) (lent 1)
+  pub i-beyond-y : fractureOutcome plateLimit (fileOf (cornerFrom 2048 2049)) (lent 1) (lent 1) ≡ observed (refused 7 0) (lent 1) (lent 1)
   -- "(j) Empty layers are the same, 0 cuts." Output and scratch area are then zero; they may have no words.
-  pub j-same : equalOutcome [] [] (lent 1) (lent 1) ≡ observed (same 0) (cleared 1) (cleared 1)
-  pub j-no-words : equalOutcome [] [] (lent 0) (lent 0) .answer ≡ same 0
+  pub j-same : equalOutcome plateLimit [] [] (lent 1) (lent 1) ≡ observed (same 0) (cleared 1) (cleared 1)
+  pub j-no-words : equalOutcome plateLimit [] [] (lent 0) (lent 0) .answer ≡ same 0

@@ -1,4 +1,7 @@
-// What the public functions answer.
+// What the public functions answer, and the coordinate limit that they go by.
+
+// Grid coordinates run from -PLATE_LIMIT to PLATE_LIMIT.
+pub const PLATE_LIMIT: u32 = 2048;
 
 // What `fracture` answers: the refusal's number and place, or the trapezoids written and the overlays made, which are none.
 pub enum Fractured {

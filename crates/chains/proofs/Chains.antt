@@ -10,8 +10,8 @@ use Rattle.geometry.specs.Points.{Point, IsPoint}
 use Rattle.geometry.specs.Trapezoids.{layerOf, LiesInLayer, liesInLayer}
 use Rattle.boolean.specs.Statements.{IsYes, SamePoints}
 use Rattle.calls.specs.Statements.{FitLayer}
-use Rattle.chains.specs.Chains.{Layer, layerAt, run, Step, told, evaluate, Call, stepsOf, held, Contracts, entryAt, fed, evaluation, merged}
-use Rattle.chains.specs.Statements.{DisjointLayer, startingTrapezoids, Agree, NeverDiffers, Promised, Joined, EveryChain}
+use Rattle.chains.specs.Chains.{Layer, layerAt, run, limits, Step, told, evaluate, Call, stepsOf, held, Contracts, entryAt, fed, evaluation, merged}
+use Rattle.chains.specs.Statements.{DisjointLayer, startingTrapezoids, Each, Agree, NeverDiffers, Promised, Joined, EveryChain}
 use Rattle.chains.proofs.Steps.{run-disjoint, found-fit}
 use Rattle.chains.proofs.Calls.{held-runs, calls-defined, held-kept}
 use Rattle.chains.proofs.Points.{run-points, evaluate-length}
@@ -51,7 +51,7 @@ promised start disjoint calls h =
       entries = λ ys e. evaluate-length ys start (stepsOf calls) e ∙ ap length (sym are);
       disjoint = subst (All DisjointLayer) (sym are) (run-disjoint start (stepsOf calls) disjoint);
       lines = subst (All (LayerLines (startingTrapezoids start))) (sym are) (run-lines start (stepsOf calls));
-      fit = subst (λ (now : List Layer). All FitLayer (drop (length start) now)) (sym are) (found-fit start (stepsOf calls));
+      fit = subst (λ (now : List Layer). Each FitLayer (limits start (stepsOf calls)) (drop (length start) now)) (sym are) (found-fit start (stepsOf calls));
       same = λ m n. same-exactly (layerAt (held start calls) m) (layerAt (held start calls) n);
       agreed = agreed start calls calls h h;
     }

@@ -1,7 +1,7 @@
 -- The definitions compute: two chains from the layers of Q and of R, the squares of the table, and both as one chain.
 use mathlib.Core.Path.{_≡_, refl}
 use mathlib.Core.Bool.{Bool, true, false}
-use mathlib.Core.List.{List, [], _∷_, map}
+use mathlib.Core.List.{List, [], _∷_, _++_, map}
 use Prim.Native.Nat.{ℕ, _<_}
 use native.Mathlib.Omega.{arith}
 use lib.ListN.{length}
@@ -29,10 +29,10 @@ use Rattle.boolean.specs.Operations.{less, lessAll, difference, common, interse
 use Rattle.boolean.specs.Space.{lessMarks, lessAllMarks, differenceMarks, commonMarks, intersectionMarks, space}
 use Rattle.calls.specs.declared.Combined.{Combined}
 use Rattle.calls.specs.declared.Combined.the-variants.{Refused, Done}
-use Rattle.calls.specs.Rows.{combineChecked}
+use Rattle.calls.specs.Rows.{plateLimit, combineChecked}
 use Rattle.calls.specs.Outcomes.{combined}
 use Rattle.calls.specs.Table.{line, baseAt, layer, q, r, lent, cleared}
-use Rattle.chains.specs.Chains.{Layer, Step, outcomeOf, called, run, Call, stepsOf, held, Contracts, Told, told, evaluate, merged}
+use Rattle.chains.specs.Chains.{Layer, Step, outcomeOf, called, run, limits, Call, stepsOf, held, Contracts, Told, told, evaluate, merged}
 
 -- layers 0 and 1 are Q and R
 abbrev start : List Layer
@@ -52,7 +52,7 @@ q∩r = layer (cell 2 4 (line 2 2 6 2) (line 0 4 4 4) ∷ [])
 -- code, layers A and B, and space for n trapezoids; then the answer, and the words left in the output and the scratch area
 abbrev call : ℕ → ℕ → ℕ → ℕ → Combined → List ℤ → List ℤ → Call
 call code a b n answer out scratch =
-    record { step = record { code = code; first = a; second = b; out = lent n; scratch = lent n }; answer = answer; out = out; scratch = scratch }
+    record { step = record { limit = plateLimit; code = code; first = a; second = b; out = lent n; scratch = lent n }; answer = answer; out = out; scratch = scratch }
 
 -- there is no code 5
 abbrev no-code : Call
@@ -95,6 +95,10 @@ Holds calls results = (held start calls ≡ q ∷ r ∷ results) × (run start (
 abbrev Made : Type 0
 Made = Contracts start one × Contracts start two
 
+-- the limits of the steps that add a result: those of `one`, and then Q less itself under the limit 5, which Q's coordinates reach
+abbrev Limits : Type 0
+Limits = limits start (stepsOf one ++ (record { limit = 5; code = 2; first = 0; second = 0; out = lent 1; scratch = lent 1 } ∷ [])) ≡ plateLimit ∷ 5 ∷ []
+
 -- a number that is the length of a list is not in it
 absent : (n : ℕ) → n < n → ⊥
 absent n h = omega arith
@@ -107,18 +111,19 @@ Numbers =
     × (told start (stepsOf (itself ∷ [])) ≡ tell 2 0 0 true ∷ [])
     × (told start (stepsOf (no-first ∷ no-second ∷ [])) ≡ tell 0 2 0 false ∷ tell 0 0 2 false ∷ [])
 
-chains : Made × Holds one (q-r ∷ []) × Holds two (q∩r ∷ q-r ∷ []) × Holds both (q-r ∷ q∩r ∷ q-r ∷ []) × (told start (stepsOf both) ≡ tells) × Numbers
+chains : Made × Holds one (q-r ∷ []) × Holds two (q∩r ∷ q-r ∷ []) × Holds both (q-r ∷ q∩r ∷ q-r ∷ []) × (told start (stepsOf both) ≡ tells) × Limits × Numbers
 unfolding _⊕_ _⊖_ _⊗_ ⊝_ orderOf before sized recordAt recordsFrom wordsOf insert levels
     onGrid dx dy offset det numer crosses root meet heights rightOf below trapezoidOf trapezoidWords
     lineOnGrid isLine belowBetween shapeVerdict verdict firstRefusal keep spans columns sweep
     commonLeft commonRight crossesInCommon overlapRight overlapFrom overlaps sides crossings events fills tagAbove stack parts subdivision overlay tagged
     less lessAll difference common intersection lessMarks lessAllMarks differenceMarks commonMarks intersectionMarks space
-    combineChecked combined outcomeOf called run held Contracts told
+    combineChecked combined outcomeOf called run limits held Contracts told
 chains = (
   ((λ f g. refl, (λ f g. refl, (λ f g. refl, (λ f g. absurd (absent 3 g), tt)))), (λ f g. refl, (λ f g. refl, tt))),
   (refl, refl),
   (refl, refl),
   (refl, refl),
+  refl,
   refl,
   (
     ((λ f g. refl, tt), (λ f g. absurd (absent 2 f), tt), (λ f g. absurd (absent 2 g), tt)),

@@ -2,12 +2,12 @@
 use mathlib.Core.Path.{sym, subst}
 use mathlib.Core.List.{List, [], _∷_, _++_}
 use mathlib.Core.Logic.{inl, inr}
+use Prim.Native.Nat.{ℕ}
 use Rattle.lists.specs.Lists.{All, Member}
 use Rattle.lists.proofs.Lists.{all-append, all-map, any-left, any-right, any-elim}
 use Rattle.lists.proofs.Members.{all-member, members}
 use Rattle.geometry.specs.declared.Line.{Line}
 use Rattle.geometry.specs.declared.Trapezoid.{Trapezoid}
-use Rattle.geometry.specs.Limit.{coordinateLimit}
 use Rattle.geometry.specs.Trapezoids.{linesOf, layerOf}
 use Rattle.boolean.specs.Operations.{Code, result}
 use Rattle.boolean.specs.Statements.{LineOf, LinesFrom}
@@ -35,12 +35,12 @@ lines-trans us ts vs h k =
 abbrev pub LayerLines : List Trapezoid → Layer → Type 0
 LayerLines us A = LinesFrom us (layerOf A)
 
-result-lines-from : (us : List Trapezoid) (c : Code) (A B C : Layer) → Accepted c A B C → LayerLines us A → LayerLines us B → LayerLines us C
-result-lines-from us c A B C h hA hB =
+result-lines-from : (us : List Trapezoid) (L : ℕ) (c : Code) (A B C : Layer) → Accepted L c A B C → LayerLines us A → LayerLines us B → LayerLines us C
+result-lines-from us L c A B C h hA hB =
     subst (LinesFrom us) (sym (h .is))
     (lines-trans us (layerOf A ++ layerOf B) (result c (layerOf A) (layerOf B))
     (all-append (HasLines us) (layerOf A) (layerOf B) hA hB)
-    (result-lines coordinateLimit (layerOf A) (layerOf B) (h .first) (h .second) c))
+    (result-lines L (layerOf A) (layerOf B) (h .first) (h .second) c))
 
 -- ---- the starting layers
 own-lines : (us ts : List Trapezoid) → ((l : Line) → LineOf ts l → LineOf us l) → LinesFrom us ts

@@ -6,7 +6,6 @@ use Prim.Native.Nat.{ℕ, zero, suc, _+_}
 use lib.Dec.{T}
 use lib.ListN.{length, length-append}
 use Rattle.records.specs.Records.{recordsFrom}
-use Rattle.geometry.specs.Limit.{coordinateLimit}
 use Rattle.geometry.specs.Points.{Point, IsPoint}
 use Rattle.geometry.specs.declared.Trapezoid.{Trapezoid}
 use Rattle.geometry.specs.Trapezoids.{layerOf, LiesInLayer}
@@ -53,7 +52,7 @@ module _ (P : Point) (hP : IsPoint P) where
   tells-result ys layers s h t =
       let k = success-gives layers s t .call in
       subst (λ (ts : List Trapezoid). IsYes (said ys (toldOf s (succeeds layers s))) (LiesInLayer P ts)) (sym (k .is))
-      (result-exact coordinateLimit (layerOf (layerAt layers (s .first))) (layerOf (layerAt layers (s .second))) (k .first) (k .second) P hP (codeAt (s .code)) (entryAt ys (s .first)) (entryAt ys (s .second))
+      (result-exact (s .limit) (layerOf (layerAt layers (s .first))) (layerOf (layerAt layers (s .second))) (k .first) (k .second) P hP (codeAt (s .code)) (entryAt ys (s .first)) (entryAt ys (s .second))
       (tells-at P ys layers h (s .first))
       (tells-at P ys layers h (s .second)))
 

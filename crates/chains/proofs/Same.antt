@@ -13,9 +13,9 @@ use Rattle.chains.specs.Statements.{SameExactly, NeverDiffers}
 
 pub same-exactly : (A B : Layer) → SameExactly A B
 same-exactly A B t h k =
-    let e : equalityAnswer (t .answer) ≡ equalOutcome A B (t .out) (t .scratch) .answer = ap (λ (o : Outcome EqualityAnswer). o .answer) h in
+    let e : equalityAnswer (t .answer) ≡ equalOutcome (t .limit) A B (t .out) (t .scratch) .answer = ap (λ (o : Outcome EqualityAnswer). o .answer) h in
     subst (λ (answer : EqualityAnswer). Compares answer (layerOf A) (layerOf B)) (sym e)
-    (equal-exact A B (t .out) (t .scratch) (subst (λ (answer : EqualityAnswer). T (not (isRefused answer))) e k))
+    (equal-exact (t .limit) A B (t .out) (t .scratch) (subst (λ (answer : EqualityAnswer). T (not (isRefused answer))) e k))
 
 -- layers with the same points
 pub never-differs : (A B : Layer) → SamePoints (layerOf A) (layerOf B) → NeverDiffers A B

@@ -2,27 +2,27 @@
 use mathlib.Core.Path.{_≡_, sym, _∙_, ap, subst}
 use mathlib.Core.Bool.{Bool, true, false}
 use mathlib.Core.List.{List, [], _∷_, _++_, append-assoc, append-nil}
+use Prim.Native.Nat.{ℕ}
 use lib.Dec.{T}
 use lib.ListN.{length, drop}
 use lib.Seq.{drop-append-seam}
 use Rattle.lists.specs.Lists.{All}
 use Rattle.lists.proofs.Lists.{all-append, all-at}
-use Rattle.geometry.specs.Limit.{coordinateLimit}
 use Rattle.geometry.specs.Trapezoids.{Disjoint, layerOf}
 use Rattle.boolean.specs.Operations.{Code, codeAt}
 use Rattle.boolean.proofs.Results.{result-disjoint}
 use Rattle.calls.specs.Statements.{FitLayer}
 use Rattle.calls.proofs.Success.{Accepted}
-use Rattle.chains.specs.Chains.{Layer, layerAt, Step, succeeds, added, resultOf, stepped, run}
-use Rattle.chains.specs.Statements.{DisjointLayer}
+use Rattle.chains.specs.Chains.{Layer, layerAt, Step, succeeds, added, resultOf, stepped, run, limits}
+use Rattle.chains.specs.Statements.{DisjointLayer, Each}
 use Rattle.chains.proofs.Success.{success-gives}
 
 -- ---- what holds of each starting layer, and of each result of layers that it holds of, holds of each layer
-module _ (R : Layer → Type 0) (keeps : (c : Code) (A B C : Layer) → Accepted c A B C → R A → R B → R C) where
+module _ (R : Layer → Type 0) (keeps : (L : ℕ) (c : Code) (A B C : Layer) → Accepted L c A B C → R A → R B → R C) where
   result-keeps : (layers : List Layer) (s : Step) → All R layers → T (succeeds layers s) → R (resultOf layers s)
   result-keeps layers s h t =
       let k = success-gives layers s t in
-      keeps (codeAt (s .code)) (layerAt layers (s .first)) (layerAt layers (s .second)) (resultOf layers s) (k .call) (all-at R layers (s .first) [] h (k .first)) (all-at R layers (s .second) [] h (k .second))
+      keeps (s .limit) (codeAt (s .code)) (layerAt layers (s .first)) (layerAt layers (s .second)) (resultOf layers s) (k .call) (all-at R layers (s .first) [] h (k .first)) (all-at R layers (s .second) [] h (k .second))
 
   stepped-keeps : (layers : List Layer) (s : Step) → All R layers → All R (stepped layers s)
   stepped-keeps layers s h = go (succeeds layers s) (result-keeps layers s h)
@@ -39,26 +39,26 @@ module _ (R : Layer → Type 0) (keeps : (c : Code) (A B C : Layer) → Accepted
 pub run-disjoint : (start : List Layer) (steps : List Step) → All DisjointLayer start → All DisjointLayer (run start steps)
 run-disjoint =
     run-keeps DisjointLayer
-    (λ c A B C h dA dB. subst Disjoint (sym (h .is)) (result-disjoint coordinateLimit (layerOf A) (layerOf B) (h .first) (h .second) dA dB c))
+    (λ L c A B C h dA dB. subst Disjoint (sym (h .is)) (result-disjoint L (layerOf A) (layerOf B) (h .first) (h .second) dA dB c))
 
 -- ---- the results
 -- the layers past the starting ones
 abbrev pub found : List Layer → List Step → List Layer
 found start steps = drop (length start) (run start steps)
 
--- layers added to a list, with all that there are then
-record Grown (layers now : List Layer) : Type 0 where
+-- layers added to a list under these limits, with all that there are then
+record Grown (layers now : List Layer) (under : List ℕ) : Type 0 where
   more : List Layer
   is : now ≡ layers ++ more
-  fit : All FitLayer more
+  fit : Each FitLayer under more
 
-run-grows : (layers : List Layer) (steps : List Step) → Grown layers (run layers steps)
-unfolding run
+run-grows : (layers : List Layer) (steps : List Step) → Grown layers (run layers steps) (limits layers steps)
+unfolding run limits
 run-grows layers [] = record { more = []; is = sym (append-nil layers); fit = tt }
 run-grows layers (s ∷ steps) = go (succeeds layers s) (λ t. success-gives layers s t .call .fit) (λ b. run-grows (added b layers (resultOf layers s)) steps)
   where
-    go : (b : Bool) → (T b → FitLayer (resultOf layers s)) → ((d : Bool) → Grown (added d layers (resultOf layers s)) (run (added d layers (resultOf layers s)) steps))
-        → Grown layers (run (added b layers (resultOf layers s)) steps)
+    go : (b : Bool) → (T b → FitLayer (s .limit) (resultOf layers s)) → ((d : Bool) → Grown (added d layers (resultOf layers s)) (run (added d layers (resultOf layers s)) steps) (limits (added d layers (resultOf layers s)) steps))
+        → Grown layers (run (added b layers (resultOf layers s)) steps) (added b [] (s .limit) ++ limits (added b layers (resultOf layers s)) steps)
     go true f g =
         record {
           more = resultOf layers s ∷ g true .more;
@@ -73,5 +73,5 @@ found-are start steps = ap (drop (length start)) (run-grows start steps .is) ∙
 pub run-kept : (start : List Layer) (steps : List Step) → run start steps ≡ start ++ found start steps
 run-kept start steps = run-grows start steps .is ∙ ap (λ (more : List Layer). start ++ more) (sym (found-are start steps))
 
-pub found-fit : (start : List Layer) (steps : List Step) → All FitLayer (found start steps)
-found-fit start steps = subst (All FitLayer) (sym (found-are start steps)) (run-grows start steps .fit)
+pub found-fit : (start : List Layer) (steps : List Step) → Each FitLayer (limits start steps) (found start steps)
+found-fit start steps = subst (Each FitLayer (limits start steps)) (sym (found-are start steps)) (run-grows start steps .fit)

@@ -24,7 +24,7 @@ kept-called layers c h t = let k = called-exact layers (c .step) .0 t in h (k .0
 pub record Succeeds (layers : List Layer) (s : Step) : Type 0 where
   pub first : s .first < length layers
   pub second : s .second < length layers
-  pub call : Accepted (codeAt (s .code)) (layerAt layers (s .first)) (layerAt layers (s .second)) (resultOf layers s)
+  pub call : Accepted (s .limit) (codeAt (s .code)) (layerAt layers (s .first)) (layerAt layers (s .second)) (resultOf layers s)
 
 pub success-gives : (layers : List Layer) (s : Step) → T (succeeds layers s) → Succeeds layers s
 unfolding outcomeOf
@@ -34,5 +34,5 @@ success-gives layers s t =
     record {
       first = k .0;
       second = k .1;
-      call = combined-accepted (s .code) (layerAt layers (s .first)) (layerAt layers (s .second)) (s .out) (s .scratch) (h .1);
+      call = combined-accepted (s .limit) (s .code) (layerAt layers (s .first)) (layerAt layers (s .second)) (s .out) (s .scratch) (h .1);
     }

@@ -24,8 +24,9 @@ abbrev pub layerAt : List Layer → ℕ → Layer
 layerAt layers n = getD layers n []
 
 -- "A step is one call of a set operation: a code, the numbers of its layers A and B, which may be equal, and an output and work area of its own."
--- Output and scratch area are the words that they hold before.
+-- Output and scratch area are the words that they hold before; the limit is the coordinate limit that the call goes by.
 pub record Step : Type 0 where
+  pub limit : ℕ
   pub code : ℕ
   pub first : ℕ
   pub second : ℕ
@@ -35,7 +36,7 @@ pub record Step : Type 0 where
 -- ---- success, by the definition
 -- "It is lent A and B as the list holds them."
 unfoldable pub outcomeOf : List Layer → Step → Outcome Answer
-outcomeOf layers s = combined (s .code) (layerAt layers (s .first)) (layerAt layers (s .second)) (s .out) (s .scratch)
+outcomeOf layers s = combined (s .limit) (s .code) (layerAt layers (s .first)) (layerAt layers (s .second)) (s .out) (s .scratch)
 
 -- "A step naming a number not in the list isn't called and adds nothing."
 unfoldable pub called : List Layer → Step → Bool
@@ -66,6 +67,11 @@ unfoldable pub run : List Layer → List Step → List Layer
 run layers [] = layers
 run layers (s ∷ steps) = run (stepped layers s) steps
 
+-- the limit of each step that adds a result
+unfoldable pub limits : List Layer → List Step → List ℕ
+limits layers [] = []
+limits layers (s ∷ steps) = added (succeeds layers s) [] (s .limit) ++ limits (stepped layers s) steps
+
 -- ---- calls that were made
 -- a step, what its call answered, and the words that its output and scratch area held then
 pub record Call : Type 0 where
@@ -80,7 +86,7 @@ stepsOf calls = map (λ (c : Call). c .step) calls
 -- the contract of `combine`, of a call on these layers
 abbrev pub Kept : List Layer → Call → Type 0
 Kept layers c =
-    CombineKept (c .step .code) (layerAt layers (c .step .first)) (layerAt layers (c .step .second)) (c .step .out) (c .step .scratch) (c .answer) (c .out) (c .scratch)
+    CombineKept (c .step .limit) (c .step .code) (layerAt layers (c .step .first)) (layerAt layers (c .step .second)) (c .step .out) (c .step .scratch) (c .answer) (c .out) (c .scratch)
 
 -- where both its numbers are in the list, so that the call was made
 abbrev pub KeptIfCalled : List Layer → Call → Type 0
@@ -148,7 +154,7 @@ raised starting count n = cond (ltb n starting) n (n + count)
 
 abbrev pub renumberedStep : ℕ → ℕ → Step → Step
 renumberedStep starting count s =
-    record { code = s .code; first = raised starting count (s .first); second = raised starting count (s .second); out = s .out; scratch = s .scratch }
+    record { limit = s .limit; code = s .code; first = raised starting count (s .first); second = raised starting count (s .second); out = s .out; scratch = s .scratch }
 
 abbrev pub renumbered : ℕ → ℕ → Call → Call
 renumbered starting count c = record { step = renumberedStep starting count (c .step); answer = c .answer; out = c .out; scratch = c .scratch }
@@ -158,8 +164,9 @@ abbrev pub merged : List Layer → List Call → List Call → List Call
 merged start one two = one ++ map (renumbered (length start) (length (results start one))) two
 
 -- ---- the equality test
--- "The sameness test has an output and work area of its own too." What they hold before and then, and what it answered
+-- "The sameness test has an output and work area of its own too." The coordinate limit that it goes by, what they hold before and then, and what it answered
 pub record Test : Type 0 where
+  pub limit : ℕ
   pub out : List ℤ
   pub scratch : List ℤ
   pub answer : Equality
@@ -168,4 +175,4 @@ pub record Test : Type 0 where
 
 -- the contract of `equal`, of a test of two layers
 abbrev pub Tested : Layer → Layer → Test → Type 0
-Tested A B t = EqualKept A B (t .out) (t .scratch) (t .answer) (t .out-then) (t .scratch-then)
+Tested A B t = EqualKept (t .limit) A B (t .out) (t .scratch) (t .answer) (t .out-then) (t .scratch-then)

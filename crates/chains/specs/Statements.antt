@@ -12,7 +12,7 @@ use Rattle.geometry.specs.Trapezoids.{layerOf, LiesInLayer, Disjoint}
 use Rattle.boolean.specs.Statements.{IsYes, LinesFrom}
 use Rattle.calls.specs.Answers.{equalityAnswer, isRefused, isSame}
 use Rattle.calls.specs.Statements.{FitLayer, Compares}
-use Rattle.chains.specs.Chains.{Layer, layerAt, Step, stepped, run, Call, stepsOf, KeptIfCalled, held, results, Contracts, entryAt, fed, evaluation, raised, merged, Test, Tested}
+use Rattle.chains.specs.Chains.{Layer, layerAt, Step, stepped, run, limits, Call, stepsOf, KeptIfCalled, held, results, Contracts, entryAt, fed, evaluation, raised, merged, Test, Tested}
 
 -- of a layer's words: no rational point lies in two of its trapezoids
 abbrev pub DisjointLayer : Layer → Type 0
@@ -42,6 +42,13 @@ SameExactly A B = (t : Test) → Tested A B t → T (not (isRefused (equalityAns
 abbrev pub NeverDiffers : Layer → Layer → Type 0
 NeverDiffers A B = (t : Test) → Tested A B t → T (not (isRefused (equalityAnswer (t .answer)))) → T (isSame (equalityAnswer (t .answer)))
 
+-- R holds of the first of both lists, of the second of both, and so on; they are equally long
+abbrev pub Each : {A B : Type 0} → (A → B → Type 0) → List A → List B → Type 0
+Each R [] [] = Unit {0}
+Each R [] (y ∷ ys) = ⊥
+Each R (x ∷ xs) [] = ⊥
+Each R (x ∷ xs) (y ∷ ys) = R x y × Each R xs ys
+
 -- all that is promised of a chain
 pub record Promised (start : List Layer) (calls : List Call) : Type 0 where
   -- every call answers and writes what paper 01 defines, and so the layers held are those that it defines
@@ -56,8 +63,8 @@ pub record Promised (start : List Layer) (calls : List Call) : Type 0 where
   pub disjoint : All DisjointLayer (held start calls)
   -- every line in a held layer is a line of a starting trapezoid, word for word
   pub lines : All (λ (A : Layer). LinesFrom (startingTrapezoids start) (layerOf A)) (held start calls)
-  -- no result is unfit as input
-  pub fit : All FitLayer (results start calls)
+  -- no result is unfit as input, under the limit of the call that made it
+  pub fit : Each FitLayer (limits start (stepsOf calls)) (results start calls)
   -- the equality test between any two held layers
   pub same : (m n : ℕ) → SameExactly (layerAt (held start calls) m) (layerAt (held start calls) n)
   pub agreed : (m n : ℕ) → Agree start calls calls m n → NeverDiffers (layerAt (held start calls) m) (layerAt (held start calls) n)

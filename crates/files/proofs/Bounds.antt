@@ -8,12 +8,13 @@ use native.Mathlib.Omega.{arith}
 use lib.Dec.{eqb}
 use lib.ListN.{length, length-drop}
 use lib.IntN.{ℤ}
+use Rattle.lists.proofs.Lists.{all-map}
 use Rattle.records.specs.Records.{Codec, count}
 use Rattle.records.proofs.Records.{length-from}
 use Rattle.geometry.specs.declared.Trapezoid.{Trapezoid}
 use Rattle.geometry.specs.declared.Checked.the-variants.{Passed}
-use Rattle.geometry.specs.Limit.{coordinateLimit}
 use Rattle.geometry.specs.Fitness.{pass, firstRefusal}
+use Rattle.geometry.proofs.Fitness.{layer-exact, fit-more}
 use Rattle.files.specs.declared.Format.{Format}
 use Rattle.files.specs.declared.Number.{Number}
 use Rattle.files.specs.declared.Number.the-variants.{Of, Outside}
@@ -57,11 +58,11 @@ module _ (f : Format) (ws : List ℤ) where
 
 -- ---- layers
 -- that pass rows 5 to 11
-pub record Passes (f : Format) (C : Codec ℤ Trapezoid) (ws : List ℤ) : Type 0 where
+pub record Passes (L : ℕ) (f : Format) (C : Codec ℤ Trapezoid) (ws : List ℤ) : Type 0 where
   pub pairs : ℕ
   pub total : ℕ
   pub found : directoryOf f ws ≡ Right pairs total
-  pub fit : firstRefusal coordinateLimit 0 (unitsOf C ws) ≡ Passed
+  pub fit : firstRefusal L 0 (unitsOf C ws) ≡ Passed
 
 -- the units of the body, from the number of words and the count
 pub units-count : {A : Type 0} (C : Codec ℤ A) (ws : List ℤ) {words n : ℕ} → length ws ≡ words → n ≡ countIn ws → (words - (2 * n + 1)) / C .width ≡ length (unitsOf C ws)
@@ -73,15 +74,23 @@ units-are f C ws {n} {total} w p h =
     let l : length (bodyOf ws) ≡ f .unit * total = length-drop (2 * countIn ws + 1) ws ∙ (let e : length ws - (2 * countIn ws + 1) ≡ f .unit * total = omega (arith, h .end, count-in h) in e) in
     length-from C (count C (bodyOf ws)) (bodyOf ws) 0 ∙ (λ j. l j / w j) ∙ mul-div-cancel-left total p
 
-module _ (f : Format) (C : Codec ℤ Trapezoid) (ws : List ℤ) where
-  pub passes : layersChecked f C ws ≡ Passed → Passes f C ws
+module _ (L : ℕ) (f : Format) (C : Codec ℤ Trapezoid) (ws : List ℤ) where
+  pub passes : layersChecked L f C ws ≡ Passed → Passes L f C ws
   unfolding layersChecked
   passes e = go (directoryOf f ws) refl e
     where
-      go : (d : Directory) → directoryOf f ws ≡ d → directoryRows d (firstRefusal coordinateLimit 0 (unitsOf C ws)) ≡ Passed → Passes f C ws
+      go : (d : Directory) → directoryOf f ws ≡ d → directoryRows d (firstRefusal L 0 (unitsOf C ws)) ≡ Passed → Passes L f C ws
       go (Wrong number place) p e = let z : _≡_ {A = ℕ} 0 1 = cc in absurd (omega arith)
       go (Right n total) p e = record { pairs = n; total = total; found = p; fit = e }
 
+  -- under a larger limit too
+  pub passes-more : layersChecked L f C ws ≡ Passed → (M : ℕ) → L ≤ M → layersChecked M f C ws ≡ Passed
+  unfolding layersChecked
+  passes-more e M l =
+      let h = passes e in
+      let fit = all-map (λ (t : Trapezoid). fit-more L M t l) (unitsOf C ws) (layer-exact L 0 (unitsOf C ws) .0 (h .fit)) in
+      rw (h .found) (layer-exact M 0 (unitsOf C ws) .1 fit)
+
   module _ (w : C .width ≡ f .unit) (p : 0 < f .unit) where
-    pub units-bound : layersChecked f C ws ≡ Passed → length (unitsOf C ws) ≤ f .total
+    pub units-bound : layersChecked L f C ws ≡ Passed → length (unitsOf C ws) ≤ f .total
     units-bound e = let h = passes e in let r = right f ws (h .found) in omega (arith, units-are f C ws w p r, r .units)

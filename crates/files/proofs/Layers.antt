@@ -8,7 +8,6 @@ use lib.IntN.{ℤ}
 use Rattle.records.specs.Records.{Codec, records}
 use Rattle.geometry.specs.declared.Trapezoid.{Trapezoid}
 use Rattle.geometry.specs.declared.Checked.the-variants.{Refused}
-use Rattle.geometry.specs.Limit.{coordinateLimit}
 use Rattle.geometry.specs.Fitness.{firstRefusal}
 use Rattle.files.specs.declared.Format.{Format}
 use Rattle.files.specs.declared.Directory.the-variants.{Wrong, Right}
@@ -27,12 +26,12 @@ layer-modest = record { unit = omega arith; count = omega arith; total = omega a
 pub memory-modest : Modest layerWords
 memory-modest = record { unit = omega arith; count = omega arith; total = omega arith }
 
-module _ (f : Format) (C : Codec ℤ Trapezoid) (ws : List ℤ) where
-  pub layers-wrong : {number place : ℕ} → directoryOf f ws ≡ Wrong number place → Refused number place ≡ layersChecked f C ws
+module _ (L : ℕ) (f : Format) (C : Codec ℤ Trapezoid) (ws : List ℤ) where
+  pub layers-wrong : {number place : ℕ} → directoryOf f ws ≡ Wrong number place → Refused number place ≡ layersChecked L f C ws
   unfolding layersChecked
   layers-wrong e = rw e
 
   pub layers-right : {n total : ℕ} → directoryOf f ws ≡ Right n total → {body : List ℤ} → body ≡ drop (2 * n + 1) ws
-      → firstRefusal coordinateLimit 0 (records C body) ≡ layersChecked f C ws
+      → firstRefusal L 0 (records C body) ≡ layersChecked L f C ws
   unfolding layersChecked
-  layers-right e {body} p = rw e (ap (λ (b : List ℤ). firstRefusal coordinateLimit 0 (records C b)) (p ∙ ap (λ (k : ℕ). drop (2 * k + 1) ws) (sym (count-in (right f ws e)))))
+  layers-right e {body} p = rw e (ap (λ (b : List ℤ). firstRefusal L 0 (records C b)) (p ∙ ap (λ (k : ℕ). drop (2 * k + 1) ws) (sym (count-in (right f ws e)))))

@@ -16,14 +16,14 @@ use Rattle.records.proofs.Words.{words-faithful}
 use Rattle.geometry.specs.declared.Checked.{Checked}
 use Rattle.geometry.specs.declared.Checked.the-variants.{Passed, Refused}
 use Rattle.geometry.specs.Trapezoids.{trapezoidCodec}
-use Rattle.files.specs.Formats.{fileSized, fileWords, layerWords}
+use Rattle.files.specs.Formats.{fileSized, fileWords, layerFile, layerWords}
 use Rattle.files.specs.Contents.{unitsOf, fileCodec, layersOf, fileLayersOf}
 use Rattle.files.specs.Rows.{layerFileChecked, layerWordsChecked}
 use Rattle.files.specs.Outcomes.{Outcome, done, isDone, observed, placed, outcome, readLayers, writeLayers}
-use Rattle.files.specs.Statements.{bytesWritten, wordsRead, WrittenReads, ReadWrites}
+use Rattle.files.specs.Statements.{bytesWritten, wordsRead, WordsHold, WrittenReads, ReadWrites}
 use Rattle.files.proofs.Reading.{length-file}
 use Rattle.files.proofs.Right.{right}
-use Rattle.files.proofs.Bounds.{passes}
+use Rattle.files.proofs.Bounds.{passes, passes-more}
 use Rattle.files.proofs.Answers.{done-is}
 use Rattle.files.proofs.Calls.{file-passes, length-bytes}
 use Rattle.files.proofs.WordSizes.{words-passed}
@@ -38,39 +38,39 @@ outcome-done Passed z pieces content out h = (refl, go (leb (length content) (le
     go false e h = absurd h
 
 -- what a success of the reader and of the writer is
-module _ (bs : List ℕ) (out : List ℤ) (e : layerFileChecked bs ≡ Passed) (h : length (fileWords bs) ≤ length out) where
-  read-is : observed (done (length (unitsOf fileCodec (fileWords bs))) 0) (fileWords bs ++ replicate (length out - length (fileWords bs)) (pos 0)) ≡ readLayers bs out
+module _ (L : ℕ) (bs : List ℕ) (out : List ℤ) (e : layerFileChecked L bs ≡ Passed) (h : length (fileWords bs) ≤ length out) where
+  read-is : observed (done (length (unitsOf fileCodec (fileWords bs))) 0) (fileWords bs ++ replicate (length out - length (fileWords bs)) (pos 0)) ≡ readLayers L bs out
   unfolding readLayers
   read-is = done-is (pos 0) (length (unitsOf fileCodec (fileWords bs))) (fileWords bs) out e h
 
-  pub read-words : wordsRead bs out ≡ fileWords bs
+  pub read-words : wordsRead L bs out ≡ fileWords bs
   read-words =
       ap (λ (o : Outcome ℤ). take (length bs / 4) (o .out)) (sym read-is)
       ∙ take-at (fileWords bs) (replicate (length out - length (fileWords bs)) (pos 0)) (length bs / 4) (length-file bs)
 
-module _ (ws : List ℤ) (out : List ℕ) (e : layerWordsChecked ws ≡ Passed) (h : length (wordsOf wordCodec ws) ≤ length out) where
-  pub write-is : observed (done (length (unitsOf trapezoidCodec ws)) 0) (wordsOf wordCodec ws ++ replicate (length out - length (wordsOf wordCodec ws)) 0) ≡ writeLayers ws out
+module _ (L : ℕ) (ws : List ℤ) (out : List ℕ) (e : layerWordsChecked L ws ≡ Passed) (h : length (wordsOf wordCodec ws) ≤ length out) where
+  pub write-is : observed (done (length (unitsOf trapezoidCodec ws)) 0) (wordsOf wordCodec ws ++ replicate (length out - length (wordsOf wordCodec ws)) 0) ≡ writeLayers L ws out
   unfolding writeLayers
   write-is = done-is 0 (length (unitsOf trapezoidCodec ws)) (wordsOf wordCodec ws) out e h
 
-  write-bytes : bytesWritten ws out ≡ wordsOf wordCodec ws
+  write-bytes : bytesWritten L ws out ≡ wordsOf wordCodec ws
   write-bytes =
       ap (λ (o : Outcome ℕ). take (4 * length ws) (o .out)) (sym write-is)
       ∙ take-at (wordsOf wordCodec ws) (replicate (length out - length (wordsOf wordCodec ws)) 0) (4 * length ws) (length-bytes ws)
 
-pub read-passed : (bs : List ℕ) (out : List ℤ) → T (isDone (readLayers bs out .answer)) → (layerFileChecked bs ≡ Passed) × (length (fileWords bs) ≤ length out)
+pub read-passed : (L : ℕ) (bs : List ℕ) (out : List ℤ) → T (isDone (readLayers L bs out .answer)) → (layerFileChecked L bs ≡ Passed) × (length (fileWords bs) ≤ length out)
 unfolding readLayers
-read-passed bs out h = outcome-done (layerFileChecked bs) (pos 0) (length (unitsOf fileCodec (fileWords bs))) (fileWords bs) out h
+read-passed L bs out h = outcome-done (layerFileChecked L bs) (pos 0) (length (unitsOf fileCodec (fileWords bs))) (fileWords bs) out h
 
-pub write-passed : (ws : List ℤ) (out : List ℕ) → T (isDone (writeLayers ws out .answer)) → (layerWordsChecked ws ≡ Passed) × (length (wordsOf wordCodec ws) ≤ length out)
+pub write-passed : (L : ℕ) (ws : List ℤ) (out : List ℕ) → T (isDone (writeLayers L ws out .answer)) → (layerWordsChecked L ws ≡ Passed) × (length (wordsOf wordCodec ws) ≤ length out)
 unfolding writeLayers
-write-passed ws out h = outcome-done (layerWordsChecked ws) 0 (length (unitsOf trapezoidCodec ws)) (wordsOf wordCodec ws) out h
+write-passed L ws out h = outcome-done (layerWordsChecked L ws) 0 (length (unitsOf trapezoidCodec ws)) (wordsOf wordCodec ws) out h
 
 -- ---- words that pass are a file that passes
-size-fits : (ws : List ℤ) → layerWordsChecked ws ≡ Passed → fileSized (length (wordsOf wordCodec ws)) ≡ true
+size-fits : (L : ℕ) (ws : List ℤ) → layerWordsChecked L ws ≡ Passed → fileSized (length (wordsOf wordCodec ws)) ≡ true
 unfolding fileSized
-size-fits ws e =
-    let r = right layerWords ws (passes layerWords trapezoidCodec ws e .found) in
+size-fits L ws e =
+    let r = right layerWords ws (passes L layerWords trapezoidCodec ws e .found) in
     let b = length-bytes ws in
     rw (
       eq-eqb (length (wordsOf wordCodec ws) % 4) 0 (omega (arith, b)),
@@ -78,27 +78,27 @@ size-fits ws e =
       le-leb (length (wordsOf wordCodec ws)) 65532 (omega (arith, b, r .end, r .most, r .units)),
     )
 
-module _ (ws : List ℤ) (e : layerWordsChecked ws ≡ Passed) where
+module _ (L : ℕ) (hold : WordsHold L) (ws : List ℤ) (e : layerWordsChecked L ws ≡ Passed) where
   back : fileWords (wordsOf wordCodec ws) ≡ ws
-  back = records-words wordCodec words-faithful ws (words-passed ws e)
+  back = records-words wordCodec words-faithful ws (words-passed L hold ws e)
 
-  written-passes : layerFileChecked (wordsOf wordCodec ws) ≡ Passed
+  written-passes : (M : ℕ) → L ≤ M → layerFileChecked M (wordsOf wordCodec ws) ≡ Passed
   unfolding layerFileChecked
-  written-passes = rw (size-fits ws e, back) e
+  written-passes M l = rw (size-fits L ws e, back) (passes-more L layerWords trapezoidCodec ws e M l)
 
 pub written-reads : WrittenReads
-written-reads ws out into d l =
-    let p = write-passed ws out d in
-    let b = write-bytes ws out (p .0) (p .1) in
-    let w = back ws (p .0) in
-    let c = written-passes ws (p .0) in
+written-reads L M hold m ws out into d l =
+    let p = write-passed L ws out d in
+    let b = write-bytes L ws out (p .0) (p .1) in
+    let w = back L hold ws (p .0) in
+    let c = written-passes L hold ws (p .0) M m in
     let h : length (fileWords (wordsOf wordCodec ws)) ≤ length into = omega (arith, ap length w) in
-    let answers : readLayers (wordsOf wordCodec ws) into .answer ≡ writeLayers ws out .answer
-    = ap (λ (o : Outcome ℤ). o .answer) (sym (read-is (wordsOf wordCodec ws) into c h))
+    let answers : readLayers M (wordsOf wordCodec ws) into .answer ≡ writeLayers L ws out .answer
+    = ap (λ (o : Outcome ℤ). o .answer) (sym (read-is M (wordsOf wordCodec ws) into c h))
     ∙ ap (λ (t : List ℤ). done (length (unitsOf fileCodec t)) 0) w
-    ∙ ap (λ (o : Outcome ℕ). o .answer) (write-is ws out (p .0) (p .1)) in (
-      ap (λ (t : List ℕ). readLayers t into .answer) b ∙ answers,
-      ap (λ (t : List ℕ). wordsRead t into) b ∙ read-words (wordsOf wordCodec ws) into c h ∙ w,
+    ∙ ap (λ (o : Outcome ℕ). o .answer) (write-is L ws out (p .0) (p .1)) in (
+      ap (λ (t : List ℕ). readLayers M t into .answer) b ∙ answers,
+      ap (λ (t : List ℕ). wordsRead M t into) b ∙ read-words M (wordsOf wordCodec ws) into c h ∙ w,
       ap (λ (t : List ℕ). fileLayersOf (fileWords t)) b ∙ ap fileLayersOf w,
     )
 
@@ -112,15 +112,16 @@ whole bs e = go (eqb (length bs % 4) 0) refl e
     go false p e = let z : _≡_ {A = ℕ} 0 1 = cc in absurd (omega arith)
 
 pub read-writes : ReadWrites
-read-writes bs out into g d l =
-    let p = read-passed bs out d in
-    let q = file-passes bs (p .0) in
-    let w = read-words bs out (p .0) (p .1) in
+read-writes L M m bs out into g d l =
+    let p = read-passed L bs out d in
+    let q = file-passes L bs (p .0) in
+    let c = passes-more L layerFile fileCodec (fileWords bs) (q .1) M m in
+    let w = read-words L bs out (p .0) (p .1) in
     let b = words-records wordCodec words-faithful bs (length bs / 4) (whole bs (q .0)) g in
     let h : length (wordsOf wordCodec (fileWords bs)) ≤ length into = omega (arith, ap length b) in
-    let answers : writeLayers (fileWords bs) into .answer ≡ readLayers bs out .answer
-    = ap (λ (o : Outcome ℕ). o .answer) (sym (write-is (fileWords bs) into (q .1) h)) ∙ ap (λ (o : Outcome ℤ). o .answer) (read-is bs out (p .0) (p .1)) in (
-      ap (λ (t : List ℤ). writeLayers t into .answer) w ∙ answers,
-      ap (λ (t : List ℤ). bytesWritten t into) w ∙ write-bytes (fileWords bs) into (q .1) h ∙ b,
+    let answers : writeLayers M (fileWords bs) into .answer ≡ readLayers L bs out .answer
+    = ap (λ (o : Outcome ℕ). o .answer) (sym (write-is M (fileWords bs) into c h)) ∙ ap (λ (o : Outcome ℤ). o .answer) (read-is L bs out (p .0) (p .1)) in (
+      ap (λ (t : List ℤ). writeLayers M t into .answer) w ∙ answers,
+      ap (λ (t : List ℤ). bytesWritten M t into) w ∙ write-bytes M (fileWords bs) into c h ∙ b,
       ap layersOf w,
     )

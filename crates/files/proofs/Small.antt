@@ -11,7 +11,6 @@ use Rattle.records.specs.Records.{Codec}
 use Rattle.geometry.specs.declared.Vertex.{Vertex}
 use Rattle.geometry.specs.declared.Trapezoid.{Trapezoid}
 use Rattle.geometry.specs.declared.Checked.{Checked}
-use Rattle.geometry.specs.Limit.{coordinateLimit}
 use Rattle.geometry.specs.Polygons.{vertexOnGrid}
 use Rattle.geometry.specs.Fitness.{firstRefusal}
 use Rattle.geometry.specs.Trapezoids.{trapezoidCodec}
@@ -53,18 +52,18 @@ unfolding polygonFileChecked
 polygon-file-small L bytes = size-small (fileSized (length bytes)) _ (polygons-small L (fileWords bytes) (directoryOf polygonFile (fileWords bytes)) refl)
 
 -- ---- layers
-module _ (f : Format) (C : Codec ℤ Trapezoid) (ws : List ℤ) (w : C .width ≡ f .unit) (p : 0 < f .unit) (a : f .count < 4294967296) (b : f .total ≤ 4294967296) where
-  layers-small : SmallChecked (layersChecked f C ws)
+module _ (L : ℕ) (f : Format) (C : Codec ℤ Trapezoid) (ws : List ℤ) (w : C .width ≡ f .unit) (p : 0 < f .unit) (a : f .count < 4294967296) (b : f .total ≤ 4294967296) where
+  layers-small : SmallChecked (layersChecked L f C ws)
   unfolding layersChecked
   layers-small = go (directoryOf f ws) refl
     where
-      go : (d : Directory) → directoryOf f ws ≡ d → SmallChecked (directoryRows d (firstRefusal coordinateLimit 0 (unitsOf C ws)))
+      go : (d : Directory) → directoryOf f ws ≡ d → SmallChecked (directoryRows d (firstRefusal L 0 (unitsOf C ws)))
       go (Wrong number place) e = let h = directory-bound f ws e in (h .0, omega (arith, h .1))
-      go (Right n total) e = let r = right f ws e in small-first coordinateLimit 0 (unitsOf C ws) (omega (arith, units-are f C ws w p r, r .units))
+      go (Right n total) e = let r = right f ws e in small-first L 0 (unitsOf C ws) (omega (arith, units-are f C ws w p r, r .units))
 
-pub layer-file-small : (bytes : List ℕ) → SmallChecked (layerFileChecked bytes)
+pub layer-file-small : (L : ℕ) (bytes : List ℕ) → SmallChecked (layerFileChecked L bytes)
 unfolding layerFileChecked
-layer-file-small bytes = size-small (fileSized (length bytes)) _ (layers-small layerFile fileCodec (fileWords bytes) refl (omega arith) (omega arith) (omega arith))
+layer-file-small L bytes = size-small (fileSized (length bytes)) _ (layers-small L layerFile fileCodec (fileWords bytes) refl (omega arith) (omega arith) (omega arith))
 
-pub layer-words-small : (ws : List ℤ) → SmallChecked (layerWordsChecked ws)
-layer-words-small ws = layers-small layerWords trapezoidCodec ws refl (omega arith) (omega arith) (omega arith)
+pub layer-words-small : (L : ℕ) (ws : List ℤ) → SmallChecked (layerWordsChecked L ws)
+layer-words-small L ws = layers-small L layerWords trapezoidCodec ws refl (omega arith) (omega arith) (omega arith)

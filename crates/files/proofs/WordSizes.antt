@@ -14,7 +14,7 @@ use Rattle.records.proofs.Records.{words-records}
 use Rattle.geometry.specs.declared.Line.{Line}
 use Rattle.geometry.specs.declared.Trapezoid.{Trapezoid}
 use Rattle.geometry.specs.declared.Checked.the-variants.{Passed}
-use Rattle.geometry.specs.Limit.{coordinateLimit, OnGrid}
+use Rattle.geometry.specs.Limit.{OnGrid}
 use Rattle.geometry.specs.Trapezoids.{lineWords, trapezoidWords, trapezoidCodec}
 use Rattle.geometry.specs.Fitness.{FitFor}
 use Rattle.geometry.proofs.Trapezoids.{trapezoid-faithful}
@@ -25,36 +25,38 @@ use Rattle.files.specs.Formats.{wordAt, layerWords}
 use Rattle.files.specs.Directory.{pairsFrom}
 use Rattle.files.specs.Contents.{countIn, bodyOf, unitsOf}
 use Rattle.files.specs.Rows.{layerWordsChecked}
+use Rattle.files.specs.Statements.{WordsHold}
 use Rattle.files.proofs.Walk.{pair}
 use Rattle.files.proofs.Right.{next, right, count-in}
 use Rattle.files.proofs.Bounds.{passes}
 
 -- ---- coordinates
-small-word : (z : ℤ) → natAbs z ≤ coordinateLimit → Word z
-small-word (pos n) h = omega arith
-small-word (negsuc n) h = omega arith
+module _ (L : ℕ) (hold : WordsHold L) where
+  small-word : (z : ℤ) → natAbs z ≤ L → Word z
+  small-word (pos n) h = omega arith
+  small-word (negsuc n) h = omega arith
 
-line-words : {l : Line} (ws : List ℤ) → OnGrid coordinateLimit l → All Word ws → All Word (lineWords l ++ ws)
-line-words {l} ws h g = (small-word (l .x1) (h .x1), (small-word (l .y1) (h .y1), (small-word (l .x2) (h .x2), (small-word (l .y2) (h .y2), g))))
+  line-words : {l : Line} (ws : List ℤ) → OnGrid L l → All Word ws → All Word (lineWords l ++ ws)
+  line-words {l} ws h g = (small-word (l .x1) (h .x1), (small-word (l .y1) (h .y1), (small-word (l .x2) (h .x2), (small-word (l .y2) (h .y2), g))))
 
-fit-words : (ts : List Trapezoid) → All (FitFor coordinateLimit) ts → All Word (wordsOf trapezoidCodec ts)
-unfolding wordsOf trapezoidWords
-fit-words [] h = tt
-fit-words (t ∷ ts) h =
-    let g = h .0 .grid in
-    let ws = wordsOf trapezoidCodec ts in
-    let u = lineWords (t .top) ++ ws in
-    let v = lineWords (t .bottom) ++ u in
-    let x = lineWords (t .right .second) ++ v in
-    let y = lineWords (t .right .first) ++ x in
-    let z = lineWords (t .left .second) ++ y in
-    line-words z (g .0)
-    (line-words y (g .1 .0)
-    (line-words x (g .1 .1 .0)
-    (line-words v (g .1 .1 .1 .0)
-    (line-words u (g .1 .1 .1 .1 .0)
-    (line-words ws (g .1 .1 .1 .1 .1 .0)
-    (fit-words ts (h .1)))))))
+  fit-words : (ts : List Trapezoid) → All (FitFor L) ts → All Word (wordsOf trapezoidCodec ts)
+  unfolding wordsOf trapezoidWords
+  fit-words [] h = tt
+  fit-words (t ∷ ts) h =
+      let g = h .0 .grid in
+      let ws = wordsOf trapezoidCodec ts in
+      let u = lineWords (t .top) ++ ws in
+      let v = lineWords (t .bottom) ++ u in
+      let x = lineWords (t .right .second) ++ v in
+      let y = lineWords (t .right .first) ++ x in
+      let z = lineWords (t .left .second) ++ y in
+      line-words z (g .0)
+      (line-words y (g .1 .0)
+      (line-words x (g .1 .1 .0)
+      (line-words v (g .1 .1 .1 .0)
+      (line-words u (g .1 .1 .1 .1 .0)
+      (line-words ws (g .1 .1 .1 .1 .1 .0)
+      (fit-words ts (h .1)))))))
 
 -- ---- the words from number k on, one more
 one-more : (k : ℕ) (ws : List ℤ) → Word (wordAt ws k) → All Word (drop (suc k) ws) → All Word (drop k ws)
@@ -78,13 +80,13 @@ pairs-words f ws l (suc m) i before h e g =
     one-more (2 * i + 1) ws b (subst (λ (j : ℕ). All Word (drop j ws)) t (one-more (2 * i + 2) ws a (subst (λ (j : ℕ). All Word (drop j ws)) s r)))
 
 -- ---- all of them
-pub words-passed : (ws : List ℤ) → layerWordsChecked ws ≡ Passed → All Word ws
-words-passed ws e =
-    let h = passes layerWords trapezoidCodec ws e in
+pub words-passed : (L : ℕ) → WordsHold L → (ws : List ℤ) → layerWordsChecked L ws ≡ Passed → All Word ws
+words-passed L hold ws e =
+    let h = passes L layerWords trapezoidCodec ws e in
     let r = right layerWords ws (h .found) in
     let l : length (bodyOf ws) ≡ memoryWidth * h .total = omega (arith, length-drop (2 * countIn ws + 1) ws, count-in r, r .end) in
     let back = words-records trapezoidCodec trapezoid-faithful (bodyOf ws) (h .total) l (all-of (λ (z : ℤ). Unit {0}) (λ z. tt) (bodyOf ws)) in
-    let body : All Word (bodyOf ws) = subst (All Word) back (fit-words (unitsOf trapezoidCodec ws) (layer-exact coordinateLimit 0 (unitsOf trapezoidCodec ws) .0 (h .fit))) in
+    let body : All Word (bodyOf ws) = subst (All Word) back (fit-words L hold (unitsOf trapezoidCodec ws) (layer-exact L 0 (unitsOf trapezoidCodec ws) .0 (h .fit))) in
     let c : countIn ws ≡ 0 + h .pairs = omega (arith, count-in r) in
     let past = pairs-words layerWords ws (omega arith) (h .pairs) 0 0 (omega arith) (r .walk) (subst (λ (k : ℕ). All Word (drop (2 * k + 1) ws)) c body) in
     let first : Word (wordAt ws 0) = rw (r .first) (omega (arith, r .most)) in

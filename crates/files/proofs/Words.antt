@@ -18,7 +18,6 @@ use Rattle.records.specs.Words.{wordCodec}
 use Rattle.records.proofs.Records.{words-from, records-words, length-words}
 use Rattle.geometry.specs.declared.Trapezoid.{Trapezoid}
 use Rattle.geometry.specs.declared.Checked.the-variants.{Passed}
-use Rattle.geometry.specs.Limit.{coordinateLimit}
 use Rattle.geometry.specs.Trapezoids.{trapezoidCodec, layerOf}
 use Rattle.geometry.specs.Fitness.{firstRefusal}
 use Rattle.geometry.proofs.Trapezoids.{trapezoid-faithful}
@@ -140,16 +139,16 @@ layers-back layers =
     ∙ cut-joined layers
 
 -- ---- when a writer takes them
-module _ (layers : List (List Trapezoid)) where
-  taken-only : (out : List ℕ) → T (isDone (writeLayers (layerFileWords layers) out .answer)) → Writable layers out
+module _ (L : ℕ) (layers : List (List Trapezoid)) where
+  taken-only : (out : List ℕ) → T (isDone (writeLayers L (layerFileWords layers) out .answer)) → Writable L layers out
   taken-only out d =
-      let p = write-passed (layerFileWords layers) out d in
-      let h = passes layerWords trapezoidCodec (layerFileWords layers) (p .0) in
+      let p = write-passed L (layerFileWords layers) out d in
+      let h = passes L layerWords trapezoidCodec (layerFileWords layers) (p .0) in
       let r = right layerWords (layerFileWords layers) (h .found) in
       record {
         few = omega (arith, r .most, count-in r, count-is layers);
-        small = omega (arith, units-bound layerWords trapezoidCodec (layerFileWords layers) refl (omega arith) (p .0), ap length (units-is layers));
-        fit = layer-exact coordinateLimit 0 (joined layers) .0 (rw (units-is layers) at (h .fit));
+        small = omega (arith, units-bound L layerWords trapezoidCodec (layerFileWords layers) refl (omega arith) (p .0), ap length (units-is layers));
+        fit = layer-exact L 0 (joined layers) .0 (rw (units-is layers) at (h .fit));
         room = omega (arith, p .1, length-bytes (layerFileWords layers), words-long layers);
       }
 
@@ -165,19 +164,19 @@ module _ (layers : List (List Trapezoid)) where
         let v : 0 + length (joined layers) ≡ length (joined layers) = omega arith in
         sym (directory-some layerWords (layerFileWords layers) count-passes) ∙ walk-is layers (listed layers) (omega (arith, small)) (omega (arith, words-long layers)) ∙ rw (u, v)
 
-  taken : (out : List ℕ) → Writable layers out → T (isDone (writeLayers (layerFileWords layers) out .answer))
+  taken : (out : List ℕ) → Writable L layers out → T (isDone (writeLayers L (layerFileWords layers) out .answer))
   taken out h =
-      let e : layerWordsChecked (layerFileWords layers) ≡ Passed
+      let e : layerWordsChecked L (layerFileWords layers) ≡ Passed
       = sym (
-      layers-right layerWords trapezoidCodec (layerFileWords layers) (directory-passes (h .few) (h .small))
+      layers-right L layerWords trapezoidCodec (layerFileWords layers) (directory-passes (h .few) (h .small))
       {body = bodyOf (layerFileWords layers)} (ap (λ (k : ℕ). drop (2 * k + 1) (layerFileWords layers)) (count-is layers))
       )
-      ∙ ap (firstRefusal coordinateLimit 0) (units-is layers) ∙ layer-exact coordinateLimit 0 (joined layers) .1 (h .fit) in
+      ∙ ap (firstRefusal L 0) (units-is layers) ∙ layer-exact L 0 (joined layers) .1 (h .fit) in
       let l : length (wordsOf wordCodec (layerFileWords layers)) ≤ length out = omega (arith, h .room, length-bytes (layerFileWords layers), words-long layers) in
-      subst (λ (o : Outcome ℕ). T (isDone (o .answer))) (write-is (layerFileWords layers) out e l) tt
+      subst (λ (o : Outcome ℕ). T (isDone (o .answer))) (write-is L (layerFileWords layers) out e l) tt
 
 pub writer-accepts : WriterAccepts
-writer-accepts layers out = (taken-only layers out, taken layers out)
+writer-accepts L layers out = (taken-only L layers out, taken L layers out)
 
 -- ---- one layer of a layer file's words
 abbrev layerBy : List ℤ → ℕ → List Trapezoid
@@ -199,8 +198,8 @@ layer-at ws n i h l =
     ∙ sym (ap (λ (ls : List (List Trapezoid)). getD ls i []) (lists-by-offset Trapezoid layerWords trapezoidCodec ws n refl (omega arith) h))
 
 pub read-pairs : ReadPairs
-read-pairs bs out d =
-    let p = read-passed bs out d in
-    let h = passes layerFile fileCodec (fileWords bs) (file-passes bs (p .0) .1) in
-    subst (λ (ws : List ℤ). HasPairs layerWords ws (countIn ws)) (sym (read-words bs out (p .0) (p .1)))
+read-pairs L bs out d =
+    let p = read-passed L bs out d in
+    let h = passes L layerFile fileCodec (fileWords bs) (file-passes L bs (p .0) .1) in
+    subst (λ (ws : List ℤ). HasPairs layerWords ws (countIn ws)) (sym (read-words L bs out (p .0) (p .1)))
     (subst (HasPairs layerWords (fileWords bs)) (sym (count-in (right layerFile (fileWords bs) (h .found)))) (record { total = h .total; is = h .found }))

@@ -62,9 +62,9 @@ abbrev pub outcome : {W : Type 0} → Checked → W → ℕ → List W → List 
 outcome (Refused number place) z pieces content out = record { answer = refused number place; out = out }
 outcome Passed z pieces content out = placed (leb (length content) (length out)) z pieces content (length out)
 
--- "A book reader writes the book's words (count, pairs, pieces) and a writer takes them"
-unfoldable pub readLayers : List ℕ → List ℤ → Outcome ℤ
-readLayers bytes out = outcome (layerFileChecked bytes) (pos 0) (length (unitsOf fileCodec (fileWords bytes))) (fileWords bytes) out
+-- "A book reader writes the book's words (count, pairs, pieces) and a writer takes them"; under a coordinate limit
+unfoldable pub readLayers : ℕ → List ℕ → List ℤ → Outcome ℤ
+readLayers L bytes out = outcome (layerFileChecked L bytes) (pos 0) (length (unitsOf fileCodec (fileWords bytes))) (fileWords bytes) out
 
-unfoldable pub writeLayers : List ℤ → List ℕ → Outcome ℕ
-writeLayers ws out = outcome (layerWordsChecked ws) 0 (length (unitsOf trapezoidCodec ws)) (wordsOf wordCodec ws) out
+unfoldable pub writeLayers : ℕ → List ℤ → List ℕ → Outcome ℕ
+writeLayers L ws out = outcome (layerWordsChecked L ws) 0 (length (unitsOf trapezoidCodec ws)) (wordsOf wordCodec ws) out

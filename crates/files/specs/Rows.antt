@@ -9,7 +9,6 @@ use Rattle.records.specs.Records.{Codec}
 use Rattle.geometry.specs.declared.Trapezoid.{Trapezoid}
 use Rattle.geometry.specs.declared.Checked.{Checked}
 use Rattle.geometry.specs.declared.Checked.the-variants.{Passed, Refused}
-use Rattle.geometry.specs.Limit.{coordinateLimit}
 use Rattle.geometry.specs.Trapezoids.{trapezoidCodec}
 use Rattle.geometry.specs.Fitness.{firstRefusal}
 use Rattle.geometry.specs.declared.Vertex.{Vertex}
@@ -31,7 +30,7 @@ abbrev pub directoryRows : Directory → Checked → Checked
 directoryRows (Wrong number place) below = Refused number place
 directoryRows (Right count total) below = below
 
--- ---- row 7 of a polygon file: "coordinate beyond ±2,048", place the polygon
+-- ---- row 7 of a polygon file: "coordinate beyond ±2,048", or the limit L of the call, place the polygon
 abbrev pub gridRow : Bool → ℕ → Checked → Checked
 gridRow true i below = below
 gridRow false i below = Refused 7 i
@@ -45,14 +44,14 @@ unfoldable pub polygonFileChecked : ℕ → List ℕ → Checked
 polygonFileChecked L bytes =
     sizeRow (fileSized (length bytes)) (directoryRows (directoryOf polygonFile (fileWords bytes)) (firstOffGrid L 0 (polygonsOf (fileWords bytes))))
 
--- ---- rows 5 to 11 of layers: "in a book they are numbered through all layers"
-unfoldable pub layersChecked : Format → Codec ℤ Trapezoid → List ℤ → Checked
-layersChecked f C ws = directoryRows (directoryOf f ws) (firstRefusal coordinateLimit 0 (unitsOf C ws))
+-- ---- rows 5 to 11 of layers, under a coordinate limit: "in a book they are numbered through all layers"
+unfoldable pub layersChecked : ℕ → Format → Codec ℤ Trapezoid → List ℤ → Checked
+layersChecked L f C ws = directoryRows (directoryOf f ws) (firstRefusal L 0 (unitsOf C ws))
 
 -- of a layer file
-unfoldable pub layerFileChecked : List ℕ → Checked
-layerFileChecked bytes = sizeRow (fileSized (length bytes)) (layersChecked layerFile fileCodec (fileWords bytes))
+unfoldable pub layerFileChecked : ℕ → List ℕ → Checked
+layerFileChecked L bytes = sizeRow (fileSized (length bytes)) (layersChecked L layerFile fileCodec (fileWords bytes))
 
 -- of the words that a writer takes: "5 to 11 apply to both"
-abbrev pub layerWordsChecked : List ℤ → Checked
-layerWordsChecked ws = layersChecked layerWords trapezoidCodec ws
+abbrev pub layerWordsChecked : ℕ → List ℤ → Checked
+layerWordsChecked L ws = layersChecked L layerWords trapezoidCodec ws

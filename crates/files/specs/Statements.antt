@@ -14,7 +14,6 @@ use Rattle.records.specs.Records.{Codec}
 use Rattle.records.specs.Words.{Byte}
 use Rattle.geometry.specs.declared.Trapezoid.{Trapezoid}
 use Rattle.geometry.specs.declared.Checked.the-variants.{Passed}
-use Rattle.geometry.specs.Limit.{coordinateLimit}
 use Rattle.geometry.specs.Trapezoids.{layerOf}
 use Rattle.geometry.specs.Fitness.{FitFor}
 use Rattle.files.specs.declared.Format.{Format}
@@ -43,47 +42,51 @@ CheckedPairs = (L : ℕ) (bytes : List ℕ) → polygonFileChecked L bytes ≡ P
 
 -- ---- there and back
 -- the bytes that a success of the writer wrote, and the words that a success of the reader wrote
-abbrev pub bytesWritten : List ℤ → List ℕ → List ℕ
-bytesWritten ws out = take (4 * length ws) (writeLayers ws out .out)
+abbrev pub bytesWritten : ℕ → List ℤ → List ℕ → List ℕ
+bytesWritten L ws out = take (4 * length ws) (writeLayers L ws out .out)
 
-abbrev pub wordsRead : List ℕ → List ℤ → List ℤ
-wordsRead bytes out = take (length bytes / 4) (readLayers bytes out .out)
+abbrev pub wordsRead : ℕ → List ℕ → List ℤ → List ℤ
+wordsRead L bytes out = take (length bytes / 4) (readLayers L bytes out .out)
 
--- what was written reads back as the same words, and so as the same layers
+-- 32-bit words hold every coordinate under the limit
+abbrev pub WordsHold : ℕ → Type 0
+WordsHold L = L < 2147483648
+
+-- what was written under a limit reads back under it or a larger one as the same words, and so as the same layers
 abbrev pub WrittenReads : Type 0
 WrittenReads =
-    (ws : List ℤ) (out : List ℕ) (into : List ℤ) → T (isDone (writeLayers ws out .answer)) → length ws ≤ length into
-    → (readLayers (bytesWritten ws out) into .answer ≡ writeLayers ws out .answer)
-    × (wordsRead (bytesWritten ws out) into ≡ ws)
-    × (fileLayersOf (fileWords (bytesWritten ws out)) ≡ layersOf ws)
+    (L M : ℕ) → WordsHold L → L ≤ M → (ws : List ℤ) (out : List ℕ) (into : List ℤ) → T (isDone (writeLayers L ws out .answer)) → length ws ≤ length into
+    → (readLayers M (bytesWritten L ws out) into .answer ≡ writeLayers L ws out .answer)
+    × (wordsRead M (bytesWritten L ws out) into ≡ ws)
+    × (fileLayersOf (fileWords (bytesWritten L ws out)) ≡ layersOf ws)
 
--- what was read writes back as the same bytes
+-- what was read under a limit writes back under it or a larger one as the same bytes
 abbrev pub ReadWrites : Type 0
 ReadWrites =
-    (bytes : List ℕ) (out : List ℤ) (into : List ℕ) → All Byte bytes → T (isDone (readLayers bytes out .answer)) → length bytes ≤ length into
-    → (writeLayers (wordsRead bytes out) into .answer ≡ readLayers bytes out .answer)
-    × (bytesWritten (wordsRead bytes out) into ≡ bytes)
-    × (layersOf (wordsRead bytes out) ≡ fileLayersOf (fileWords bytes))
+    (L M : ℕ) → L ≤ M → (bytes : List ℕ) (out : List ℤ) (into : List ℕ) → All Byte bytes → T (isDone (readLayers L bytes out .answer)) → length bytes ≤ length into
+    → (writeLayers M (wordsRead L bytes out) into .answer ≡ readLayers L bytes out .answer)
+    × (bytesWritten M (wordsRead L bytes out) into ≡ bytes)
+    × (layersOf (wordsRead L bytes out) ≡ fileLayersOf (fileWords bytes))
 
 -- ---- the words of layers
 -- they hold these layers
 abbrev pub LayersBack : Type 0
 LayersBack = (layers : List (List Trapezoid)) → layersOf (layerFileWords layers) ≡ layers
 
--- layers that a writer takes, with an output of so many bytes
-pub record Writable (layers : List (List Trapezoid)) (out : List ℕ) : Type 0 where
+-- layers that a writer takes, under a limit and with an output of so many bytes
+pub record Writable (L : ℕ) (layers : List (List Trapezoid)) (out : List ℕ) : Type 0 where
   -- "0 to 16 layers"
   pub few : length layers ≤ layerWords .count
   -- "at most 512 in all"
   pub small : length (joined layers) ≤ layerWords .total
   -- rows 7 to 11 find nothing
-  pub fit : All (FitFor coordinateLimit) (joined layers)
+  pub fit : All (FitFor L) (joined layers)
   -- the output is not "shorter than the book": four bytes for each word of the count, the pairs and the trapezoids
   pub room : 4 * (1 + 2 * length layers + memoryWidth * length (joined layers)) ≤ length out
 
 -- a writer takes the words of exactly these
 abbrev pub WriterAccepts : Type 0
-WriterAccepts = (layers : List (List Trapezoid)) (out : List ℕ) → T (isDone (writeLayers (layerFileWords layers) out .answer)) ↔ Writable layers out
+WriterAccepts = (L : ℕ) (layers : List (List Trapezoid)) (out : List ℕ) → T (isDone (writeLayers L (layerFileWords layers) out .answer)) ↔ Writable L layers out
 
 -- where rows 5 and 6 let n pairs pass, the words of layer number i, passed on as a layer, are that layer of the file
 abbrev pub LayerAt : Type 0
@@ -91,4 +94,4 @@ LayerAt = (ws : List ℤ) (n i : ℕ) → HasPairs layerWords ws n → i < n →
 
 -- as in the words that a success of the reader wrote
 abbrev pub ReadPairs : Type 0
-ReadPairs = (bytes : List ℕ) (out : List ℤ) → T (isDone (readLayers bytes out .answer)) → HasPairs layerWords (wordsRead bytes out) (countIn (wordsRead bytes out))
+ReadPairs = (L : ℕ) (bytes : List ℕ) (out : List ℤ) → T (isDone (readLayers L bytes out .answer)) → HasPairs layerWords (wordsRead L bytes out) (countIn (wordsRead L bytes out))

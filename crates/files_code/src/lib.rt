@@ -64,15 +64,16 @@ fn load_file_trapezoid(body: &[u8], i: usize) -> Trapezoid
     }
 }
 
-// Rows 7 to 11 of a layer file's body.
-fn body_refused(body: &[u8]) -> Checked
-    ensures { λ r. ⌜ r ≡ firstRefusal coordinateLimit 0 (records fileCodec (fileWords (now (body .entry)))) ⌝ }
+// Rows 7 to 11 of a layer file's body, under a coordinate limit.
+fn body_refused(body: &[u8], limit: u32) -> Checked
+    requires { ⌜ limit ≤ coordinateLimit ⌝ }
+    ensures { λ r. ⌜ r ≡ firstRefusal limit 0 (records fileCodec (fileWords (now (body .entry)))) ⌝ }
 {
     let n = body.len() / 4 / records::FILE_WIDTH;
     let mut i = 0;
     while i < n {
         let t = load_file_trapezoid(body, i);
-        let v = fitness_code::judge(t, geometry::COORDINATE_LIMIT);
+        let v = fitness_code::judge(t, limit);
         match v {
             Verdict::Fit => {}
             Verdict::Row(number) => {
@@ -85,25 +86,27 @@ fn body_refused(body: &[u8]) -> Checked
 }
 
 // Rows 5 to 11 of a layer file.
-fn file_layers(file: &[u8]) -> Checked
-    ensures { λ r. ⌜ r ≡ layersChecked layerFile fileCodec (fileWords (now (file .entry))) ⌝ }
+fn file_layers(file: &[u8], limit: u32) -> Checked
+    requires { ⌜ limit ≤ coordinateLimit ⌝ }
+    ensures { λ r. ⌜ r ≡ layersChecked limit layerFile fileCodec (fileWords (now (file .entry))) ⌝ }
 {
     let d = directory_code::file_directory(file, directory_code::layer_format());
     match d {
         Directory::Wrong { number, place } => Checked::Refused { number, place },
         Directory::Right { count, total: _ } => {
             let start = 4 * (2 * count + 1);
-            body_refused(&file[start..])
+            body_refused(&file[start..], limit)
         }
     }
 }
 
-// Rows 4 to 11 of a layer file.
-pub fn check_layer_file(file: &[u8]) -> Checked
-    ensures { λ r. ⌜ r ≡ layerFileChecked (now (file .entry)) ⌝ }
+// Rows 4 to 11 of a layer file, under a coordinate limit.
+pub fn check_layer_file(file: &[u8], limit: u32) -> Checked
+    requires { ⌜ limit ≤ coordinateLimit ⌝ }
+    ensures { λ r. ⌜ r ≡ layerFileChecked limit (now (file .entry)) ⌝ }
 {
     if directory_code::file_sized(file.len()) {
-        return file_layers(file);
+        return file_layers(file, limit);
     }
     Checked::Refused {
         number: 4,
@@ -111,16 +114,17 @@ pub fn check_layer_file(file: &[u8]) -> Checked
     }
 }
 
-// Rows 5 to 11 of the words of a layer file.
-pub fn check_layer_words(words: &[i32]) -> Checked
-    ensures { λ r. ⌜ r ≡ layerWordsChecked (now (words .entry)) ⌝ }
+// Rows 5 to 11 of the words of a layer file, under a coordinate limit.
+pub fn check_layer_words(words: &[i32], limit: u32) -> Checked
+    requires { ⌜ limit ≤ coordinateLimit ⌝ }
+    ensures { λ r. ⌜ r ≡ layerWordsChecked limit (now (words .entry)) ⌝ }
 {
     let d = directory_code::words_directory(words, directory_code::memory_format());
     match d {
         Directory::Wrong { number, place } => Checked::Refused { number, place },
         Directory::Right { count, total: _ } => {
             let start = 2 * count + 1;
-            fitness_code::first_refused(&words[start..], geometry::COORDINATE_LIMIT, 0)
+            fitness_code::first_refused(&words[start..], limit, 0)
         }
     }
 }

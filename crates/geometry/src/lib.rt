@@ -1,9 +1,6 @@
 // Lines, bases, trapezoids, rational points and polygons, and what functions hold of them.
 use integer::Int;
 
-// Grid coordinates run from -COORDINATE_LIMIT to COORDINATE_LIMIT.
-pub const COORDINATE_LIMIT: u32 = 2048;
-
 // Four words, two grid points with x1 < x2.
 pub struct Line {
     pub x1: i32,

@@ -17,7 +17,7 @@ use Rattle.calls.specs.declared.Fractured.the-variants as fractured
 use Rattle.calls.specs.declared.Deoverlapped.{Deoverlapped}
 use Rattle.calls.specs.declared.Deoverlapped.the-variants as after-deoverlap
 use Rattle.calls.specs.Answers.{Answer, fracturedAnswer, deoverlappedAnswer}
-use Rattle.calls.specs.Rows.{fractureChecked, deoverlapChecked}
+use Rattle.calls.specs.Rows.{plateLimit, fractureChecked, deoverlapChecked}
 use Rattle.calls.specs.Outcomes.{Outcome, observed, written, outcome, fracturedOf, fractureOutcome, deoverlapOutcome}
 use Rattle.listing.specs.Listing.{listing, refusalLine}
 use Rattle.listing.specs.Lister.{layerSize, blank, printedAs, deoverlapListed, listedAs, listed}
@@ -46,19 +46,19 @@ module _ (ts : List Trapezoid) (ms : List Mark) where
       ap (λ (n : ℕ). listedAs (written n ts (space (n / memoryWidth) ms) .answer) (written n ts (space (n / memoryWidth) ms) .out)) (e ∙ sym blank-length)
 
 module _ (a out scratch : List ℤ) (m : length out ≡ layerSize) (n : length scratch ≡ layerSize) where
-  checked-blank : deoverlapChecked a (length out) (length scratch) ≡ deoverlapChecked a (length blank) (length blank)
+  checked-blank : deoverlapChecked plateLimit a (length out) (length scratch) ≡ deoverlapChecked plateLimit a (length blank) (length blank)
   checked-blank =
-      ap (λ (k : ℕ). deoverlapChecked a k (length scratch)) (m ∙ sym blank-length) ∙ ap (deoverlapChecked a (length blank)) (n ∙ sym blank-length)
+      ap (λ (k : ℕ). deoverlapChecked plateLimit a k (length scratch)) (m ∙ sym blank-length) ∙ ap (deoverlapChecked plateLimit a (length blank)) (n ∙ sym blank-length)
 
-  deoverlap-printed : printedAs (deoverlapOutcome a out scratch .answer) (deoverlapOutcome a out scratch .out) ≡ deoverlapListed a
+  deoverlap-printed : printedAs (deoverlapOutcome plateLimit a out scratch .answer) (deoverlapOutcome plateLimit a out scratch .out) ≡ deoverlapListed a
   unfolding deoverlapOutcome deoverlapListed
   deoverlap-printed =
       let ts = deoverlapped (layerOf a) in
       let ms = deoverlappedMarks [] (layerOf a) in
-      printed-outcome ts ms (deoverlapChecked a (length out) (length scratch)) out scratch m
+      printed-outcome ts ms (deoverlapChecked plateLimit a (length out) (length scratch)) out scratch m
       ∙ ap (λ (c : Checked). printedAs (outcome c blank blank ts ms .answer) (outcome c blank blank ts ms .out)) checked-blank
 
-  module _ (answer : Deoverlapped) (o s : List ℤ) (e : observed (deoverlappedAnswer answer) o s ≡ deoverlapOutcome a out scratch) where
+  module _ (answer : Deoverlapped) (o s : List ℤ) (e : observed (deoverlappedAnswer answer) o s ≡ deoverlapOutcome plateLimit a out scratch) where
     answered : printedAs (deoverlappedAnswer answer) o ≡ deoverlapListed a
     answered = ap (λ (x : Outcome Answer). printedAs (x .answer) (x .out)) e ∙ deoverlap-printed
 
@@ -70,19 +70,19 @@ module _ (a out scratch : List ℤ) (m : length out ≡ layerSize) (n : length s
 
 -- ---- a polygon file fractured
 module _ (file : List ℕ) (out scratch : List ℤ) (m : length out ≡ layerSize) (n : length scratch ≡ layerSize) where
-  fracture-blank : fractureChecked file (length out) (length scratch) ≡ fractureChecked file (length blank) (length blank)
+  fracture-blank : fractureChecked plateLimit file (length out) (length scratch) ≡ fractureChecked plateLimit file (length blank) (length blank)
   fracture-blank =
-      ap (λ (k : ℕ). fractureChecked file k (length scratch)) (m ∙ sym blank-length) ∙ ap (fractureChecked file (length blank)) (n ∙ sym blank-length)
+      ap (λ (k : ℕ). fractureChecked plateLimit file k (length scratch)) (m ∙ sym blank-length) ∙ ap (fractureChecked plateLimit file (length blank)) (n ∙ sym blank-length)
 
-  fracture-listed : listedAs (fractureOutcome file out scratch .answer) (fractureOutcome file out scratch .out) ≡ listed file
+  fracture-listed : listedAs (fractureOutcome plateLimit file out scratch .answer) (fractureOutcome plateLimit file out scratch .out) ≡ listed file
   unfolding fractureOutcome listed
   fracture-listed =
-      let ts = fracturedOf file in
+      let ts = fracturedOf plateLimit file in
       let ms = addition (length ts) ∷ [] in
-      listed-outcome ts ms (fractureChecked file (length out) (length scratch)) out scratch m
+      listed-outcome ts ms (fractureChecked plateLimit file (length out) (length scratch)) out scratch m
       ∙ ap (λ (c : Checked). listedAs (outcome c blank blank ts ms .answer) (outcome c blank blank ts ms .out)) fracture-blank
 
-  module _ (answer : Fractured) (o s : List ℤ) (e : observed (fracturedAnswer answer) o s ≡ fractureOutcome file out scratch) where
+  module _ (answer : Fractured) (o s : List ℤ) (e : observed (fracturedAnswer answer) o s ≡ fractureOutcome plateLimit file out scratch) where
     fractured-answer : listedAs (fracturedAnswer answer) o ≡ listed file
     fractured-answer = ap (λ (x : Outcome Answer). listedAs (x .answer) (x .out)) e ∙ fracture-listed
 

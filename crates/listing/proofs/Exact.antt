@@ -20,7 +20,6 @@ use Rattle.records.proofs.Buffer.{image-records}
 use Rattle.geometry.specs.declared.Trapezoid.{Trapezoid}
 use Rattle.geometry.specs.declared.Checked.{Checked}
 use Rattle.geometry.specs.declared.Checked.the-variants.{Passed, Refused}
-use Rattle.geometry.specs.Limit.{coordinateLimit}
 use Rattle.geometry.specs.Points.{Point, IsPoint}
 use Rattle.geometry.specs.Trapezoids.{trapezoidCodec, layerOf, LiesInLayer}
 use Rattle.geometry.proofs.Trapezoids.{trapezoid-faithful}
@@ -34,7 +33,7 @@ use Rattle.files.specs.Directory.{directoryOf}
 use Rattle.files.specs.Contents.{polygonsOf}
 use Rattle.files.specs.Rows.{sizeRow, directoryRows, firstOffGrid, polygonFileChecked}
 use Rattle.calls.specs.Answers.{Answer, refused, done, isDone}
-use Rattle.calls.specs.Rows.{row, buffersSized, fractureChecked, deoverlapChecked}
+use Rattle.calls.specs.Rows.{plateLimit, row, buffersSized, fractureChecked, deoverlapChecked}
 use Rattle.calls.specs.Outcomes.{recordsOf, roomOf, written, outcome, fracturedOf, fractureOutcome, deoverlapOutcome}
 use Rattle.calls.proofs.Success.{deoverlap-accepted}
 use Rattle.calls.proofs.Exact.{fracture-file-exact}
@@ -63,53 +62,53 @@ outcome-listed : (c : Checked) (ts : List Trapezoid) (ms : List Mark) → T (isD
 outcome-listed Passed ts ms h = written-listed (length blank) ts (space (roomOf blank) ms) h
 outcome-listed (Refused number place) ts ms h = absurd h
 
-layer-listing : (a : List ℤ) → T (isDone (deoverlapOutcome a blank blank .answer)) → deoverlapListed a ≡ layerListing (deoverlapped (layerOf a))
+layer-listing : (a : List ℤ) → T (isDone (deoverlapOutcome plateLimit a blank blank .answer)) → deoverlapListed a ≡ layerListing (deoverlapped (layerOf a))
 unfolding deoverlapListed deoverlapOutcome
-layer-listing a h = outcome-listed (deoverlapChecked a (length blank) (length blank)) (deoverlapped (layerOf a)) (deoverlappedMarks [] (layerOf a)) h
+layer-listing a h = outcome-listed (deoverlapChecked plateLimit a (length blank) (length blank)) (deoverlapped (layerOf a)) (deoverlappedMarks [] (layerOf a)) h
 
 -- ---- the trapezoids listed
 module _ (file : List ℕ) where
   abbrev Covers : List ℤ → Type 0
   Covers a = (P : Point) → IsPoint P → LiesInLayer P (layerOf a) ↔ Any (Wound P) (polygonsOf (fileWords file))
 
-  layer-refused-text : (a : List ℤ) (number place : ℕ) → listed file ≡ deoverlapListed a → deoverlapOutcome a blank blank .answer ≡ refused number place
+  layer-refused-text : (a : List ℤ) (number place : ℕ) → listed file ≡ deoverlapListed a → deoverlapOutcome plateLimit a blank blank .answer ≡ refused number place
       → listed file ≡ refusalLine number place
   unfolding deoverlapListed
-  layer-refused-text a number place l e = l ∙ ap (λ (x : Answer). printedAs x (deoverlapOutcome a blank blank .out)) e
+  layer-refused-text a number place l e = l ∙ ap (λ (x : Answer). printedAs x (deoverlapOutcome plateLimit a blank blank .out)) e
 
-  layer-lists : (a : List ℤ) → listed file ≡ deoverlapListed a → Covers a → T (isDone (deoverlapOutcome a blank blank .answer)) → Lists file (deoverlapped (layerOf a))
+  layer-lists : (a : List ℤ) → listed file ≡ deoverlapListed a → Covers a → T (isDone (deoverlapOutcome plateLimit a blank blank .answer)) → Lists file (deoverlapped (layerOf a))
   layer-lists a l p h =
-      let k = deoverlap-accepted a blank blank h .layer in
-      let s = deoverlapped-exact coordinateLimit (layerOf a) k in
+      let k = deoverlap-accepted plateLimit a blank blank h .layer in
+      let s = deoverlapped-exact plateLimit (layerOf a) k in
       record {
         text = l ∙ layer-listing a h;
-        fit = deoverlapped-fit coordinateLimit (layerOf a) k;
-        disjoint = deoverlapped-disjoint coordinateLimit (layerOf a) k;
+        fit = deoverlapped-fit plateLimit (layerOf a) k;
+        disjoint = deoverlapped-disjoint plateLimit (layerOf a) k;
         points = λ P hP. ((λ x. p P hP .0 (s P hP .0 x)), (λ x. s P hP .1 (p P hP .1 x)));
       }
 
-  layer-told : (a : List ℤ) → listed file ≡ deoverlapListed a → Covers a → (x : Answer) → deoverlapOutcome a blank blank .answer ≡ x → Told file
+  layer-told : (a : List ℤ) → listed file ≡ deoverlapListed a → Covers a → (x : Answer) → deoverlapOutcome plateLimit a blank blank .answer ≡ x → Told file
   layer-told a l p (refused number place) e = refuses (record { number = number; place = place; text = layer-refused-text a number place l e })
   layer-told a l p (done pieces cuts) e = lists (deoverlapped (layerOf a)) (layer-lists a l p (subst (λ (x : Answer). T (isDone x)) (sym e) tt))
 
   fractured : List ℤ
-  fractured = recordsOf (fractureOutcome file blank blank .answer) (fractureOutcome file blank blank .out)
+  fractured = recordsOf (fractureOutcome plateLimit file blank blank .answer) (fractureOutcome plateLimit file blank blank .out)
 
-  file-text : (x : Answer) → fractureOutcome file blank blank .answer ≡ x → listed file ≡ listedAs x (fractureOutcome file blank blank .out)
+  file-text : (x : Answer) → fractureOutcome plateLimit file blank blank .answer ≡ x → listed file ≡ listedAs x (fractureOutcome plateLimit file blank blank .out)
   unfolding listed
-  file-text x e = ap (λ (y : Answer). listedAs y (fractureOutcome file blank blank .out)) e
+  file-text x e = ap (λ (y : Answer). listedAs y (fractureOutcome plateLimit file blank blank .out)) e
 
-  file-told : (x : Answer) → fractureOutcome file blank blank .answer ≡ x → Told file
+  file-told : (x : Answer) → fractureOutcome plateLimit file blank blank .answer ≡ x → Told file
   file-told (refused number place) e = refuses (record { number = number; place = place; text = file-text (refused number place) e })
   file-told (done pieces cuts) e =
-      let o = fractureOutcome file blank blank .out in
+      let o = fractureOutcome plateLimit file blank blank .out in
       let r = recordsOf (done pieces cuts) o in
-      let h = fracture-file-exact file blank blank (subst (λ (x : Answer). T (isDone x)) (sym e) tt) .1 in
+      let h = fracture-file-exact plateLimit file blank blank (subst (λ (x : Answer). T (isDone x)) (sym e) tt) .1 in
       let p = subst (λ (x : Answer). Covers (recordsOf x o)) e h in
-      layer-told r (file-text (done pieces cuts) e) p (deoverlapOutcome r blank blank .answer) refl
+      layer-told r (file-text (done pieces cuts) e) p (deoverlapOutcome plateLimit r blank blank .answer) refl
 
 pub listed-exact : ListedExact
-listed-exact file = file-told file (fractureOutcome file blank blank .answer) refl
+listed-exact file = file-told file (fractureOutcome plateLimit file blank blank .answer) refl
 
 -- ---- a long file
 long-size : (n : ℕ) → 65532 < n → fileSized n ≡ false
@@ -120,16 +119,16 @@ blank-sized : buffersSized (length blank) (length blank) ≡ true
 unfolding sized
 blank-sized = ap (λ (n : ℕ). buffersSized n n) blank-length
 
-long-checked : (file : List ℕ) → 65532 < length file → fractureChecked file (length blank) (length blank) ≡ Refused 4 0
+long-checked : (file : List ℕ) → 65532 < length file → fractureChecked plateLimit file (length blank) (length blank) ≡ Refused 4 0
 unfolding fractureChecked polygonFileChecked
 long-checked file l =
-    let below = directoryRows (directoryOf polygonFile (fileWords file)) (firstOffGrid coordinateLimit 0 (polygonsOf (fileWords file))) in
-    ap (λ (b : Bool). row 1 b (polygonFileChecked coordinateLimit file)) blank-sized ∙ ap (λ (b : Bool). sizeRow b below) (long-size (length file) l)
+    let below = directoryRows (directoryOf polygonFile (fileWords file)) (firstOffGrid plateLimit 0 (polygonsOf (fileWords file))) in
+    ap (λ (b : Bool). row 1 b (polygonFileChecked plateLimit file)) blank-sized ∙ ap (λ (b : Bool). sizeRow b below) (long-size (length file) l)
 
 long-listed : (file : List ℕ) → 65532 < length file → listed file ≡ refusalLine 4 0
 unfolding listed fractureOutcome
 long-listed file l =
-    let ts = fracturedOf file in
+    let ts = fracturedOf plateLimit file in
     let ms = addition (length ts) ∷ [] in
     ap (λ (c : Checked). listedAs (outcome c blank blank ts ms .answer) (outcome c blank blank ts ms .out)) (long-checked file l)
 

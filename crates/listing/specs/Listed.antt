@@ -6,13 +6,13 @@ use Prim.Native.Nat.{ℕ, _<_}
 use lib.ListN.{take}
 use Rattle.lists.specs.Lists.{All, Any}
 use Rattle.geometry.specs.declared.Trapezoid.{Trapezoid}
-use Rattle.geometry.specs.Limit.{coordinateLimit}
 use Rattle.geometry.specs.Points.{Point, IsPoint}
 use Rattle.geometry.specs.Trapezoids.{LiesInLayer, Disjoint}
 use Rattle.geometry.specs.Fitness.{FitFor}
 use Rattle.fracture.specs.Statements.{Wound}
 use Rattle.files.specs.Formats.{fileWords}
 use Rattle.files.specs.Contents.{polygonsOf}
+use Rattle.calls.specs.Rows.{plateLimit}
 use Rattle.listing.specs.Listing.{layerListing, refusalLine}
 use Rattle.listing.specs.Lister.{listed}
 
@@ -20,7 +20,7 @@ use Rattle.listing.specs.Lister.{listed}
 -- file is not zero there
 pub record Lists (file : List ℕ) (ts : List Trapezoid) : Type 0 where
   pub text : listed file ≡ layerListing ts
-  pub fit : All (FitFor coordinateLimit) ts
+  pub fit : All (FitFor plateLimit) ts
   pub disjoint : Disjoint ts
   pub points : (P : Point) → IsPoint P → LiesInLayer P ts ↔ Any (Wound P) (polygonsOf (fileWords file))
 

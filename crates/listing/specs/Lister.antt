@@ -5,6 +5,7 @@ use lib.IntN.{ℤ}
 use lib.ListN.{take}
 use Rattle.records.specs.Limits.{memoryWidth, maxRecords}
 use Rattle.calls.specs.Answers.{Answer, refused, done}
+use Rattle.calls.specs.Rows.{plateLimit}
 use Rattle.calls.specs.Outcomes.{zeros, fractureOutcome, deoverlapOutcome}
 use Rattle.listing.specs.Listing.{listing, refusalLine}
 
@@ -22,7 +23,7 @@ printedAs (done pieces overlays) out = listing pieces out
 
 -- "disjoints ... into 512 records, and prints"
 unfoldable pub deoverlapListed : List ℤ → List ℕ
-deoverlapListed a = printedAs (deoverlapOutcome a blank blank .answer) (deoverlapOutcome a blank blank .out)
+deoverlapListed a = printedAs (deoverlapOutcome plateLimit a blank blank .answer) (deoverlapOutcome plateLimit a blank blank .out)
 
 -- what is printed once the polygons are cut
 abbrev pub listedAs : Answer → List ℤ → List ℕ
@@ -31,4 +32,4 @@ listedAs (done pieces overlays) out = deoverlapListed (take (memoryWidth * piece
 
 -- "The lister reads a sheet on standard input, cuts, disjoints, each into 512 records, and prints."
 unfoldable pub listed : List ℕ → List ℕ
-listed file = listedAs (fractureOutcome file blank blank .answer) (fractureOutcome file blank blank .out)
+listed file = listedAs (fractureOutcome plateLimit file blank blank .answer) (fractureOutcome plateLimit file blank blank .out)

@@ -25,32 +25,32 @@ space-enough : (room k : ℕ) → k ≤ room → space room (addition k ∷ []) 
 unfolding space
 space-enough room k l = rw (le-ltb room k l)
 
-module _ (file : List ℕ) (out scratch : List ℤ) where
-  pub fracture-refuses : {n p : ℕ} → fractureChecked file (length out) (length scratch) ≡ Refused n p → observed (refused n p) out scratch ≡ fractureOutcome file out scratch
+module _ (L : ℕ) (file : List ℕ) (out scratch : List ℤ) where
+  pub fracture-refuses : {n p : ℕ} → fractureChecked L file (length out) (length scratch) ≡ Refused n p → observed (refused n p) out scratch ≡ fractureOutcome L file out scratch
   unfolding fractureOutcome
   fracture-refuses e = rw e
 
-  fracture-written : fractureChecked file (length out) (length scratch) ≡ Passed
-      → written (length out) (fracturedOf file) (space (roomOf out) (addition (length (fracturedOf file)) ∷ [])) ≡ fractureOutcome file out scratch
+  fracture-written : fractureChecked L file (length out) (length scratch) ≡ Passed
+      → written (length out) (fracturedOf L file) (space (roomOf out) (addition (length (fracturedOf L file)) ∷ [])) ≡ fractureOutcome L file out scratch
   unfolding fractureOutcome
   fracture-written e = rw e
 
-  module _ (e : fractureChecked file (length out) (length scratch) ≡ Passed) (f : Fill) (m : ℕ) (d s : List ℤ) (h : FilledAs m (roomOf out) (fracturedOf file) f d) (l : m ≡ length out) (z : s ≡ zeros (length out)) where
-    filled : {g : Fill} → f ≡ g → FilledAs (length out) (roomOf out) (fracturedOf file) g d
-    filled {g} p = subst (λ (f : Fill). FilledAs (length out) (roomOf out) (fracturedOf file) f d) p (subst (λ (m : ℕ). FilledAs m (roomOf out) (fracturedOf file) f d) l h)
+  module _ (e : fractureChecked L file (length out) (length scratch) ≡ Passed) (f : Fill) (m : ℕ) (d s : List ℤ) (h : FilledAs m (roomOf out) (fracturedOf L file) f d) (l : m ≡ length out) (z : s ≡ zeros (length out)) where
+    filled : {g : Fill} → f ≡ g → FilledAs (length out) (roomOf out) (fracturedOf L file) g d
+    filled {g} p = subst (λ (f : Fill). FilledAs (length out) (roomOf out) (fracturedOf L file) f d) p (subst (λ (m : ℕ). FilledAs m (roomOf out) (fracturedOf L file) f d) l h)
 
-    pub fracture-short : f ≡ NoRoom → observed (refused 12 0) d s ≡ fractureOutcome file out scratch
+    pub fracture-short : f ≡ NoRoom → observed (refused 12 0) d s ≡ fractureOutcome L file out scratch
     fracture-short p =
         let k = filled p in
-        let w : observed (refused 12 0) d s ≡ written (length out) (fracturedOf file) (space (roomOf out) (addition (length (fracturedOf file)) ∷ []))
-        = rw (space-short (roomOf out) (length (fracturedOf file)) (k .0), k .1, z) in
+        let w : observed (refused 12 0) d s ≡ written (length out) (fracturedOf L file) (space (roomOf out) (addition (length (fracturedOf L file)) ∷ []))
+        = rw (space-short (roomOf out) (length (fracturedOf L file)) (k .0), k .1, z) in
         w ∙ fracture-written e
 
-    pub fracture-done : {t : ℕ} → f ≡ Written t → observed (done t 0) d s ≡ fractureOutcome file out scratch
+    pub fracture-done : {t : ℕ} → f ≡ Written t → observed (done t 0) d s ≡ fractureOutcome L file out scratch
     fracture-done {t} p =
         let k = filled p in
-        let w : observed (done t 0) d s ≡ written (length out) (fracturedOf file) (space (roomOf out) (addition (length (fracturedOf file)) ∷ []))
-        = rw (space-enough (roomOf out) (length (fracturedOf file)) (k .1), k .0, k .2, z) in
+        let w : observed (done t 0) d s ≡ written (length out) (fracturedOf L file) (space (roomOf out) (addition (length (fracturedOf L file)) ∷ []))
+        = rw (space-enough (roomOf out) (length (fracturedOf L file)) (k .1), k .0, k .2, z) in
         w ∙ fracture-written e
 
     pub fracture-small : roomOf out ≤ maxRecords → {t : ℕ} → f ≡ Written t → Small (done t 0)

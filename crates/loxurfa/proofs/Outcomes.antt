@@ -43,17 +43,17 @@ pub blank-zeros : (d : List ℤ) (n : ℕ) → Blank (pos 0) d → length d ≡ 
 blank-zeros d n e l = e ∙ ap zeros l
 
 -- ---- the point question
-module _ (P : Point) (a b : List ℤ) (code : ℕ) where
-  pub contains-refuses : {n p : ℕ} → containsChecked P a b code ≡ Refused n p → refused-point n p ≡ containsAnswer P a b code
+module _ (L : ℕ) (P : Point) (a b : List ℤ) (code : ℕ) where
+  pub contains-refuses : {n p : ℕ} → containsChecked L P a b code ≡ Refused n p → refused-point n p ≡ containsAnswer L P a b code
   unfolding containsAnswer
   contains-refuses e = rw e
 
-  module _ (e : containsChecked P a b code ≡ Passed) where
-    pub contains-yes : liesInLayer P (result (codeAt code) (layerOf a) (layerOf b)) ≡ true → yes ≡ containsAnswer P a b code
+  module _ (e : containsChecked L P a b code ≡ Passed) where
+    pub contains-yes : liesInLayer P (result (codeAt code) (layerOf a) (layerOf b)) ≡ true → yes ≡ containsAnswer L P a b code
     unfolding containsAnswer
     contains-yes l = rw (e, l)
 
-    pub contains-no : liesInLayer P (result (codeAt code) (layerOf a) (layerOf b)) ≡ false → no ≡ containsAnswer P a b code
+    pub contains-no : liesInLayer P (result (codeAt code) (layerOf a) (layerOf b)) ≡ false → no ≡ containsAnswer L P a b code
     unfolding containsAnswer
     contains-no l = rw (e, l)
 
@@ -74,46 +74,46 @@ module _ (room : ℕ) (ts : List Trapezoid) (ms : List Mark) (f : Folded) (n m :
       let w : c ≤ maxOverlays = subst (OverlaysWithin maxOverlays) g o in
       (omega (arith, l, k .1 .0, k .1 .1), omega (arith, w))
 
-module _ (code : ℕ) (a b out scratch : List ℤ) where
-  pub combine-refuses : {n p : ℕ} → combineChecked code a b (length out) (length scratch) ≡ Refused n p → observed (refused n p) out scratch ≡ combined code a b out scratch
+module _ (L code : ℕ) (a b out scratch : List ℤ) where
+  pub combine-refuses : {n p : ℕ} → combineChecked L code a b (length out) (length scratch) ≡ Refused n p → observed (refused n p) out scratch ≡ combined L code a b out scratch
   unfolding combined
   combine-refuses e = rw e
 
-  combine-written : combineChecked code a b (length out) (length scratch) ≡ Passed
-      → written (length out) (result (codeAt code) (layerOf a) (layerOf b)) (space (roomOf out) (marks (codeAt code) (layerOf a) (layerOf b))) ≡ combined code a b out scratch
+  combine-written : combineChecked L code a b (length out) (length scratch) ≡ Passed
+      → written (length out) (result (codeAt code) (layerOf a) (layerOf b)) (space (roomOf out) (marks (codeAt code) (layerOf a) (layerOf b))) ≡ combined L code a b out scratch
   unfolding combined
   combine-written e = rw e
 
-  module _ (e : combineChecked code a b (length out) (length scratch) ≡ Passed) (f : Folded) (m : ℕ) (d s : List ℤ)
+  module _ (e : combineChecked L code a b (length out) (length scratch) ≡ Passed) (f : Folded) (m : ℕ) (d s : List ℤ)
       (h : FoldedAs m (roomOf out) (result (codeAt code) (layerOf a) (layerOf b)) (marks (codeAt code) (layerOf a) (layerOf b)) f d)
       (l : m ≡ length out) (z : s ≡ zeros (length out)) where
-    pub combine-short : {c : ℕ} → f ≡ Short c → observed (refused 12 0) d s ≡ combined code a b out scratch
+    pub combine-short : {c : ℕ} → f ≡ Short c → observed (refused 12 0) d s ≡ combined L code a b out scratch
     combine-short g =
         written-short (roomOf out) (result (codeAt code) (layerOf a) (layerOf b)) (marks (codeAt code) (layerOf a) (layerOf b)) f (length out) m d s h l z g
         ∙ combine-written e
 
-    pub combine-done : {t c : ℕ} → f ≡ Done t c → observed (done t c) d s ≡ combined code a b out scratch
+    pub combine-done : {t c : ℕ} → f ≡ Done t c → observed (done t c) d s ≡ combined L code a b out scratch
     combine-done g =
         written-done (roomOf out) (result (codeAt code) (layerOf a) (layerOf b)) (marks (codeAt code) (layerOf a) (layerOf b)) f (length out) m d s h l z g
         ∙ combine-written e
 
-module _ (a out scratch : List ℤ) where
-  pub deoverlap-refuses : {n p : ℕ} → deoverlapChecked a (length out) (length scratch) ≡ Refused n p → observed (refused n p) out scratch ≡ deoverlapOutcome a out scratch
+module _ (L : ℕ) (a out scratch : List ℤ) where
+  pub deoverlap-refuses : {n p : ℕ} → deoverlapChecked L a (length out) (length scratch) ≡ Refused n p → observed (refused n p) out scratch ≡ deoverlapOutcome L a out scratch
   unfolding deoverlapOutcome
   deoverlap-refuses e = rw e
 
-  deoverlap-written : deoverlapChecked a (length out) (length scratch) ≡ Passed
-      → written (length out) (deoverlapped (layerOf a)) (space (roomOf out) (deoverlappedMarks [] (layerOf a))) ≡ deoverlapOutcome a out scratch
+  deoverlap-written : deoverlapChecked L a (length out) (length scratch) ≡ Passed
+      → written (length out) (deoverlapped (layerOf a)) (space (roomOf out) (deoverlappedMarks [] (layerOf a))) ≡ deoverlapOutcome L a out scratch
   unfolding deoverlapOutcome
   deoverlap-written e = rw e
 
-  module _ (e : deoverlapChecked a (length out) (length scratch) ≡ Passed) (f : Folded) (m : ℕ) (d s : List ℤ)
+  module _ (e : deoverlapChecked L a (length out) (length scratch) ≡ Passed) (f : Folded) (m : ℕ) (d s : List ℤ)
       (h : FoldedAs m (roomOf out) (deoverlapped (layerOf a)) (deoverlappedMarks [] (layerOf a)) f d) (l : m ≡ length out) (z : s ≡ zeros (length out)) where
-    pub deoverlap-short : {c : ℕ} → f ≡ Short c → observed (refused 12 0) d s ≡ deoverlapOutcome a out scratch
+    pub deoverlap-short : {c : ℕ} → f ≡ Short c → observed (refused 12 0) d s ≡ deoverlapOutcome L a out scratch
     deoverlap-short g =
         written-short (roomOf out) (deoverlapped (layerOf a)) (deoverlappedMarks [] (layerOf a)) f (length out) m d s h l z g ∙ deoverlap-written e
 
-    pub deoverlap-done : {t c : ℕ} → f ≡ Done t c → observed (done t c) d s ≡ deoverlapOutcome a out scratch
+    pub deoverlap-done : {t c : ℕ} → f ≡ Done t c → observed (done t c) d s ≡ deoverlapOutcome L a out scratch
     deoverlap-done g =
         written-done (roomOf out) (deoverlapped (layerOf a)) (deoverlappedMarks [] (layerOf a)) f (length out) m d s h l z g ∙ deoverlap-written e
 
@@ -146,23 +146,23 @@ module _ (room : ℕ) (A B : List Trapezoid) (f : Compared) (h : ComparedAs room
 pub small-same : {f : Compared} {c : ℕ} → ComparedWithin maxOverlays f → f ≡ comparison.Same c → SmallEquality (same c)
 small-same {f} {c} o g = let w : c ≤ maxOverlays = subst (ComparedWithin maxOverlays) g o in omega (arith, w)
 
-module _ (a b out scratch : List ℤ) where
-  pub equal-refuses : {n p : ℕ} → equalChecked a b (length out) (length scratch) ≡ Refused n p → observed (refused-equality n p) out scratch ≡ equalOutcome a b out scratch
+module _ (L : ℕ) (a b out scratch : List ℤ) where
+  pub equal-refuses : {n p : ℕ} → equalChecked L a b (length out) (length scratch) ≡ Refused n p → observed (refused-equality n p) out scratch ≡ equalOutcome L a b out scratch
   unfolding equalOutcome
   equal-refuses e = rw e
 
-  equal-compared : (d s : List ℤ) → d ≡ zeros (length out) → s ≡ zeros (length scratch) → equalChecked a b (length out) (length scratch) ≡ Passed
-      → observed (comparedIn (difference (layerOf a) (layerOf b)) (difference (layerOf b) (layerOf a)) (space (roomOf out) (equalityMarks (layerOf a) (layerOf b)))) d s ≡ equalOutcome a b out scratch
+  equal-compared : (d s : List ℤ) → d ≡ zeros (length out) → s ≡ zeros (length scratch) → equalChecked L a b (length out) (length scratch) ≡ Passed
+      → observed (comparedIn (difference (layerOf a) (layerOf b)) (difference (layerOf b) (layerOf a)) (space (roomOf out) (equalityMarks (layerOf a) (layerOf b)))) d s ≡ equalOutcome L a b out scratch
   unfolding equalOutcome
   equal-compared d s y z e = rw (e, y, z)
 
-  module _ (e : equalChecked a b (length out) (length scratch) ≡ Passed) (f : Compared) (d s : List ℤ) (h : ComparedAs (roomOf out) (layerOf a) (layerOf b) f)
+  module _ (e : equalChecked L a b (length out) (length scratch) ≡ Passed) (f : Compared) (d s : List ℤ) (h : ComparedAs (roomOf out) (layerOf a) (layerOf b) f)
       (y : d ≡ zeros (length out)) (z : s ≡ zeros (length scratch)) where
-    pub equal-short : {c : ℕ} → f ≡ comparison.TooShort c → observed (refused-equality 12 0) d s ≡ equalOutcome a b out scratch
+    pub equal-short : {c : ℕ} → f ≡ comparison.TooShort c → observed (refused-equality 12 0) d s ≡ equalOutcome L a b out scratch
     equal-short g = ap (λ x. observed x d s) (is-short (roomOf out) (layerOf a) (layerOf b) f h g) ∙ equal-compared d s y z e
 
-    pub equal-same : {c : ℕ} → f ≡ comparison.Same c → observed (same c) d s ≡ equalOutcome a b out scratch
+    pub equal-same : {c : ℕ} → f ≡ comparison.Same c → observed (same c) d s ≡ equalOutcome L a b out scratch
     equal-same g = ap (λ x. observed x d s) (is-same (roomOf out) (layerOf a) (layerOf b) f h g) ∙ equal-compared d s y z e
 
-    pub equal-different : {i c : ℕ} → f ≡ comparison.Differs i c → observed (differs i c) d s ≡ equalOutcome a b out scratch
+    pub equal-different : {i c : ℕ} → f ≡ comparison.Differs i c → observed (differs i c) d s ≡ equalOutcome L a b out scratch
     equal-different g = ap (λ x. observed x d s) (is-different (roomOf out) (layerOf a) (layerOf b) f h g) ∙ equal-compared d s y z e

@@ -19,6 +19,7 @@ ghost use Rattle.files.specs.Outcomes.{readAnswer, writtenAnswer, Small as Smal
 ghost use Rattle.calls.specs.Components.{connectedAnswer, Small as SmallConnected};
 ghost use Rattle.calls.specs.Contracts.{ComponentsKept, ReadKept, WriteKept, FractureKept, CombineKept, DeoverlapKept, EqualKept, ContainsKept};
 ghost use Rattle.calls.specs.Answers.{fracturedAnswer, combinedAnswer, deoverlappedAnswer, equalityAnswer, pointAnswer, Small, SmallEquality, SmallPoint};
+ghost use Rattle.calls.specs.Rows.{plateLimit};
 ghost use Rattle.calls.specs.Outcomes.{zeros, containsAnswer};
 ghost use Rattle.geometry_code.specs.Code.{pointOf};
 
@@ -32,10 +33,10 @@ fn clear_both(out: &mut [i32], scratch: &mut [i32])
 
 // The trapezoids of the polygons of a polygon file, written to `out`. `scratch` is as long as `out`.
 pub fn fracture(file: &[u8], out: &mut [i32], scratch: &mut [i32]) -> Fractured
-    ensures { λ r. ⌜ FractureKept (now (file .entry)) (now (out .entry)) (now (scratch .entry)) r (now (out .exit)) (now (scratch .exit)) ⌝ }
+    ensures { λ r. ⌜ FractureKept plateLimit (now (file .entry)) (now (out .entry)) (now (scratch .entry)) r (now (out .exit)) (now (scratch .exit)) ⌝ }
     ensures small { λ r. ⌜ Small (fracturedAnswer r) ⌝ }
 {
-    let checked = rows_code::fracture_checked(file, out.len(), scratch.len());
+    let checked = rows_code::fracture_checked(calls::PLATE_LIMIT, file, out.len(), scratch.len());
     match checked {
         Checked::Refused { number, place } => {
             return Fractured::Refused { number, place };
@@ -44,7 +45,7 @@ pub fn fracture(file: &[u8], out: &mut [i32], scratch: &mut [i32]) -> Fractured
     }
     let room = out.len() / records::MEMORY_WIDTH;
     clear_both(out, scratch);
-    let f = polygons_code::fracture_file(file, geometry::COORDINATE_LIMIT, out, room);
+    let f = polygons_code::fracture_file(file, calls::PLATE_LIMIT, out, room);
     match f {
         Fill::NoRoom => {
             return Fractured::Refused {
@@ -63,10 +64,17 @@ pub fn fracture(file: &[u8], out: &mut [i32], scratch: &mut [i32]) -> Fractured
 
 // The set operation with this code on a and b, written to `out`. `scratch` is as long as `out`.
 pub fn combine(code: u32, a: &[i32], b: &[i32], out: &mut [i32], scratch: &mut [i32]) -> Combined
-    ensures { λ r. ⌜ CombineKept code (now (a .entry)) (now (b .entry)) (now (out .entry)) (now (scratch .entry)) r (now (out .exit)) (now (scratch .exit)) ⌝ }
+    ensures { λ r. ⌜ CombineKept plateLimit code (now (a .entry)) (now (b .entry)) (now (out .entry)) (now (scratch .entry)) r (now (out .exit)) (now (scratch .exit)) ⌝ }
     ensures small { λ r. ⌜ Small (combinedAnswer r) ⌝ }
 {
-    let checked = rows_code::combine_checked(code, a, b, out.len(), scratch.len());
+    let checked = rows_code::combine_checked(
+        calls::PLATE_LIMIT,
+        code,
+        a,
+        b,
+        out.len(),
+        scratch.len(),
+    );
     match checked {
         Checked::Refused { number, place } => {
             return Combined::Refused { number, place };
@@ -97,10 +105,10 @@ pub fn combine(code: u32, a: &[i32], b: &[i32], out: &mut [i32], scratch: &mut [
 
 // The trapezoids of a without overlaps, written to `out`. `scratch` is as long as `out`.
 pub fn deoverlap(a: &[i32], out: &mut [i32], scratch: &mut [i32]) -> Deoverlapped
-    ensures { λ r. ⌜ DeoverlapKept (now (a .entry)) (now (out .entry)) (now (scratch .entry)) r (now (out .exit)) (now (scratch .exit)) ⌝ }
+    ensures { λ r. ⌜ DeoverlapKept plateLimit (now (a .entry)) (now (out .entry)) (now (scratch .entry)) r (now (out .exit)) (now (scratch .exit)) ⌝ }
     ensures small { λ r. ⌜ Small (deoverlappedAnswer r) ⌝ }
 {
-    let checked = rows_code::deoverlap_checked(a, out.len(), scratch.len());
+    let checked = rows_code::deoverlap_checked(calls::PLATE_LIMIT, a, out.len(), scratch.len());
     match checked {
         Checked::Refused { number, place } => {
             return Deoverlapped::Refused { number, place };
@@ -131,10 +139,10 @@ pub fn deoverlap(a: &[i32], out: &mut [i32], scratch: &mut [i32]) -> Deoverlappe
 
 // Whether the same points lie in a and b. `out` and `scratch`, which is as long, are left blank.
 pub fn equal(a: &[i32], b: &[i32], out: &mut [i32], scratch: &mut [i32]) -> Equality
-    ensures { λ r. ⌜ EqualKept (now (a .entry)) (now (b .entry)) (now (out .entry)) (now (scratch .entry)) r (now (out .exit)) (now (scratch .exit)) ⌝ }
+    ensures { λ r. ⌜ EqualKept plateLimit (now (a .entry)) (now (b .entry)) (now (out .entry)) (now (scratch .entry)) r (now (out .exit)) (now (scratch .exit)) ⌝ }
     ensures small { λ r. ⌜ SmallEquality (equalityAnswer r) ⌝ }
 {
-    let checked = rows_code::equal_checked(a, b, out.len(), scratch.len());
+    let checked = rows_code::equal_checked(calls::PLATE_LIMIT, a, b, out.len(), scratch.len());
     match checked {
         Checked::Refused { number, place } => {
             return Equality::Refused { number, place };
@@ -162,10 +170,10 @@ pub fn equal(a: &[i32], b: &[i32], out: &mut [i32], scratch: &mut [i32]) -> Equa
 
 // The point question, of numbers.
 fn contains_at(x: Int, y: Int, d: Int, a: &[i32], b: &[i32], code: u32) -> Containment
-    ensures { λ r. ⌜ pointAnswer r ≡ containsAnswer (pointOf x y d) (now (a .entry)) (now (b .entry)) code ⌝ }
+    ensures { λ r. ⌜ pointAnswer r ≡ containsAnswer plateLimit (pointOf x y d) (now (a .entry)) (now (b .entry)) code ⌝ }
     ensures small { λ r. ⌜ SmallPoint (pointAnswer r) ⌝ }
 {
-    let checked = rows_code::contains_checked(x, y, d, a, b, code);
+    let checked = rows_code::contains_checked(calls::PLATE_LIMIT, x, y, d, a, b, code);
     match checked {
         Checked::Refused { number, place } => {
             return Containment::Refused { number, place };
@@ -182,7 +190,7 @@ fn contains_at(x: Int, y: Int, d: Int, a: &[i32], b: &[i32], code: u32) -> Conta
 
 // Whether the point (x/d, y/d) lies in the result of the set operation with this code on a and b.
 pub fn contains(x: i32, y: i32, d: i32, a: &[i32], b: &[i32], code: u32) -> Containment
-    ensures { λ r. ⌜ ContainsKept x y d (now (a .entry)) (now (b .entry)) code r ⌝ }
+    ensures { λ r. ⌜ ContainsKept plateLimit x y d (now (a .entry)) (now (b .entry)) code r ⌝ }
     ensures small { λ r. ⌜ SmallPoint (pointAnswer r) ⌝ }
 {
     let p = integer_code::widen(x);
@@ -193,10 +201,10 @@ pub fn contains(x: i32, y: i32, d: i32, a: &[i32], b: &[i32], code: u32) -> Cont
 
 // Each trapezoid's component number, the lowest of its component, written to `numbers`, which has an entry for each trapezoid.
 pub fn components(a: &[i32], numbers: &mut [u32]) -> Connected
-    ensures { λ r. ⌜ ComponentsKept (now (a .entry)) (now (numbers .entry)) r (now (numbers .exit)) ⌝ }
+    ensures { λ r. ⌜ ComponentsKept plateLimit (now (a .entry)) (now (numbers .entry)) r (now (numbers .exit)) ⌝ }
     ensures small { λ r. ⌜ SmallConnected (connectedAnswer r) ⌝ }
 {
-    let checked = rows_code::components_checked(a, numbers.len());
+    let checked = rows_code::components_checked(calls::PLATE_LIMIT, a, numbers.len());
     match checked {
         Checked::Refused { number, place } => {
             return Connected::Refused { number, place };
@@ -209,10 +217,10 @@ pub fn components(a: &[i32], numbers: &mut [u32]) -> Connected
 
 // The words of a layer file, written to `out`, which has any length.
 pub fn read_layers(file: &[u8], out: &mut [i32]) -> LayersRead
-    ensures { λ r. ⌜ ReadKept (now (file .entry)) (now (out .entry)) r (now (out .exit)) ⌝ }
+    ensures { λ r. ⌜ ReadKept plateLimit (now (file .entry)) (now (out .entry)) r (now (out .exit)) ⌝ }
     ensures small { λ r. ⌜ SmallFile (readAnswer r) ⌝ }
 {
-    let c = files_code::check_layer_file(file);
+    let c = files_code::check_layer_file(file, calls::PLATE_LIMIT);
     match c {
         Checked::Passed => {}
         Checked::Refused { number, place } => {
@@ -236,10 +244,10 @@ pub fn read_layers(file: &[u8], out: &mut [i32]) -> LayersRead
 
 // The layer file with these words, written to `out`, which has any length.
 pub fn write_layers(words: &[i32], out: &mut [u8]) -> LayersWritten
-    ensures { λ r. ⌜ WriteKept (now (words .entry)) (now (out .entry)) r (now (out .exit)) ⌝ }
+    ensures { λ r. ⌜ WriteKept plateLimit (now (words .entry)) (now (out .entry)) r (now (out .exit)) ⌝ }
     ensures small { λ r. ⌜ SmallFile (writtenAnswer r) ⌝ }
 {
-    let c = files_code::check_layer_words(words);
+    let c = files_code::check_layer_words(words, calls::PLATE_LIMIT);
     match c {
         Checked::Passed => {}
         Checked::Refused { number, place } => {

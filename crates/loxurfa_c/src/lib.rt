@@ -12,6 +12,7 @@ ghost use Prim.Native.Nat.{_<_, _≤_};
 ghost use Rattle.records.specs.Limits.{maxRecords};
 ghost use Rattle.geometry.specs.Fitness.{SmallRefusal};
 ghost use Rattle.calls.specs.Packed.{refusal as refusalOf, success as successOf};
+ghost use Rattle.calls.specs.Rows.{plateLimit};
 ghost use Rattle.calls.specs.Contracts.{FractureKeptForC, CombineKeptForC, DeoverlapKeptForC, EqualKeptForC, ContainsKeptForC, ReadKeptForC, WriteKeptForC, ComponentsKeptForC};
 
 fn refusal(number: u32, place: usize) -> u64
@@ -30,7 +31,7 @@ fn success(high: usize, overlays: usize) -> u64
 
 #[no_mangle]
 pub extern "C" fn loxurfa_fracture(file: &[u8], out: &mut [i32], scratch: &mut [i32]) -> u64
-    ensures { λ r. ⌜ FractureKeptForC (now (file .entry)) (now (out .entry)) (now (scratch .entry)) r (now (out .exit)) (now (scratch .exit)) ⌝ }
+    ensures { λ r. ⌜ FractureKeptForC plateLimit (now (file .entry)) (now (out .entry)) (now (scratch .entry)) r (now (out .exit)) (now (scratch .exit)) ⌝ }
 {
     let answer = loxurfa::fracture(file, out, scratch);
     match answer {
@@ -51,7 +52,7 @@ pub extern "C" fn loxurfa_combine(
     out: &mut [i32],
     scratch: &mut [i32],
 ) -> u64
-    ensures { λ r. ⌜ CombineKeptForC code (now (a .entry)) (now (b .entry)) (now (out .entry)) (now (scratch .entry)) r (now (out .exit)) (now (scratch .exit)) ⌝ }
+    ensures { λ r. ⌜ CombineKeptForC plateLimit code (now (a .entry)) (now (b .entry)) (now (out .entry)) (now (scratch .entry)) r (now (out .exit)) (now (scratch .exit)) ⌝ }
 {
     let answer = loxurfa::combine(code, a, b, out, scratch);
     match answer {
@@ -66,7 +67,7 @@ pub extern "C" fn loxurfa_combine(
 
 #[no_mangle]
 pub extern "C" fn loxurfa_deoverlap(a: &[i32], out: &mut [i32], scratch: &mut [i32]) -> u64
-    ensures { λ r. ⌜ DeoverlapKeptForC (now (a .entry)) (now (out .entry)) (now (scratch .entry)) r (now (out .exit)) (now (scratch .exit)) ⌝ }
+    ensures { λ r. ⌜ DeoverlapKeptForC plateLimit (now (a .entry)) (now (out .entry)) (now (scratch .entry)) r (now (out .exit)) (now (scratch .exit)) ⌝ }
 {
     let answer = loxurfa::deoverlap(a, out, scratch);
     match answer {
@@ -81,7 +82,7 @@ pub extern "C" fn loxurfa_deoverlap(a: &[i32], out: &mut [i32], scratch: &mut [i
 
 #[no_mangle]
 pub extern "C" fn loxurfa_equal(a: &[i32], b: &[i32], out: &mut [i32], scratch: &mut [i32]) -> u64
-    ensures { λ r. ⌜ EqualKeptForC (now (a .entry)) (now (b .entry)) (now (out .entry)) (now (scratch .entry)) r (now (out .exit)) (now (scratch .exit)) ⌝ }
+    ensures { λ r. ⌜ EqualKeptForC plateLimit (now (a .entry)) (now (b .entry)) (now (out .entry)) (now (scratch .entry)) r (now (out .exit)) (now (scratch .exit)) ⌝ }
 {
     let answer = loxurfa::equal(a, b, out, scratch);
     match answer {
@@ -99,7 +100,7 @@ pub extern "C" fn loxurfa_equal(a: &[i32], b: &[i32], out: &mut [i32], scratch: 
 
 #[no_mangle]
 pub extern "C" fn loxurfa_contains(x: i32, y: i32, d: i32, a: &[i32], b: &[i32], code: u32) -> u64
-    ensures { λ r. ⌜ ContainsKeptForC x y d (now (a .entry)) (now (b .entry)) code r ⌝ }
+    ensures { λ r. ⌜ ContainsKeptForC plateLimit x y d (now (a .entry)) (now (b .entry)) code r ⌝ }
 {
     let answer = loxurfa::contains(x, y, d, a, b, code);
     match answer {
@@ -117,7 +118,7 @@ pub extern "C" fn loxurfa_contains(x: i32, y: i32, d: i32, a: &[i32], b: &[i32],
 
 #[no_mangle]
 pub extern "C" fn loxurfa_read_layers(file: &[u8], out: &mut [i32]) -> u64
-    ensures { λ r. ⌜ ReadKeptForC (now (file .entry)) (now (out .entry)) r (now (out .exit)) ⌝ }
+    ensures { λ r. ⌜ ReadKeptForC plateLimit (now (file .entry)) (now (out .entry)) r (now (out .exit)) ⌝ }
 {
     let answer = loxurfa::read_layers(file, out);
     match answer {
@@ -132,7 +133,7 @@ pub extern "C" fn loxurfa_read_layers(file: &[u8], out: &mut [i32]) -> u64
 
 #[no_mangle]
 pub extern "C" fn loxurfa_write_layers(words: &[i32], out: &mut [u8]) -> u64
-    ensures { λ r. ⌜ WriteKeptForC (now (words .entry)) (now (out .entry)) r (now (out .exit)) ⌝ }
+    ensures { λ r. ⌜ WriteKeptForC plateLimit (now (words .entry)) (now (out .entry)) r (now (out .exit)) ⌝ }
 {
     let answer = loxurfa::write_layers(words, out);
     match answer {
@@ -147,7 +148,7 @@ pub extern "C" fn loxurfa_write_layers(words: &[i32], out: &mut [u8]) -> u64
 
 #[no_mangle]
 pub extern "C" fn loxurfa_components(a: &[i32], numbers: &mut [u32]) -> u64
-    ensures { λ r. ⌜ ComponentsKeptForC (now (a .entry)) (now (numbers .entry)) r (now (numbers .exit)) ⌝ }
+    ensures { λ r. ⌜ ComponentsKeptForC plateLimit (now (a .entry)) (now (numbers .entry)) r (now (numbers .exit)) ⌝ }
 {
     let answer = loxurfa::components(a, numbers);
     match answer {

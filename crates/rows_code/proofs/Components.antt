@@ -9,11 +9,9 @@ use lib.IntN.{ℤ}
 use Rattle.records.specs.Limits.{sized}
 use Rattle.records.specs.Records.{count}
 use Rattle.geometry.specs.declared.Checked.the-variants.{Refused}
-use Rattle.geometry.specs.Limit.{coordinateLimit}
 use Rattle.geometry.specs.Trapezoids.{trapezoidCodec, layerOf}
 use Rattle.geometry.specs.Fitness.{firstRefusal}
 use Rattle.calls.specs.Components.{listsSized, componentsChecked}
-use Rattle.calls.proofs.Components.{rows}
 
 -- ---- the rows, branch by branch
 module _ (a : List ℤ) (n : ℕ) where
@@ -25,10 +23,10 @@ module _ (a : List ℤ) (n : ℕ) where
   unfolding listsSized
   lists-by e f = rw e f
 
-  pub checked-lists : listsSized a n ≡ false → Refused 1 0 ≡ componentsChecked a n
+  pub checked-lists : (L : ℕ) → listsSized a n ≡ false → Refused 1 0 ≡ componentsChecked L a n
   unfolding componentsChecked
-  checked-lists e = rw e
+  checked-lists L e = rw e
 
-  pub checked-layer : listsSized a n ≡ true → firstRefusal coordinateLimit 0 (layerOf a) ≡ componentsChecked a n
+  pub checked-layer : (L : ℕ) → listsSized a n ≡ true → firstRefusal L 0 (layerOf a) ≡ componentsChecked L a n
   unfolding componentsChecked
-  checked-layer e = rw e
+  checked-layer L e = rw e

@@ -4,16 +4,15 @@ use mathlib.Core.Bool.{true, false}
 use mathlib.Core.List.{List}
 use Prim.Native.Nat.{ℕ}
 use Rattle.geometry.specs.declared.Checked.the-variants.{Refused}
-use Rattle.geometry.specs.Limit.{coordinateLimit}
 use Rattle.files.specs.Rows.{polygonFileChecked}
 use Rattle.calls.specs.Rows.{buffersSized, fractureChecked}
 
 -- ---- its rows
-module _ (file : List ℕ) (out scratch : ℕ) where
-  pub fracture-lengths : buffersSized out scratch ≡ false → Refused 1 0 ≡ fractureChecked file out scratch
+module _ (L : ℕ) (file : List ℕ) (out scratch : ℕ) where
+  pub fracture-lengths : buffersSized out scratch ≡ false → Refused 1 0 ≡ fractureChecked L file out scratch
   unfolding fractureChecked
   fracture-lengths e = rw e
 
-  pub fracture-rows : buffersSized out scratch ≡ true → polygonFileChecked coordinateLimit file ≡ fractureChecked file out scratch
+  pub fracture-rows : buffersSized out scratch ≡ true → polygonFileChecked L file ≡ fractureChecked L file out scratch
   unfolding fractureChecked
   fracture-rows e = rw e

@@ -1,4 +1,4 @@
-// The rows that each public function checks before it does anything.
+// The rows that each public function checks before it does anything, under a coordinate limit.
 use geometry::Checked;
 use integer::Int;
 ghost use mathlib.Core.Path.{_≡_};
@@ -8,6 +8,7 @@ ghost use lib.ListN.{length};
 ghost use lib.IntN.{pos, natAbs};
 ghost use lib.Signed.{leZ};
 ghost use Rattle.records.specs.Limits.{sized, memoryWidth, maxRecords};
+ghost use Rattle.geometry.specs.Limit.{coordinateLimit};
 ghost use Rattle.calls.specs.Components.{listsSized, componentsChecked};
 ghost use Rattle.calls.specs.Rows.{buffersSized, withinTimes, pointPasses, layersChecked, fractureChecked, combineChecked, deoverlapChecked, equalChecked, containsChecked};
 ghost use Rattle.geometry_code.specs.Code.{pointOf};
@@ -57,13 +58,13 @@ fn layers_sized(a: usize, b: usize) -> bool
     false
 }
 
-// Whether z is from -COORDINATE_LIMIT times d to COORDINATE_LIMIT times d.
-fn within_times(z: Int, d: Int) -> bool
-    requires { ⌜ natAbs (d .v) ≤ 1024 ⌝ }
-    ensures { λ r. ⌜ r ≡ withinTimes (z .v) (d .v) ⌝ }
+// Whether z is from -limit times d to limit times d.
+fn within_times(limit: u32, z: Int, d: Int) -> bool
+    requires { ⌜ (limit ≤ coordinateLimit) × (natAbs (d .v) ≤ 1024) ⌝ }
+    ensures { λ r. ⌜ r ≡ withinTimes limit (z .v) (d .v) ⌝ }
 {
-    let limit = integer_code::natural(geometry::COORDINATE_LIMIT);
-    let most = integer_code::mul(limit, d);
+    let l = integer_code::natural(limit);
+    let most = integer_code::mul(l, d);
     let least = integer_code::neg(most);
     if integer_code::at_most(least, z) {
         return integer_code::at_most(z, most);
@@ -84,30 +85,27 @@ fn denominator_passes(d: Int) -> bool
 }
 
 // Row 3 lets the point (x/d, y/d) pass.
-fn point_passes(x: Int, y: Int, d: Int) -> bool
-    ensures { λ r. ⌜ r ≡ pointPasses (pointOf x y d) ⌝ }
+fn point_passes(limit: u32, x: Int, y: Int, d: Int) -> bool
+    requires { ⌜ limit ≤ coordinateLimit ⌝ }
+    ensures { λ r. ⌜ r ≡ pointPasses limit (pointOf x y d) ⌝ }
 {
     if denominator_passes(d) {
-        if within_times(x, d) {
-            return within_times(y, d);
+        if within_times(limit, x, d) {
+            return within_times(limit, y, d);
         }
     }
     false
 }
 
 // Rows 7 to 11: the trapezoids of the first layer, then those of the second, numbered on.
-fn layers_checked(a: &[i32], b: &[i32]) -> Checked
-    requires { ⌜ length (now a) ≤ memoryWidth * maxRecords ⌝ }
-    ensures { λ r. ⌜ r ≡ layersChecked (now (a .entry)) (now (b .entry)) ⌝ }
+fn layers_checked(limit: u32, a: &[i32], b: &[i32]) -> Checked
+    requires { ⌜ (limit ≤ coordinateLimit) × (length (now a) ≤ memoryWidth * maxRecords) ⌝ }
+    ensures { λ r. ⌜ r ≡ layersChecked limit (now (a .entry)) (now (b .entry)) ⌝ }
 {
-    let first = fitness_code::first_refused(a, geometry::COORDINATE_LIMIT, 0);
+    let first = fitness_code::first_refused(a, limit, 0);
     match first {
         Checked::Passed => {
-            return fitness_code::first_refused(
-                b,
-                geometry::COORDINATE_LIMIT,
-                a.len() / records::MEMORY_WIDTH,
-            );
+            return fitness_code::first_refused(b, limit, a.len() / records::MEMORY_WIDTH);
         }
         Checked::Refused { number, place } => {
             return Checked::Refused { number, place };
@@ -116,11 +114,11 @@ fn layers_checked(a: &[i32], b: &[i32]) -> Checked
 }
 
 // The rows of `fracture`.
-pub fn fracture_checked(file: &[u8], out: usize, scratch: usize) -> Checked
-    ensures { λ r. ⌜ r ≡ fractureChecked (now (file .entry)) out scratch ⌝ }
+pub fn fracture_checked(limit: u32, file: &[u8], out: usize, scratch: usize) -> Checked
+    ensures { λ r. ⌜ r ≡ fractureChecked limit (now (file .entry)) out scratch ⌝ }
 {
     if buffers_sized(out, scratch) {
-        return files_code::check_polygon_file(file, geometry::COORDINATE_LIMIT);
+        return files_code::check_polygon_file(file, limit);
     }
     Checked::Refused {
         number: 1,
@@ -129,12 +127,20 @@ pub fn fracture_checked(file: &[u8], out: usize, scratch: usize) -> Checked
 }
 
 // The rows of `combine`, with an output and a scratch area of so many words.
-pub fn combine_checked(code: u32, a: &[i32], b: &[i32], out: usize, scratch: usize) -> Checked
-    ensures { λ r. ⌜ r ≡ combineChecked code (now (a .entry)) (now (b .entry)) out scratch ⌝ }
+pub fn combine_checked(
+    limit: u32,
+    code: u32,
+    a: &[i32],
+    b: &[i32],
+    out: usize,
+    scratch: usize,
+) -> Checked
+    requires { ⌜ limit ≤ coordinateLimit ⌝ }
+    ensures { λ r. ⌜ r ≡ combineChecked limit code (now (a .entry)) (now (b .entry)) out scratch ⌝ }
 {
     if both_sized(a.len(), b.len(), out, scratch) {
         if code < CODES {
-            return layers_checked(a, b);
+            return layers_checked(limit, a, b);
         }
         return Checked::Refused {
             number: 2,
@@ -148,11 +154,12 @@ pub fn combine_checked(code: u32, a: &[i32], b: &[i32], out: usize, scratch: usi
 }
 
 // The rows of `deoverlap`.
-pub fn deoverlap_checked(a: &[i32], out: usize, scratch: usize) -> Checked
-    ensures { λ r. ⌜ r ≡ deoverlapChecked (now (a .entry)) out scratch ⌝ }
+pub fn deoverlap_checked(limit: u32, a: &[i32], out: usize, scratch: usize) -> Checked
+    requires { ⌜ limit ≤ coordinateLimit ⌝ }
+    ensures { λ r. ⌜ r ≡ deoverlapChecked limit (now (a .entry)) out scratch ⌝ }
 {
     if one_sized(a.len(), out, scratch) {
-        return fitness_code::first_refused(a, geometry::COORDINATE_LIMIT, 0);
+        return fitness_code::first_refused(a, limit, 0);
     }
     Checked::Refused {
         number: 1,
@@ -161,11 +168,12 @@ pub fn deoverlap_checked(a: &[i32], out: usize, scratch: usize) -> Checked
 }
 
 // The rows of `equal`.
-pub fn equal_checked(a: &[i32], b: &[i32], out: usize, scratch: usize) -> Checked
-    ensures { λ r. ⌜ r ≡ equalChecked (now (a .entry)) (now (b .entry)) out scratch ⌝ }
+pub fn equal_checked(limit: u32, a: &[i32], b: &[i32], out: usize, scratch: usize) -> Checked
+    requires { ⌜ limit ≤ coordinateLimit ⌝ }
+    ensures { λ r. ⌜ r ≡ equalChecked limit (now (a .entry)) (now (b .entry)) out scratch ⌝ }
 {
     if both_sized(a.len(), b.len(), out, scratch) {
-        return layers_checked(a, b);
+        return layers_checked(limit, a, b);
     }
     Checked::Refused {
         number: 1,
@@ -174,13 +182,22 @@ pub fn equal_checked(a: &[i32], b: &[i32], out: usize, scratch: usize) -> Checke
 }
 
 // The rows of `contains`.
-pub fn contains_checked(x: Int, y: Int, d: Int, a: &[i32], b: &[i32], code: u32) -> Checked
-    ensures { λ r. ⌜ r ≡ containsChecked (pointOf x y d) (now (a .entry)) (now (b .entry)) code ⌝ }
+pub fn contains_checked(
+    limit: u32,
+    x: Int,
+    y: Int,
+    d: Int,
+    a: &[i32],
+    b: &[i32],
+    code: u32,
+) -> Checked
+    requires { ⌜ limit ≤ coordinateLimit ⌝ }
+    ensures { λ r. ⌜ r ≡ containsChecked limit (pointOf x y d) (now (a .entry)) (now (b .entry)) code ⌝ }
 {
     if layers_sized(a.len(), b.len()) {
         if code < CODES {
-            if point_passes(x, y, d) {
-                return layers_checked(a, b);
+            if point_passes(limit, x, y, d) {
+                return layers_checked(limit, a, b);
             }
             return Checked::Refused {
                 number: 3,
@@ -209,11 +226,12 @@ fn lists_sized(a: &[i32], n: usize) -> bool
 }
 
 // The rows of `components`.
-pub fn components_checked(a: &[i32], n: usize) -> Checked
-    ensures { λ r. ⌜ r ≡ componentsChecked (now (a .entry)) n ⌝ }
+pub fn components_checked(limit: u32, a: &[i32], n: usize) -> Checked
+    requires { ⌜ limit ≤ coordinateLimit ⌝ }
+    ensures { λ r. ⌜ r ≡ componentsChecked limit (now (a .entry)) n ⌝ }
 {
     if lists_sized(a, n) {
-        return fitness_code::first_refused(a, geometry::COORDINATE_LIMIT, 0);
+        return fitness_code::first_refused(a, limit, 0);
     }
     Checked::Refused {
         number: 1,

@@ -6,7 +6,6 @@ use borrow.Author.Needs.{needs}
 use Rattle.geometry.specs.declared.Verdict.the-variants.{Fit}
 use Rattle.geometry.specs.declared.Checked.the-variants.{Refused}
 use Rattle.geometry.specs.Fitness.{verdict}
-use Rattle.geometry.specs.Limit.{coordinateLimit}
 use Rattle.files.specs.Formats.{fileWords}
 use Rattle.files.proofs.Reading.{below-count, above-count}
 use Rattle.fitness_code.proofs.Checking.{Checking, begin, fit, refused, passed}
@@ -14,13 +13,13 @@ use Rattle.files_code.proofs.body_refused.Statement.{statement}
 use Rattle.files_code.proofs.body_refused.Tie as tie
 
 abbrev Inv-loop : tie.InvT-loop
-Inv-loop body n i₀ i = Checking coordinateLimit 0 (fileWords body) i
+Inv-loop body limit n i₀ i = Checking limit 0 (fileWords body) i
 
 abbrev μ-loop : tie.MeasureT-loop
-μ-loop body n i₀ i = n - i
+μ-loop body limit n i₀ i = n - i
 
 loop-holds : tie.Need-loop-holds Inv-loop μ-loop
-loop-holds c = begin coordinateLimit 0 (fileWords (c .before .args .body .now))
+loop-holds c = begin (c .before .args .limit) 0 (fileWords (c .before .args .body .now))
 
 load-file-trapezoid-requires : tie.Need-load-file-trapezoid-requires Inv-loop μ-loop
 load-file-trapezoid-requires c κs = omega (arith, c .loop-test .taken)

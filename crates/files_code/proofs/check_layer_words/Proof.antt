@@ -43,13 +43,14 @@ returns : tie.Need-returns
 returns c =
     let k = c .before in
     let s = k .before .before .before .before in
-    layers-wrong layerWords trapezoidCodec (s .args .words .now) (sym (ap (λ (f : Format). directoryOf f (s .args .words .now)) (k .before .before .before .memory-format .ensures)) ∙ sym (k .before .before .words-directory .ensures) ∙ k .d .given .1)
+    layers-wrong (s .args .limit) layerWords trapezoidCodec (s .args .words .now) (sym (ap (λ (f : Format). directoryOf f (s .args .words .now)) (k .before .before .before .memory-format .ensures)) ∙ sym (k .before .before .words-directory .ensures) ∙ k .d .given .1)
 
 returns-2 : tie.Need-returns-2
 returns-2 c =
     let k = c .before .before in
-    let ws = k .before .before .before .before .before .args .words .now in
-    c .first-refused .ensures ∙ layers-right layerWords trapezoidCodec ws (found k) (mid-tail (2 * k .before .d2 .given .0 .0 + 1) ws)
+    let s = k .before .before .before .before .before in
+    let ws = s .args .words .now in
+    c .first-refused .ensures ∙ layers-right (s .args .limit) layerWords trapezoidCodec ws (found k) (mid-tail (2 * k .before .d2 .given .0 .0 + 1) ws)
 
 pub check-layer-words-spec : {M : Type 1} → statement M
 check-layer-words-spec =

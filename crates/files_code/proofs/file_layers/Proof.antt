@@ -48,14 +48,15 @@ returns : tie.Need-returns
 returns c =
     let k = c .before in
     let s = k .before .before .before .before .before in
-    layers-wrong layerFile fileCodec (fileWords (s .args .file .now)) (sym (ap (λ (f : Format). directoryOf f (fileWords (s .args .file .now))) (k .before .before .before .layer-format .ensures)) ∙ sym (k .before .before .file-directory .ensures) ∙ k .d .given .1)
+    layers-wrong (s .args .limit) layerFile fileCodec (fileWords (s .args .file .now)) (sym (ap (λ (f : Format). directoryOf f (fileWords (s .args .file .now))) (k .before .before .before .layer-format .ensures)) ∙ sym (k .before .before .file-directory .ensures) ∙ k .d .given .1)
 
 returns-2 : tie.Need-returns-2
 returns-2 c =
     let k = c .before .before in
-    let bs = k .before .before .before .before .before .before .args .file .now in
+    let s = k .before .before .before .before .before .before in
+    let bs = s .args .file .now in
     let n = k .before .d2 .given .0 .0 in
-    c .body-refused .ensures ∙ layers-right layerFile fileCodec (fileWords bs) (found k) (ap fileWords (mid-tail (4 * (2 * n + 1)) bs) ∙ body-words bs (2 * n + 1))
+    c .body-refused .ensures ∙ layers-right (s .args .limit) layerFile fileCodec (fileWords bs) (found k) (ap fileWords (mid-tail (4 * (2 * n + 1)) bs) ∙ body-words bs (2 * n + 1))
 
 pub file-layers-spec : {M : Type 1} → statement M
 file-layers-spec =

@@ -1,13 +1,13 @@
 use mathlib.Core.Path.{_≡_, sym, _∙_, ap}
 use mathlib.Core.Bool.{Bool}
+use native.Mathlib.Omega.{arith}
 use borrow.Author.Needs.{needs}
 use Rattle.geometry.specs.declared.Checked.the-variants.{Passed}
-use Rattle.geometry.specs.Limit.{coordinateLimit}
 use Rattle.geometry.specs.Trapezoids.{layerOf, liesInLayer}
 use Rattle.boolean.specs.Operations.{codeAt, result, says}
-use Rattle.calls.specs.Rows.{containsChecked}
+use Rattle.calls.specs.Rows.{plateLimit, containsChecked}
 use Rattle.calls.proofs.Bounds.{point-real}
-use Rattle.calls.proofs.Checks.{ContainsReady, contains-ready, contains-refused}
+use Rattle.calls.proofs.Checks.{ContainsReady, contains-ready, contains-refused, layer-of}
 use Rattle.geometry_code.specs.Code.{pointOf}
 use Rattle.boolean_code.proofs.Containing.{result-says}
 use Rattle.rows_code.proofs.Bounds.{point-small}
@@ -17,11 +17,11 @@ use Rattle.loxurfa.proofs.contains_at.Tie as tie
 
 -- the rows let the call pass
 module _ (c : tie.After-enum-told) where
-  passed : containsChecked (pointOf (c .before .before .before .args .x) (c .before .before .before .args .y) (c .before .before .before .args .d)) (c .before .before .before .args .a .now) (c .before .before .before .args .b .now) (c .before .before .before .args .code) ≡ Passed
+  passed : containsChecked plateLimit (pointOf (c .before .before .before .args .x) (c .before .before .before .args .y) (c .before .before .before .args .d)) (c .before .before .before .args .a .now) (c .before .before .before .args .b .now) (c .before .before .before .args .code) ≡ Passed
   passed = sym (c .before .before .contains-checked .ensures) ∙ c .enum-told .given .1
 
-  ready : ContainsReady (pointOf (c .before .before .before .args .x) (c .before .before .before .args .y) (c .before .before .before .args .d)) (c .before .before .before .args .a .now) (c .before .before .before .args .b .now) (c .before .before .before .args .code)
-  ready = contains-ready _ _ _ _ passed
+  ready : ContainsReady plateLimit (pointOf (c .before .before .before .args .x) (c .before .before .before .args .y) (c .before .before .before .args .d)) (c .before .before .before .args .a .now) (c .before .before .before .args .b .now) (c .before .before .before .args .code)
+  ready = contains-ready plateLimit _ _ _ _ passed
 
 -- what `says` answers is whether the point lies in the result
 module _ (c : tie.After-says) where
@@ -33,26 +33,26 @@ module _ (c : tie.After-says) where
       c .says .ensures
       ∙ ap (λ (i : Bool). says (codeAt (s .code)) i (c .before .lies-in2 .result)) (c .before .before .lies-in .ensures)
       ∙ ap (says (codeAt (s .code)) (liesInLayer P (layerOf (s .a .now)))) (c .before .lies-in2 .ensures)
-      ∙ result-says coordinateLimit (layerOf (s .a .now)) (layerOf (s .b .now)) (r .first .fit) (r .second .fit) P (point-real P (r .point)) (codeAt (s .code))
+      ∙ result-says plateLimit (layerOf (s .a .now)) (layerOf (s .b .now)) (r .first .fit) (r .second .fit) P (point-real plateLimit P (r .point)) (codeAt (s .code))
 
 returns : tie.Need-returns
 returns c =
     let s = c .before .before .before .before .args in
     let P = pointOf (s .x) (s .y) (s .d) in
     let e = sym (c .before .before .before .contains-checked .ensures) ∙ c .before .checked .given .1 in
-    (contains-refuses P (s .a .now) (s .b .now) (s .code) e, small-refused e (contains-refused P (s .a .now) (s .b .now) (s .code)))
+    (contains-refuses plateLimit P (s .a .now) (s .b .now) (s .code) e, small-refused e (contains-refused plateLimit P (s .a .now) (s .b .now) (s .code)))
 
 lies-in-requires : tie.Need-lies-in-requires
 lies-in-requires c κs =
     let s = c .before .before .before .args in
     let r = ready c in
-    (r .first .fit, point-small (s .x) (s .y) (s .d) (r .point))
+    (layer-of plateLimit (s .a .now) (omega arith) (r .first) .fit, point-small plateLimit (omega arith) (s .x) (s .y) (s .d) (r .point))
 
 lies-in-requires-2 : tie.Need-lies-in-requires-2
 lies-in-requires-2 c κs =
     let s = c .before .before .before .before .args in
     let r = ready (c .before) in
-    (r .second .fit, point-small (s .x) (s .y) (s .d) (r .point))
+    (layer-of plateLimit (s .b .now) (omega arith) (r .second) .fit, point-small plateLimit (omega arith) (s .x) (s .y) (s .d) (r .point))
 
 says-requires : tie.Need-says-requires
 says-requires c κs = ready (c .before .before) .is-code
@@ -60,12 +60,12 @@ says-requires c κs = ready (c .before .before) .is-code
 returns-2 : tie.Need-returns-2
 returns-2 c =
     let s = c .before .before .before .before .before .before .before .args in
-    (contains-yes (pointOf (s .x) (s .y) (s .d)) (s .a .now) (s .b .now) (s .code) (passed (c .before .before .before .before)) (sym (says-result (c .before)) ∙ c .if1 .taken), tt)
+    (contains-yes plateLimit (pointOf (s .x) (s .y) (s .d)) (s .a .now) (s .b .now) (s .code) (passed (c .before .before .before .before)) (sym (says-result (c .before)) ∙ c .if1 .taken), tt)
 
 returns-3 : tie.Need-returns-3
 returns-3 c =
     let s = c .before .before .before .before .before .before .before .args in
-    (contains-no (pointOf (s .x) (s .y) (s .d)) (s .a .now) (s .b .now) (s .code) (passed (c .before .before .before .before)) (sym (says-result (c .before)) ∙ c .if1 .left), tt)
+    (contains-no plateLimit (pointOf (s .x) (s .y) (s .d)) (s .a .now) (s .b .now) (s .code) (passed (c .before .before .before .before)) (sym (says-result (c .before)) ∙ c .if1 .left), tt)
 
 pub contains-at-spec : {M : Type 1} → statement M
 contains-at-spec =

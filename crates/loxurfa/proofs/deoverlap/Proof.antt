@@ -9,20 +9,20 @@ use Rattle.geometry.specs.declared.Checked.the-variants.{Passed}
 use Rattle.geometry.specs.Trapezoids.{layerOf}
 use Rattle.boolean.specs.Operations.{deoverlapped}
 use Rattle.boolean.specs.Space.{deoverlappedMarks}
-use Rattle.calls.specs.Rows.{deoverlapChecked}
+use Rattle.calls.specs.Rows.{plateLimit, deoverlapChecked}
 use Rattle.calls.specs.Outcomes.{zeros, roomOf}
-use Rattle.calls.proofs.Checks.{DeoverlapReady, deoverlap-ready, deoverlap-refused}
+use Rattle.calls.proofs.Checks.{DeoverlapReady, deoverlap-ready, deoverlap-refused, layer-of}
 use Rattle.loxurfa.proofs.Outcomes.{small-refused, cleared-length, cleared-borrowed, blank-zeros, deoverlap-refuses, deoverlap-short, deoverlap-done, small-done}
 use Rattle.loxurfa.proofs.deoverlap.Statement.{statement}
 use Rattle.loxurfa.proofs.deoverlap.Tie as tie
 
 -- the rows let the call pass
 module _ (c : tie.After-enum-told) where
-  passed : deoverlapChecked (c .before .before .before .args .a .now) (length (c .before .before .before .args .out .now)) (length (c .before .before .before .args .scratch .now)) ≡ Passed
+  passed : deoverlapChecked plateLimit (c .before .before .before .args .a .now) (length (c .before .before .before .args .out .now)) (length (c .before .before .before .args .scratch .now)) ≡ Passed
   passed = sym (c .before .before .deoverlap-checked .ensures) ∙ c .enum-told .given .1
 
-  ready : DeoverlapReady (c .before .before .before .args .a .now) (length (c .before .before .before .args .out .now)) (length (c .before .before .before .args .scratch .now))
-  ready = deoverlap-ready _ _ _ passed
+  ready : DeoverlapReady plateLimit (c .before .before .before .args .a .now) (length (c .before .before .before .args .out .now)) (length (c .before .before .before .args .scratch .now))
+  ready = deoverlap-ready plateLimit _ _ _ passed
 
 -- the scratch area is blank again
 module _ (c : tie.After-deoverlap-into) where
@@ -37,7 +37,7 @@ returns : tie.Need-returns
 returns c =
     let s = c .before .before .before .before .args in
     let e = sym (c .before .before .before .deoverlap-checked .ensures) ∙ c .before .checked .given .1 in
-    (deoverlap-refuses (s .a .now) (s .out .now) (s .scratch .now) e, small-refused e (deoverlap-refused (s .a .now) (length (s .out .now)) (length (s .scratch .now))))
+    (deoverlap-refuses plateLimit (s .a .now) (s .out .now) (s .scratch .now) e, small-refused e (deoverlap-refused plateLimit (s .a .now) (length (s .out .now)) (length (s .scratch .now))))
 
 deoverlap-into-requires : tie.Need-deoverlap-into-requires
 deoverlap-into-requires c κs =
@@ -46,7 +46,7 @@ deoverlap-into-requires c κs =
     let r = ready (c .before .before .before .before .before .before .before) in
     let m = cleared-length (z .last .0) (length (s .out .now)) (z .ensures .0) in
     let n = cleared-length (z .last .1 .0) (length (s .scratch .now)) (z .ensures .1) in
-    (r .layer, ((cleared-borrowed (z .last .0) (length (s .out .now)) (z .ensures .0), r .buffers .few), (blank-of (pos 0) (z .last .1 .0) (length (s .scratch .now)) (z .ensures .1), n ∙ r .buffers .same ∙ sym m)))
+    (layer-of plateLimit (s .a .now) (omega arith) (r .layer), ((cleared-borrowed (z .last .0) (length (s .out .now)) (z .ensures .0), r .buffers .few), (blank-of (pos 0) (z .last .1 .0) (length (s .scratch .now)) (z .ensures .1), n ∙ r .buffers .same ∙ sym m)))
 
 returns-2 : tie.Need-returns-2
 returns-2 c =
@@ -54,7 +54,7 @@ returns-2 c =
     let z = c .before .before .before .before .before .before .before .before .before .clear-both in
     let f = c .before .before .before .before .deoverlap-into in
     let m = cleared-length (z .last .0) (length (s .out .now)) (z .ensures .0) in
-    (deoverlap-short (s .a .now) (s .out .now) (s .scratch .now) (passed (c .before .before .before .before .before .before .before .before .before .before .before .before)) (f .result) (length (z .last .0)) (f .last .1 .0) (f .last .1 .1 .0) (f .ensures .0) m (blanked (c .before .before .before .before)) (c .enum-told2 .given .1), (omega arith, omega arith))
+    (deoverlap-short plateLimit (s .a .now) (s .out .now) (s .scratch .now) (passed (c .before .before .before .before .before .before .before .before .before .before .before .before)) (f .result) (length (z .last .0)) (f .last .1 .0) (f .last .1 .1 .0) (f .ensures .0) m (blanked (c .before .before .before .before)) (c .enum-told2 .given .1), (omega arith, omega arith))
 
 returns-3 : tie.Need-returns-3
 returns-3 c =
@@ -63,7 +63,7 @@ returns-3 c =
     let f = c .before .before .before .before .before .deoverlap-into in
     let m = cleared-length (z .last .0) (length (s .out .now)) (z .ensures .0) in
     let e = c .before .f .given .1 in (
-      deoverlap-done (s .a .now) (s .out .now) (s .scratch .now) (passed (c .before .before .before .before .before .before .before .before .before .before .before .before .before)) (f .result) (length (z .last .0)) (f .last .1 .0) (f .last .1 .1 .0) (f .ensures .0) m (blanked (c .before .before .before .before .before)) e,
+      deoverlap-done plateLimit (s .a .now) (s .out .now) (s .scratch .now) (passed (c .before .before .before .before .before .before .before .before .before .before .before .before .before)) (f .result) (length (z .last .0)) (f .last .1 .0) (f .last .1 .1 .0) (f .ensures .0) m (blanked (c .before .before .before .before .before)) e,
       small-done (roomOf (s .out .now)) (deoverlapped (layerOf (s .a .now))) (deoverlappedMarks [] (layerOf (s .a .now))) (f .result) (length (s .out .now)) (length (z .last .0)) (f .last .1 .0) (f .last .1 .1 .0) (f .ensures .0) m (blanked (c .before .before .before .before .before)) (ready (c .before .before .before .before .before .before .before .before .before .before .before .before .before) .buffers .few) (f .ensures .1 .0) e,
     )
 

@@ -6,20 +6,20 @@ use borrow.Author.Needs.{needs}
 use Rattle.records.proofs.Buffer.{blank-of}
 use Rattle.geometry.specs.declared.Checked.the-variants.{Passed}
 use Rattle.geometry.specs.Trapezoids.{layerOf}
-use Rattle.calls.specs.Rows.{equalChecked}
+use Rattle.calls.specs.Rows.{plateLimit, equalChecked}
 use Rattle.calls.specs.Outcomes.{zeros, roomOf}
-use Rattle.calls.proofs.Checks.{EqualReady, equal-ready, equal-refused}
+use Rattle.calls.proofs.Checks.{EqualReady, equal-ready, equal-refused, layer-of}
 use Rattle.loxurfa.proofs.Outcomes.{small-refused, cleared-length, cleared-borrowed, blank-zeros, equal-refuses, equal-short, equal-same, equal-different, small-same, small-different}
 use Rattle.loxurfa.proofs.equal.Statement.{statement}
 use Rattle.loxurfa.proofs.equal.Tie as tie
 
 -- the rows let the call pass
 module _ (c : tie.After-enum-told) where
-  passed : equalChecked (c .before .before .before .args .a .now) (c .before .before .before .args .b .now) (length (c .before .before .before .args .out .now)) (length (c .before .before .before .args .scratch .now)) ≡ Passed
+  passed : equalChecked plateLimit (c .before .before .before .args .a .now) (c .before .before .before .args .b .now) (length (c .before .before .before .args .out .now)) (length (c .before .before .before .args .scratch .now)) ≡ Passed
   passed = sym (c .before .before .equal-checked .ensures) ∙ c .enum-told .given .1
 
-  ready : EqualReady (c .before .before .before .args .a .now) (c .before .before .before .args .b .now) (length (c .before .before .before .args .out .now)) (length (c .before .before .before .args .scratch .now))
-  ready = equal-ready _ _ _ _ passed
+  ready : EqualReady plateLimit (c .before .before .before .args .a .now) (c .before .before .before .args .b .now) (length (c .before .before .before .args .out .now)) (length (c .before .before .before .args .scratch .now))
+  ready = equal-ready plateLimit _ _ _ _ passed
 
 -- both areas are blank again
 module _ (c : tie.After-equal-into) where
@@ -41,7 +41,7 @@ returns : tie.Need-returns
 returns c =
     let s = c .before .before .before .before .args in
     let e = sym (c .before .before .before .equal-checked .ensures) ∙ c .before .checked .given .1 in
-    (equal-refuses (s .a .now) (s .b .now) (s .out .now) (s .scratch .now) e, small-refused e (equal-refused (s .a .now) (s .b .now) (length (s .out .now)) (length (s .scratch .now))))
+    (equal-refuses plateLimit (s .a .now) (s .b .now) (s .out .now) (s .scratch .now) e, small-refused e (equal-refused plateLimit (s .a .now) (s .b .now) (length (s .out .now)) (length (s .scratch .now))))
 
 equal-into-requires : tie.Need-equal-into-requires
 equal-into-requires c κs =
@@ -50,27 +50,27 @@ equal-into-requires c κs =
     let r = ready (c .before .before .before .before .before .before .before) in
     let m = cleared-length (z .last .0) (length (s .out .now)) (z .ensures .0) in
     let n = cleared-length (z .last .1 .0) (length (s .scratch .now)) (z .ensures .1) in
-    ((r .first, r .second), ((cleared-borrowed (z .last .0) (length (s .out .now)) (z .ensures .0), r .buffers .few), (blank-of (pos 0) (z .last .1 .0) (length (s .scratch .now)) (z .ensures .1), n ∙ r .buffers .same ∙ sym m)))
+    ((layer-of plateLimit (s .a .now) (omega arith) (r .first), layer-of plateLimit (s .b .now) (omega arith) (r .second)), ((cleared-borrowed (z .last .0) (length (s .out .now)) (z .ensures .0), r .buffers .few), (blank-of (pos 0) (z .last .1 .0) (length (s .scratch .now)) (z .ensures .1), n ∙ r .buffers .same ∙ sym m)))
 
 returns-2 : tie.Need-returns-2
 returns-2 c =
     let s = c .before .before .before .before .before .before .before .before .before .before .before .before .before .before .before .args in
     let f = c .before .before .before .before .equal-into in
-    (equal-short (s .a .now) (s .b .now) (s .out .now) (s .scratch .now) (passed (c .before .before .before .before .before .before .before .before .before .before .before .before)) (f .result) (f .last .1 .1 .0) (f .last .1 .1 .1 .0) (f .ensures .0) (out-blanked (c .before .before .before .before)) (scratch-blanked (c .before .before .before .before)) (c .enum-told2 .given .1), (omega arith, omega arith))
+    (equal-short plateLimit (s .a .now) (s .b .now) (s .out .now) (s .scratch .now) (passed (c .before .before .before .before .before .before .before .before .before .before .before .before)) (f .result) (f .last .1 .1 .0) (f .last .1 .1 .1 .0) (f .ensures .0) (out-blanked (c .before .before .before .before)) (scratch-blanked (c .before .before .before .before)) (c .enum-told2 .given .1), (omega arith, omega arith))
 
 returns-3 : tie.Need-returns-3
 returns-3 c =
     let s = c .before .before .before .before .before .before .before .before .before .before .before .before .before .before .before .before .args in
     let f = c .before .before .before .before .before .equal-into in
     let e = c .before .f .given .1 in
-    (equal-same (s .a .now) (s .b .now) (s .out .now) (s .scratch .now) (passed (c .before .before .before .before .before .before .before .before .before .before .before .before .before)) (f .result) (f .last .1 .1 .0) (f .last .1 .1 .1 .0) (f .ensures .0) (out-blanked (c .before .before .before .before .before)) (scratch-blanked (c .before .before .before .before .before)) e, small-same (f .ensures .1 .0) e)
+    (equal-same plateLimit (s .a .now) (s .b .now) (s .out .now) (s .scratch .now) (passed (c .before .before .before .before .before .before .before .before .before .before .before .before .before)) (f .result) (f .last .1 .1 .0) (f .last .1 .1 .1 .0) (f .ensures .0) (out-blanked (c .before .before .before .before .before)) (scratch-blanked (c .before .before .before .before .before)) e, small-same (f .ensures .1 .0) e)
 
 returns-4 : tie.Need-returns-4
 returns-4 c =
     let s = c .before .before .before .before .before .before .before .before .before .before .before .before .before .before .before .before .args in
     let f = c .before .before .before .before .before .equal-into in
     let e = c .before .f2 .given .1 in (
-      equal-different (s .a .now) (s .b .now) (s .out .now) (s .scratch .now) (passed (c .before .before .before .before .before .before .before .before .before .before .before .before .before)) (f .result) (f .last .1 .1 .0) (f .last .1 .1 .1 .0) (f .ensures .0) (out-blanked (c .before .before .before .before .before)) (scratch-blanked (c .before .before .before .before .before)) e,
+      equal-different plateLimit (s .a .now) (s .b .now) (s .out .now) (s .scratch .now) (passed (c .before .before .before .before .before .before .before .before .before .before .before .before .before)) (f .result) (f .last .1 .1 .0) (f .last .1 .1 .1 .0) (f .ensures .0) (out-blanked (c .before .before .before .before .before)) (scratch-blanked (c .before .before .before .before .before)) e,
       small-different (roomOf (s .out .now)) (layerOf (s .a .now)) (layerOf (s .b .now)) (f .result) (f .ensures .0) (f .ensures .1 .0) e,
     )
 

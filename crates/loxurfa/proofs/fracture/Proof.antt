@@ -3,7 +3,7 @@ use native.Mathlib.Omega.{arith}
 use lib.ListN.{length}
 use borrow.Author.Needs.{needs}
 use Rattle.geometry.specs.declared.Checked.the-variants.{Passed}
-use Rattle.calls.specs.Rows.{fractureChecked}
+use Rattle.calls.specs.Rows.{plateLimit, fractureChecked}
 use Rattle.calls.specs.Outcomes.{zeros}
 use Rattle.calls.proofs.Fracturing.{FractureReady, fracture-ready, fracture-refused}
 use Rattle.loxurfa.proofs.Outcomes.{small-refused, cleared-length, cleared-borrowed}
@@ -13,11 +13,11 @@ use Rattle.loxurfa.proofs.fracture.Tie as tie
 
 -- the rows let the call pass
 module _ (c : tie.After-enum-told) where
-  passed : fractureChecked (c .before .before .before .before .args .file .now) (length (c .before .before .before .before .args .out .now)) (length (c .before .before .before .before .args .scratch .now)) ≡ Passed
+  passed : fractureChecked plateLimit (c .before .before .before .before .args .file .now) (length (c .before .before .before .before .args .out .now)) (length (c .before .before .before .before .args .scratch .now)) ≡ Passed
   passed = sym (c .before .before .fracture-checked .ensures) ∙ c .enum-told .given .1
 
-  ready : FractureReady (c .before .before .before .before .args .file .now) (length (c .before .before .before .before .args .out .now)) (length (c .before .before .before .before .args .scratch .now))
-  ready = fracture-ready _ _ _ passed
+  ready : FractureReady plateLimit (c .before .before .before .before .args .file .now) (length (c .before .before .before .before .args .out .now)) (length (c .before .before .before .before .args .scratch .now))
+  ready = fracture-ready plateLimit _ _ _ passed
 
 -- the scratch area is blank
 module _ (c : tie.After-fracture-file) where
@@ -28,7 +28,7 @@ returns : tie.Need-returns
 returns c =
     let s = c .before .before .before .before .before .args in
     let e = sym (c .before .before .before .fracture-checked .ensures) ∙ c .before .checked .given .1 in
-    (fracture-refuses (s .file .now) (s .out .now) (s .scratch .now) e, small-refused e (fracture-refused (s .file .now) (length (s .out .now)) (length (s .scratch .now))))
+    (fracture-refuses plateLimit (s .file .now) (s .out .now) (s .scratch .now) e, small-refused e (fracture-refused plateLimit (s .file .now) (length (s .out .now)) (length (s .scratch .now))))
 
 fracture-file-requires : tie.Need-fracture-file-requires
 fracture-file-requires c κs =
@@ -44,7 +44,7 @@ returns-2 c =
     let t = o .before .before .before .before .before .before .before in
     let f = o .fracture-file in
     let m = cleared-length (z .last .0) (length (s .out .now)) (z .ensures .0) in
-    (fracture-short (s .file .now) (s .out .now) (s .scratch .now) (passed t) (f .result) (length (z .last .0)) (f .last .1 .1 .0) (z .last .1 .0) (f .ensures) m (blanked o) (c .enum-told2 .given .1), (omega arith, omega arith))
+    (fracture-short plateLimit (s .file .now) (s .out .now) (s .scratch .now) (passed t) (f .result) (length (z .last .0)) (f .last .1 .1 .0) (z .last .1 .0) (f .ensures) m (blanked o) (c .enum-told2 .given .1), (omega arith, omega arith))
 
 returns-3 : tie.Need-returns-3
 returns-3 c =
@@ -55,8 +55,8 @@ returns-3 c =
     let f = o .fracture-file in
     let m = cleared-length (z .last .0) (length (s .out .now)) (z .ensures .0) in
     let e = c .before .f .given .1 in (
-      fracture-done (s .file .now) (s .out .now) (s .scratch .now) (passed t) (f .result) (length (z .last .0)) (f .last .1 .1 .0) (z .last .1 .0) (f .ensures) m (blanked o) e,
-      fracture-small (s .file .now) (s .out .now) (s .scratch .now) (passed t) (f .result) (length (z .last .0)) (f .last .1 .1 .0) (z .last .1 .0) (f .ensures) m (blanked o) (ready t .buffers .few) e,
+      fracture-done plateLimit (s .file .now) (s .out .now) (s .scratch .now) (passed t) (f .result) (length (z .last .0)) (f .last .1 .1 .0) (z .last .1 .0) (f .ensures) m (blanked o) e,
+      fracture-small plateLimit (s .file .now) (s .out .now) (s .scratch .now) (passed t) (f .result) (length (z .last .0)) (f .last .1 .1 .0) (z .last .1 .0) (f .ensures) m (blanked o) (ready t .buffers .few) e,
     )
 
 pub fracture-spec : {M : Type 1} → statement M

@@ -6,18 +6,18 @@ use mir.Facts.{toZ-ofZ}
 use borrow.Author.Needs.{needs}
 use Rattle.calls.specs.declared.Containment.{Containment}
 use Rattle.calls.specs.Answers.{pointAnswer, SmallPoint}
-use Rattle.calls.specs.Rows.{pointAt}
+use Rattle.calls.specs.Rows.{plateLimit, pointAt}
 use Rattle.calls.specs.Outcomes.{containsAnswer}
 use Rattle.calls.specs.Packed.{packedPoint}
 use Rattle.loxurfa_c.proofs.loxurfa_contains.Statement.{statement}
 use Rattle.loxurfa_c.proofs.loxurfa_contains.Tie as tie
 
 -- of the same numbers
-same-point : (a b : List ℤ) (code : ℕ) {x y d p q e : ℤ} → x ≡ p → y ≡ q → d ≡ e → packedPoint (containsAnswer (pointAt x y d) a b code) ≡ packedPoint (containsAnswer (pointAt p q e) a b code)
+same-point : (a b : List ℤ) (code : ℕ) {x y d p q e : ℤ} → x ≡ p → y ≡ q → d ≡ e → packedPoint (containsAnswer plateLimit (pointAt x y d) a b code) ≡ packedPoint (containsAnswer plateLimit (pointAt p q e) a b code)
 same-point a b code {x} {y} {d} {p} {q} {e} f g h =
-    ap (λ (z : ℤ). packedPoint (containsAnswer (pointAt z y d) a b code)) f
-    ∙ ap (λ (z : ℤ). packedPoint (containsAnswer (pointAt p z d) a b code)) g
-    ∙ ap (λ (z : ℤ). packedPoint (containsAnswer (pointAt p q z) a b code)) h
+    ap (λ (z : ℤ). packedPoint (containsAnswer plateLimit (pointAt z y d) a b code)) f
+    ∙ ap (λ (z : ℤ). packedPoint (containsAnswer plateLimit (pointAt p z d) a b code)) g
+    ∙ ap (λ (z : ℤ). packedPoint (containsAnswer plateLimit (pointAt p q z) a b code)) h
 
 refusal-requires : tie.Need-refusal-requires
 refusal-requires c κs = subst (λ (r : Containment). SmallPoint (pointAnswer r)) (c .before .answer .given .1) (c .before .before .before .contains .ensures .1)

@@ -9,23 +9,23 @@ use Rattle.rows_code.proofs.combine_checked.Tie as tie
 
 layers-checked-requires : tie.Need-layers-checked-requires
 layers-checked-requires c κs =
-    let s = c .before .before .before .args in
-    sized-most (length (s .a .now)) (and-left _ _ (sym (c .before .before .both-sized .ensures) ∙ c .before .if1 .taken))
+    let s = c .before .before .before in
+    (s .pre, sized-most (length (s .args .a .now)) (and-left _ _ (sym (c .before .before .both-sized .ensures) ∙ c .before .if1 .taken)))
 
 returns : tie.Need-returns
 returns c =
     let s = c .before .before .before .before .args in
-    c .layers-checked .ensures ∙ combine-layers (s .code) (s .a .now) (s .b .now) (s .out) (s .scratch) (sym (c .before .before .before .both-sized .ensures) ∙ c .before .before .if1 .taken) (c .before .if2 .taken)
+    c .layers-checked .ensures ∙ combine-layers (s .limit) (s .code) (s .a .now) (s .b .now) (s .out) (s .scratch) (sym (c .before .before .before .both-sized .ensures) ∙ c .before .before .if1 .taken) (c .before .if2 .taken)
 
 returns-2 : tie.Need-returns-2
 returns-2 c =
     let s = c .before .before .before .args in
-    combine-code (s .code) (s .a .now) (s .b .now) (s .out) (s .scratch) (sym (c .before .before .both-sized .ensures) ∙ c .before .if1 .taken) (c .if2 .left)
+    combine-code (s .limit) (s .code) (s .a .now) (s .b .now) (s .out) (s .scratch) (sym (c .before .before .both-sized .ensures) ∙ c .before .if1 .taken) (c .if2 .left)
 
 returns-3 : tie.Need-returns-3
 returns-3 c =
     let s = c .before .before .args in
-    combine-lengths (s .code) (s .a .now) (s .b .now) (s .out) (s .scratch) (sym (c .before .both-sized .ensures) ∙ c .if1 .left)
+    combine-lengths (s .limit) (s .code) (s .a .now) (s .b .now) (s .out) (s .scratch) (sym (c .before .both-sized .ensures) ∙ c .if1 .left)
 
 pub combine-checked-spec : {M : Type 1} → statement M
 combine-checked-spec =

@@ -9,18 +9,18 @@ use Rattle.rows_code.proofs.equal_checked.Tie as tie
 
 layers-checked-requires : tie.Need-layers-checked-requires
 layers-checked-requires c κs =
-    let s = c .before .before .args in
-    sized-most (length (s .a .now)) (and-left _ _ (sym (c .before .both-sized .ensures) ∙ c .if1 .taken))
+    let s = c .before .before in
+    (s .pre, sized-most (length (s .args .a .now)) (and-left _ _ (sym (c .before .both-sized .ensures) ∙ c .if1 .taken)))
 
 returns : tie.Need-returns
 returns c =
     let s = c .before .before .before .args in
-    c .layers-checked .ensures ∙ equal-layers (s .a .now) (s .b .now) (s .out) (s .scratch) (sym (c .before .before .both-sized .ensures) ∙ c .before .if1 .taken)
+    c .layers-checked .ensures ∙ equal-layers (s .limit) (s .a .now) (s .b .now) (s .out) (s .scratch) (sym (c .before .before .both-sized .ensures) ∙ c .before .if1 .taken)
 
 returns-2 : tie.Need-returns-2
 returns-2 c =
     let s = c .before .before .args in
-    equal-lengths (s .a .now) (s .b .now) (s .out) (s .scratch) (sym (c .before .both-sized .ensures) ∙ c .if1 .left)
+    equal-lengths (s .limit) (s .a .now) (s .b .now) (s .out) (s .scratch) (sym (c .before .both-sized .ensures) ∙ c .if1 .left)
 
 pub equal-checked-spec : {M : Type 1} → statement M
 equal-checked-spec =

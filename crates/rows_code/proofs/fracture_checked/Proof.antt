@@ -7,12 +7,12 @@ use Rattle.rows_code.proofs.fracture_checked.Tie as tie
 returns : tie.Need-returns
 returns c =
     let s = c .before .before .before .before .args in
-    c .check-polygon-file .ensures ∙ fracture-rows (s .file .now) (s .out) (s .scratch) (sym (c .before .before .buffers-sized .ensures) ∙ c .before .if1 .taken)
+    c .check-polygon-file .ensures ∙ fracture-rows (s .limit) (s .file .now) (s .out) (s .scratch) (sym (c .before .before .buffers-sized .ensures) ∙ c .before .if1 .taken)
 
 returns-2 : tie.Need-returns-2
 returns-2 c =
     let s = c .before .before .before .args in
-    fracture-lengths (s .file .now) (s .out) (s .scratch) (sym (c .before .buffers-sized .ensures) ∙ c .if1 .left)
+    fracture-lengths (s .limit) (s .file .now) (s .out) (s .scratch) (sym (c .before .buffers-sized .ensures) ∙ c .if1 .left)
 
 pub fracture-checked-spec : {M : Type 1} → statement M
 fracture-checked-spec =

@@ -4,7 +4,6 @@ use borrow.Author.Needs.{needs}
 use Rattle.records.specs.Records.{count}
 use Rattle.records.proofs.Records.{length-from}
 use Rattle.geometry.specs.declared.Checked.the-variants.{Passed}
-use Rattle.geometry.specs.Limit.{coordinateLimit}
 use Rattle.geometry.specs.Trapezoids.{trapezoidCodec, layerOf}
 use Rattle.geometry.specs.Fitness.{firstRefusal}
 use Rattle.rows_code.proofs.Refusals.{first-passed, first-refused}
@@ -18,13 +17,13 @@ returns c =
     let e : f .result ≡ Passed = cc in
     let n = length-from trapezoidCodec (count trapezoidCodec (s .a .now)) (s .a .now) 0 in
     c .first-refused2 .ensures
-    ∙ ap (λ (i : ℕ). firstRefusal coordinateLimit i (layerOf (s .b .now))) (sym n)
-    ∙ first-passed coordinateLimit (layerOf (s .a .now)) (layerOf (s .b .now)) (sym (f .ensures) ∙ e)
+    ∙ ap (λ (i : ℕ). firstRefusal (s .limit) i (layerOf (s .b .now))) (sym n)
+    ∙ first-passed (s .limit) (layerOf (s .a .now)) (layerOf (s .b .now)) (sym (f .ensures) ∙ e)
 
 returns-2 : tie.Need-returns-2
 returns-2 c =
     let s = c .before .before .before .before .args in
-    first-refused coordinateLimit (layerOf (s .a .now)) (layerOf (s .b .now)) (sym (c .before .before .before .first-refused .ensures) ∙ c .before .first .given .1)
+    first-refused (s .limit) (layerOf (s .a .now)) (layerOf (s .b .now)) (sym (c .before .before .before .first-refused .ensures) ∙ c .before .first .given .1)
 
 pub layers-checked-spec : {M : Type 1} → statement M
 layers-checked-spec =

@@ -7,10 +7,12 @@ use Rattle.rows_code.proofs.point_passes.Statement.{statement}
 use Rattle.rows_code.proofs.point_passes.Tie as tie
 
 within-times-requires : tie.Need-within-times-requires
-within-times-requires c κs = denominator-small (c .before .before .args .d .v) (sym (c .before .denominator-passes .ensures) ∙ c .if1 .taken)
+within-times-requires c κs = (c .before .before .pre, denominator-small (c .before .before .args .d .v) (sym (c .before .denominator-passes .ensures) ∙ c .if1 .taken))
 
 within-times-requires-2 : tie.Need-within-times-requires-2
-within-times-requires-2 c κs = denominator-small (c .before .before .before .before .args .d .v) (sym (c .before .before .before .denominator-passes .ensures) ∙ c .before .before .if1 .taken)
+within-times-requires-2 c κs =
+    let s = c .before .before .before .before in
+    (s .pre, denominator-small (s .args .d .v) (sym (c .before .before .before .denominator-passes .ensures) ∙ c .before .before .if1 .taken))
 
 returns : tie.Need-returns
 unfolding pointPasses

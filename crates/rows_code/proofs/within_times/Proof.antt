@@ -1,32 +1,32 @@
 use mathlib.Core.Path.{_≡_, _∙_}
 use mathlib.Core.Bool.{true, false}
+use native.Mathlib.Nat.{mul-le-mul}
 use native.Mathlib.Omega.{arith}
 use lib.IntN.{pos}
 use lib.Signed.{leZ}
 use borrow.Author.Needs.{needs}
 use Rattle.integer.specs.Integer.{⊝_, _⊗_}
-use Rattle.geometry.specs.Limit.{coordinateLimit}
 use Rattle.rows_code.proofs.within_times.Statement.{statement}
 use Rattle.rows_code.proofs.within_times.Tie as tie
 
 mul-requires : tie.Need-mul-requires
-mul-requires c κs = rw (c .natural .ensures .1) (omega (arith, c .before .pre))
+mul-requires c κs = rw (c .natural .ensures .1) (omega (arith, mul-le-mul (c .before .pre .0) (c .before .pre .1)))
 
 neg-requires : tie.Need-neg-requires
-neg-requires c κs = rw (c .mul .ensures .1, c .before .natural .ensures .1) (omega (arith, c .before .before .pre))
+neg-requires c κs = rw (c .mul .ensures .1, c .before .natural .ensures .1) (omega (arith, mul-le-mul (c .before .before .pre .0) (c .before .before .pre .1)))
 
 returns : tie.Need-returns
 returns c =
     let s = c .before .before .before .before .before .before .args in
-    let m : c .before .before .before .before .mul .result .v ≡ pos coordinateLimit ⊗ s .d .v = cc in
-    let e : leZ (⊝ (pos coordinateLimit ⊗ s .d .v)) (s .z .v) ≡ true = cc in
+    let m : c .before .before .before .before .mul .result .v ≡ pos (s .limit) ⊗ s .d .v = cc in
+    let e : leZ (⊝ (pos (s .limit) ⊗ s .d .v)) (s .z .v) ≡ true = cc in
     rw e (c .at-most2 .ensures ∙ rw m)
 
 returns-2 : tie.Need-returns-2
 returns-2 c =
     let s = c .before .before .before .before .before .args in
-    let m : c .before .before .before .mul .result .v ≡ pos coordinateLimit ⊗ s .d .v = cc in
-    let e : leZ (⊝ (pos coordinateLimit ⊗ s .d .v)) (s .z .v) ≡ false = cc in
+    let m : c .before .before .before .mul .result .v ≡ pos (s .limit) ⊗ s .d .v = cc in
+    let e : leZ (⊝ (pos (s .limit) ⊗ s .d .v)) (s .z .v) ≡ false = cc in
     rw e
 
 pub within-times-spec : {M : Type 1} → statement M
