@@ -9,8 +9,8 @@ use Rattle.boolean.specs.declared.Folded.{Folded}
 use Rattle.boolean.specs.declared.Compared.{Compared}
 use Rattle.boolean.specs.declared.Compared.the-variants.{TooShort, Same, Differs}
 use Rattle.boolean.specs.Operations.{difference, Side, Code, result}
-use Rattle.boolean.specs.Space.{enough, short, space, equalityMarks, marks}
-use Rattle.remainder_code.specs.Code.{FoldedAs}
+use Rattle.boolean.specs.Space.{enough, short, space, differenceMarks, equalityMarks, marks}
+use Rattle.remainder_code.specs.Code.{overlaysOfLayer, FoldedAs}
 
 -- the result of a code on A and B, written into a buffer that was d₀
 abbrev pub ResultWritten : Code → List ℤ → ℕ → List Trapezoid → List Trapezoid → Folded → List ℤ → Type 0
@@ -25,3 +25,7 @@ abbrev pub ComparedWithin : ℕ → Compared → Type 0
 ComparedWithin m (TooShort overlays) = overlays ≤ m
 ComparedWithin m (Same overlays) = overlays ≤ m
 ComparedWithin m (Differs side overlays) = overlays ≤ m
+
+-- nothing is left of A less B, which took `made` overlays and had room
+abbrev pub NothingLeft : ℕ → List Trapezoid → List Trapezoid → ℕ → Type 0
+NothingLeft room A B made = (difference A B ≡ []) × (space room (differenceMarks 0 A B) ≡ enough made) × (made ≤ overlaysOfLayer)

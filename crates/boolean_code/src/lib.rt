@@ -18,7 +18,7 @@ ghost use Rattle.boolean.specs.Space.{enough, space, differenceMarks};
 ghost use Rattle.geometry_code.specs.Code.{pointOf, SmallPoint};
 ghost use Rattle.trapezoids_code.specs.Tails.{Borrowed};
 ghost use Rattle.remainder_code.specs.Code.{overlaysOfLayer, maxOverlays, OverlaysWithin, ScratchFor};
-ghost use Rattle.boolean_code.specs.Code.{ComparedAs, ComparedWithin, ResultWritten};
+ghost use Rattle.boolean_code.specs.Code.{ComparedAs, ComparedWithin, NothingLeft, ResultWritten};
 
 // The first layer, and then the second less the first.
 fn union_into(
@@ -111,7 +111,7 @@ fn second_side(
 ) -> Compared
     requires { ⌜ Layer (now first) × Layer (now second) × Borrowed (now out) room × (room ≤ maxRecords) ⌝ }
     requires { ⌜ ScratchFor (now out) (now scratch) ⌝ }
-    requires { ⌜ (difference (layerOf (now first)) (layerOf (now second)) ≡ []) × (space room (differenceMarks 0 (layerOf (now first)) (layerOf (now second))) ≡ enough made) × (made ≤ overlaysOfLayer) ⌝ }
+    requires { ⌜ NothingLeft room (layerOf (now first)) (layerOf (now second)) made ⌝ }
     ensures { λ r. ⌜ ComparedAs room (layerOf (now (first .entry))) (layerOf (now (second .entry))) r ⌝ }
     ensures { λ r. ⌜ ComparedWithin maxOverlays r ⌝ }
     ensures { λ _. ⌜ Blank (pos 0) (now (out .exit)) × Blank (pos 0) (now (scratch .exit)) ⌝ }

@@ -10,7 +10,7 @@ use lib.ListN.{length}
 use mir.Facts.{yes-and}
 use Rattle.lists.specs.Lists.{All}
 use Rattle.lists.proofs.Lists.{all-of}
-use Rattle.records.specs.Limits.{memoryWidth, maxRecords, sized}
+use Rattle.records.specs.Limits.{memoryWidth, maxRecords, sized, maxWords}
 use Rattle.records.specs.Records.{wordsOf}
 use Rattle.records.proofs.Records.{length-words, records-words}
 use Rattle.records.proofs.Buffer.{image-take}
@@ -59,9 +59,9 @@ layer-words ts = records-words trapezoidCodec trapezoid-faithful ts (all-of (λ 
 few-sized : (n : ℕ) → n ≤ maxRecords → T (sized (memoryWidth * n))
 unfolding sized
 few-sized n h =
-    yes-and (eqb (memoryWidth * n % memoryWidth) 0) (leb (memoryWidth * n) (memoryWidth * maxRecords))
+    yes-and (eqb (memoryWidth * n % memoryWidth) 0) (leb (memoryWidth * n) maxWords)
     (subst (λ (k : ℕ). T (eqb k 0)) (sym (mul-mod-right memoryWidth n)) (eqb-refl 0))
-    (le→leb (memoryWidth * n) (memoryWidth * maxRecords) (omega arith))
+    (le→leb (memoryWidth * n) maxWords (omega arith))
 
 pub words-fit : (L : ℕ) (ts : List Trapezoid) → FitTrapezoids L ts → length ts ≤ maxRecords → FitLayer L (wordsOf trapezoidCodec ts)
 words-fit L ts h l =

@@ -55,7 +55,7 @@ fn show_state(words: &[i32]) {
 }
 
 // Whether an output and its scratch area, which were lent with 7 in every word, are unchanged, all zero, or written.
-pub fn show_states(out: &[i32; 12288], scratch: &[i32; 12288]) {
+pub fn show_states(out: &[i32; records::MAX_WORDS], scratch: &[i32; records::MAX_WORDS]) {
     io::write_all(STDOUT_FILENO, b"output ");
     show_state(out);
     io::write_all(STDOUT_FILENO, b", scratch ");
@@ -86,13 +86,17 @@ pub fn show_same(a: &[i32], b: &[i32]) {
     io::write_all(STDOUT_FILENO, b"other words\n");
 }
 
-// Word number i of a file set to a number below 65,536.
-pub fn put_number(file: &mut [u8], i: usize, n: usize) {
+// Word number i of a file, if it has so many, set to x.
+pub fn put_word(file: &mut [u8], i: usize, x: i32) {
     if i < file.len() / 4 {
-        if n < 65536 {
-            file[4 * i] = (n % 256) as u8;
-            file[4 * i + 1] = (n / 256) as u8;
-        }
+        records_code::store_word(file, i, x);
+    }
+}
+
+// The same with a number below 65,536.
+pub fn put_number(file: &mut [u8], i: usize, n: usize) {
+    if n < 65536 {
+        put_word(file, i, n as i32);
     }
 }
 
@@ -185,7 +189,10 @@ fn square_word(k: usize, j: usize) -> i32 {
 pub fn squares(words: &mut [i32], start: usize) {
     let mut i = start;
     while i < words.len() {
-        words[i] = square_word((i - start) / 24, (i - start) % 24);
+        words[i] = square_word(
+            (i - start) / records::MEMORY_WIDTH,
+            (i - start) % records::MEMORY_WIDTH,
+        );
         i += 1;
     }
 }

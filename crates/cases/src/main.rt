@@ -8,8 +8,8 @@ ghost use Prim.Native.Nat.{_≤_};
 
 // The first bytes as a polygon file.
 fn fracture(file: &[u8], bytes: usize) {
-    let mut out = [7i32; 12288];
-    let mut scratch = [7i32; 12288];
+    let mut out = [7i32; records::MAX_WORDS];
+    let mut scratch = [7i32; records::MAX_WORDS];
     if bytes <= file.len() {
         let r = loxurfa::fracture(&file[..bytes], &mut out, &mut scratch);
         match r {
@@ -63,11 +63,8 @@ fn polygon_counts() {
 fn bytes_of(words: &[i32], file: &mut [u8]) {
     let mut i = 0;
     while i < words.len() {
-        if file.len() / 4 <= i {
-            return;
-        }
         let w = words[i];
-        records_code::store_word(file, i, w);
+        case_parts::put_word(file, i, w);
         i += 1;
     }
 }

@@ -12,7 +12,7 @@ ghost use Rattle.geometry.specs.Fitness.{Layer};
 ghost use Rattle.trapezoids_code.specs.Placed.{PlacedAs};
 ghost use Rattle.trapezoids_code.specs.Tails.{Borrowed};
 ghost use Rattle.remainder_code.specs.Code.{front, rest, from, overlaysOfOne, maxOverlays, OverlaysWithin, held, Remaining, LessAllWritten, OneWritten, ScratchFor};
-ghost use Rattle.deoverlap_code.specs.Code.{DeoverlappedWritten};
+ghost use Rattle.deoverlap_code.specs.Code.{DeoverlappedWritten, RestWritten};
 
 // `out` holds k trapezoids and, past them, n more, the remainder: each of those less the first k from number `start` on,
 // until none remains.
@@ -27,7 +27,7 @@ fn lessen_by_front(
     requires { ⌜ Layer (front (now out) k) × (start ≤ k) × (k ≤ room) × (room ≤ maxRecords) ⌝ }
     requires { ⌜ (memoryWidth * room ≤ length (now out)) × Remaining (rest (now out) k) n (room - k) ⌝ }
     requires { ⌜ ScratchFor (now out) (now scratch) ⌝ }
-    ensures { λ r. ⌜ LessAllWritten (rest (now (out .entry)) k) (room - k) (held (rest (now (out .entry)) k) n) (from (front (now (out .entry)) k) start) r (rest (now (out .exit)) k) ⌝ }
+    ensures { λ r. ⌜ RestWritten (now (out .entry)) room k start n r (now (out .exit)) ⌝ }
     ensures { λ _. ⌜ front (now (out .exit)) k ≡ front (now (out .entry)) k ⌝ }
     ensures { λ r. ⌜ OverlaysWithin (maxRecords * (maxRecords - start)) r ⌝ }
     ensures { λ _. ⌜ Blank (pos 0) (now (scratch .exit)) ⌝ }

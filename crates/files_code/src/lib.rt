@@ -24,6 +24,7 @@ ghost use Rattle.files.specs.Directory.{directoryOf, HasPairs};
 ghost use Rattle.files.specs.Contents.{countIn, offsetAt, lengthAt, bodyOf, PairAt, unitsOf, vertexCodec, fileCodec, polygonsOf};
 ghost use Rattle.files.specs.Rows.{directoryRows, firstOffGrid, polygonFileChecked, layersChecked, layerFileChecked, layerWordsChecked};
 ghost use Rattle.geometry_code.specs.Polygons.{polygonOf};
+ghost use Rattle.files_code.specs.Code.{HasVertex, HasVertices};
 
 // The line whose words start at a place of a file.
 fn load_file_line(file: &[u8], at: usize) -> Line
@@ -223,7 +224,7 @@ pub fn polygon_extent(file: &[u8], i: usize) -> Extent
 
 // Vertex number k of the body of a polygon file that passes and has n polygons.
 fn polygon_vertex(file: &[u8], n: usize, k: usize) -> Vertex
-    requires { ⌜ HasPairs polygonFile (fileWords (now file)) (countIn (fileWords (now file))) × (n ≡ countIn (fileWords (now file))) × (2 * k + 2 ≤ length (bodyOf (fileWords (now file)))) ⌝ }
+    requires { ⌜ HasVertex (now file) n k ⌝ }
     ensures { λ r. ⌜ r ≡ recordAt vertexCodec (bodyOf (fileWords (now (file .entry)))) k ⌝ }
 {
     let at = 2 * n + 1 + 2 * k;
@@ -235,7 +236,7 @@ fn polygon_vertex(file: &[u8], n: usize, k: usize) -> Vertex
 
 // The coordinates of n vertices of the body of a polygon file that passes and has `count` polygons, from a number on, to the front of `words`.
 pub fn load_polygon(file: &[u8], count: usize, offset: usize, n: usize, words: &mut [i32])
-    requires { ⌜ HasPairs polygonFile (fileWords (now file)) (countIn (fileWords (now file))) × (count ≡ countIn (fileWords (now file))) × (offset + n ≤ 2048) × (2 * (offset + n) ≤ length (bodyOf (fileWords (now file)))) × (2 * n ≤ length (now words)) ⌝ }
+    requires { ⌜ HasVertices (now file) count offset n (now words) ⌝ }
     ensures { λ _. ⌜ polygonOf (take (2 * n) (now (words .exit))) ≡ recordsFrom vertexCodec n (bodyOf (fileWords (now (file .entry)))) offset ⌝ }
 {
     let mut k = 0;

@@ -3,8 +3,8 @@ use mathlib.Core.Path.{_≡_}
 use mathlib.Core.Bool.{Bool, true, false, not, cond}
 use mathlib.Core.List.{List, _++_}
 use mathlib.Core.Option.{Option, none, some}
-use Prim.Native.Nat.{ℕ, _+_, _≤_}
-use lib.ListN.{getD}
+use Prim.Native.Nat.{ℕ, _+_, _<_, _≤_}
+use lib.ListN.{length, getD}
 use lib.IntN.{ℤ, pos, natAbs}
 use Rattle.lists.specs.Lists.{All}
 use Rattle.integer.specs.declared.Int.{Int}
@@ -14,10 +14,11 @@ use Rattle.levels.specs.Levels.{candidate, lesser, scan}
 use Rattle.geometry.specs.declared.Line.{Line}
 use Rattle.geometry.specs.declared.Base.{Base}
 use Rattle.geometry.specs.declared.Trapezoid.{Trapezoid}
+use Rattle.geometry.specs.Limit.{coordinateLimit}
 use Rattle.geometry.specs.Lines.{IsLine}
 use Rattle.geometry.specs.Positions.{position, below}
 use Rattle.geometry.specs.declared.Vertex.{Vertex}
-use Rattle.geometry.specs.Polygons.{Polygon}
+use Rattle.geometry.specs.Polygons.{Polygon, VertexOnGrid}
 use Rattle.sweep.specs.Segments.{spans, spanning}
 use Rattle.sweep.specs.Columns.{lower}
 use Rattle.fracture.specs.declared.Side.{Side}
@@ -36,6 +37,12 @@ pub record SidesOf (polygon : Polygon) (v : Sides) : Type 0 where
 -- the vertex whose words start at k
 abbrev pub vertexAt : List ℤ → ℕ → Vertex
 vertexAt ws k = record { x = getD ws k (pos 0); y = getD ws (k + 1) (pos 0) }
+
+-- v has room for one edge more, and words hold two vertices on the grid, which start at a and b
+abbrev pub TakesEdge : Sides → List ℤ → ℕ → ℕ → Type 0
+TakesEdge v ws a b =
+    WellFormed v × (v .n < 32) × (a + 1 < length ws) × (b + 1 < length ws)
+    × VertexOnGrid coordinateLimit (vertexAt ws a) × VertexOnGrid coordinateLimit (vertexAt ws b)
 
 -- r is v with the edges es after it, at most one
 pub record Lengthened (v : Sides) (es : List Edge) (r : Sides) : Type 0 where

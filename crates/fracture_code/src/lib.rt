@@ -27,7 +27,7 @@ ghost use Rattle.geometry_code.specs.Polygons.{polygonOf};
 ghost use Rattle.trapezoids_code.specs.Tails.{Borrowed, FilledAs};
 ghost use Rattle.sweep_code.specs.Events.{EventOf};
 ghost use Rattle.polygon_events_code.specs.Code.{edgeOf, edgesOf, inUse, WellFormed, directionBy};
-ghost use Rattle.fracture_code.specs.Code.{SidesOf, past, GroupOnGrid, Lowest, WithSide, NextGroup, WithDirection, HasLines, columnOf, vertexAt, Lengthened};
+ghost use Rattle.fracture_code.specs.Code.{SidesOf, past, GroupOnGrid, Lowest, WithSide, NextGroup, WithDirection, HasLines, columnOf, vertexAt, TakesEdge, Lengthened};
 
 // The lower of the best so far and an edge, right of a position; the best where they are level.
 fn lowest(best: Group, e: Side, at: Position) -> Group
@@ -274,7 +274,7 @@ fn with_line(v: Sides, line: Line, rightward: bool) -> Sides
 
 // One edge more, unless its ends have equal x.
 fn with_edge(v: Sides, words: &[i32], a: usize, b: usize) -> Sides
-    requires { ⌜ WellFormed v × (v .n < 32) × (a + 1 < length (now words)) × (b + 1 < length (now words)) × VertexOnGrid coordinateLimit (vertexAt (now words) a) × VertexOnGrid coordinateLimit (vertexAt (now words) b) ⌝ }
+    requires { ⌜ TakesEdge v (now words) a b ⌝ }
     ensures { λ r. ⌜ Lengthened v (edge (vertexAt (now (words .entry)) a) (vertexAt (now (words .entry)) b)) r ⌝ }
 {
     let x = integer_code::get(words, a);

@@ -9,8 +9,8 @@ ghost use mathlib.Core.Path.{_≡_};
 ghost use lib.ListN.{length};
 
 fn combine(code: u32, a: &[i32], b: &[i32]) {
-    let mut out = [7i32; 12288];
-    let mut scratch = [7i32; 12288];
+    let mut out = [7i32; records::MAX_WORDS];
+    let mut scratch = [7i32; records::MAX_WORDS];
     let r = loxurfa::combine(code, a, b, &mut out, &mut scratch);
     match r {
         Combined::Refused { number, place } => case_parts::refused(number, place),
@@ -39,8 +39,8 @@ fn combines(a: &[i32], b: &[i32], more: &[i32], none: &[i32]) {
 }
 
 fn deoverlap(a: &[i32]) {
-    let mut out = [7i32; 12288];
-    let mut scratch = [7i32; 12288];
+    let mut out = [7i32; records::MAX_WORDS];
+    let mut scratch = [7i32; records::MAX_WORDS];
     let r = loxurfa::deoverlap(a, &mut out, &mut scratch);
     match r {
         Deoverlapped::Refused { number, place } => case_parts::refused(number, place),
@@ -59,8 +59,8 @@ fn deoverlaps(a: &[i32], more: &[i32]) {
 }
 
 fn equal(a: &[i32], b: &[i32]) {
-    let mut out = [7i32; 12288];
-    let mut scratch = [7i32; 12288];
+    let mut out = [7i32; records::MAX_WORDS];
+    let mut scratch = [7i32; records::MAX_WORDS];
     let r = loxurfa::equal(a, b, &mut out, &mut scratch);
     match r {
         Equality::Refused { number, place } => case_parts::refused(number, place),
@@ -115,8 +115,8 @@ fn component_counts(a: &[i32], more: &[i32]) {
 fn layers(squares: &[i32])
     requires { ⌜ length (now squares) ≡ 12312 ⌝ }
 {
-    let a = &squares[..12288];
-    combines(a, &squares[12288..], squares, &squares[..0]);
+    let a = &squares[..records::MAX_WORDS];
+    combines(a, &squares[records::MAX_WORDS..], squares, &squares[..0]);
     deoverlaps(a, squares);
     equals(a, &squares[..12264]);
     component_counts(a, squares);

@@ -5,7 +5,7 @@ use Prim.Native.Nat.{ℕ, _/_, _*_, _≤_}
 use native.Mathlib.Omega.{arith}
 use lib.IntN.{ℤ}
 use lib.ListN.{length, take, drop, length-append}
-use Rattle.records.specs.Limits.{memoryWidth}
+use Rattle.records.specs.Limits.{memoryWidth, maxWords}
 use Rattle.geometry.specs.declared.Trapezoid.{Trapezoid}
 use Rattle.geometry.specs.declared.Checked.{Checked}
 use Rattle.geometry.specs.declared.Checked.the-variants.{Passed, Refused}
@@ -20,7 +20,7 @@ use Rattle.calls.specs.Answers.{Answer, fracturedAnswer, deoverlappedAnswer}
 use Rattle.calls.specs.Rows.{plateLimit, fractureChecked, deoverlapChecked}
 use Rattle.calls.specs.Outcomes.{Outcome, observed, written, outcome, fracturedOf, fractureOutcome, deoverlapOutcome}
 use Rattle.listing.specs.Listing.{listing, refusalLine}
-use Rattle.listing.specs.Lister.{layerSize, blank, printedAs, deoverlapListed, listedAs, listed}
+use Rattle.listing.specs.Lister.{blank, printedAs, deoverlapListed, listedAs, listed}
 use Rattle.listing.proofs.Blank.{blank-length}
 use Rattle.lister.specs.Code.{Put}
 
@@ -33,19 +33,19 @@ put-within t d r e (l, h) = omega (arith, l, ap length h, length-append t (drop 
 
 -- ---- a layer deoverlapped
 module _ (ts : List Trapezoid) (ms : List Mark) where
-  printed-outcome : (c : Checked) (out scratch : List ℤ) → length out ≡ layerSize
+  printed-outcome : (c : Checked) (out scratch : List ℤ) → length out ≡ maxWords
       → printedAs (outcome c out scratch ts ms .answer) (outcome c out scratch ts ms .out) ≡ printedAs (outcome c blank blank ts ms .answer) (outcome c blank blank ts ms .out)
   printed-outcome (Refused number place) out scratch e = refl
   printed-outcome Passed out scratch e =
       ap (λ (n : ℕ). printedAs (written n ts (space (n / memoryWidth) ms) .answer) (written n ts (space (n / memoryWidth) ms) .out)) (e ∙ sym blank-length)
 
-  listed-outcome : (c : Checked) (out scratch : List ℤ) → length out ≡ layerSize
+  listed-outcome : (c : Checked) (out scratch : List ℤ) → length out ≡ maxWords
       → listedAs (outcome c out scratch ts ms .answer) (outcome c out scratch ts ms .out) ≡ listedAs (outcome c blank blank ts ms .answer) (outcome c blank blank ts ms .out)
   listed-outcome (Refused number place) out scratch e = refl
   listed-outcome Passed out scratch e =
       ap (λ (n : ℕ). listedAs (written n ts (space (n / memoryWidth) ms) .answer) (written n ts (space (n / memoryWidth) ms) .out)) (e ∙ sym blank-length)
 
-module _ (a out scratch : List ℤ) (m : length out ≡ layerSize) (n : length scratch ≡ layerSize) where
+module _ (a out scratch : List ℤ) (m : length out ≡ maxWords) (n : length scratch ≡ maxWords) where
   checked-blank : deoverlapChecked plateLimit a (length out) (length scratch) ≡ deoverlapChecked plateLimit a (length blank) (length blank)
   checked-blank =
       ap (λ (k : ℕ). deoverlapChecked plateLimit a k (length scratch)) (m ∙ sym blank-length) ∙ ap (deoverlapChecked plateLimit a (length blank)) (n ∙ sym blank-length)
@@ -69,7 +69,7 @@ module _ (a out scratch : List ℤ) (m : length out ≡ layerSize) (n : length s
     layer-done pieces overlays h = ap (λ (x : Deoverlapped). printedAs (deoverlappedAnswer x) o) (sym h) ∙ answered
 
 -- ---- a polygon file fractured
-module _ (file : List ℕ) (out scratch : List ℤ) (m : length out ≡ layerSize) (n : length scratch ≡ layerSize) where
+module _ (file : List ℕ) (out scratch : List ℤ) (m : length out ≡ maxWords) (n : length scratch ≡ maxWords) where
   fracture-blank : fractureChecked plateLimit file (length out) (length scratch) ≡ fractureChecked plateLimit file (length blank) (length blank)
   fracture-blank =
       ap (λ (k : ℕ). fractureChecked plateLimit file k (length scratch)) (m ∙ sym blank-length) ∙ ap (fractureChecked plateLimit file (length blank)) (n ∙ sym blank-length)

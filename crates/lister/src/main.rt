@@ -7,13 +7,14 @@ use libc::STDOUT_FILENO;
 ghost use mathlib.Core.Path.{_≡_};
 ghost use Prim.Native.Nat.{_≤_};
 ghost use lib.ListN.{length};
+ghost use Rattle.records.specs.Limits.{maxWords};
 ghost use Rattle.listing.specs.Listing.{listingRoom};
-ghost use Rattle.listing.specs.Lister.{layerSize, deoverlapListed, listed};
+ghost use Rattle.listing.specs.Lister.{deoverlapListed, listed};
 ghost use Rattle.lister.specs.Code.{Put};
 
 // The text for a layer, deoverlapped into `out`, at the start of `text`. The answer is its length.
 fn list_layer(layer: &[i32], out: &mut [i32], scratch: &mut [i32], text: &mut [u8]) -> usize
-    requires { ⌜ (length (now out) ≡ layerSize) × (length (now scratch) ≡ layerSize) × (listingRoom ≤ length (now text)) ⌝ }
+    requires { ⌜ (length (now out) ≡ maxWords) × (length (now scratch) ≡ maxWords) × (listingRoom ≤ length (now text)) ⌝ }
     ensures { λ r. ⌜ Put (deoverlapListed (now (layer .entry))) (now (text .entry)) r (now (text .exit)) ⌝ }
 {
     let d = loxurfa::deoverlap(layer, out, scratch);
@@ -35,7 +36,7 @@ fn list_file(
     scratch: &mut [i32],
     text: &mut [u8],
 ) -> usize
-    requires { ⌜ (length (now first) ≡ layerSize) × (length (now out) ≡ layerSize) × (length (now scratch) ≡ layerSize) × (listingRoom ≤ length (now text)) ⌝ }
+    requires { ⌜ (length (now first) ≡ maxWords) × (length (now out) ≡ maxWords) × (length (now scratch) ≡ maxWords) × (listingRoom ≤ length (now text)) ⌝ }
     ensures { λ r. ⌜ Put (listed (now (file .entry))) (now (text .entry)) r (now (text .exit)) ⌝ }
 {
     let f = loxurfa::fracture(file, first, scratch);
@@ -52,9 +53,9 @@ fn list_file(
 
 // The text for the bytes of a polygon file, printed; where it cannot be, a line on standard error.
 fn print_listing(file: &[u8]) {
-    let mut first = [0i32; 12288];
-    let mut out = [0i32; 12288];
-    let mut scratch = [0i32; 12288];
+    let mut first = [0i32; records::MAX_WORDS];
+    let mut out = [0i32; records::MAX_WORDS];
+    let mut scratch = [0i32; records::MAX_WORDS];
     let mut text = [0u8; 147468];
     let n = list_file(file, &mut first, &mut out, &mut scratch, &mut text);
     let is_written = io::write_all(STDOUT_FILENO, &text[..n]);

@@ -2,7 +2,8 @@
 use mathlib.Core.Path.{_≡_}
 use lib.IntN.{pos}
 use lib.ListN.{length, length-replicate}
-use Rattle.listing.specs.Lister.{layerSize, blank}
+use Rattle.records.specs.Limits.{maxWords}
+use Rattle.listing.specs.Lister.{blank}
 
-pub blank-length : length blank ≡ layerSize
-blank-length = length-replicate layerSize (pos 0)
+pub blank-length : length blank ≡ maxWords
+blank-length = length-replicate maxWords (pos 0)

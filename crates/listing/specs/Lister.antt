@@ -3,18 +3,15 @@ use mathlib.Core.List.{List}
 use Prim.Native.Nat.{ℕ, _*_}
 use lib.IntN.{ℤ}
 use lib.ListN.{take}
-use Rattle.records.specs.Limits.{memoryWidth, maxRecords}
+use Rattle.records.specs.Limits.{memoryWidth, maxWords}
 use Rattle.calls.specs.Answers.{Answer, refused, done}
 use Rattle.calls.specs.Rows.{plateLimit}
 use Rattle.calls.specs.Outcomes.{zeros, fractureOutcome, deoverlapOutcome}
 use Rattle.listing.specs.Listing.{listing, refusalLine}
 
 -- an output or a scratch area of 512 records
-abbrev pub layerSize : ℕ
-layerSize = memoryWidth * maxRecords
-
 abbrev pub blank : List ℤ
-blank = zeros layerSize
+blank = zeros maxWords
 
 -- what is printed of an answer, with the words of the output
 abbrev pub printedAs : Answer → List ℤ → List ℕ

@@ -1,18 +1,17 @@
 // The polygons of a polygon file, fractured one after the other (paper 01: cutting a sheet).
 use geometry::Fill;
 ghost use mathlib.Core.Path.{_≡_};
-ghost use Prim.Native.Nat.{_<_, _≤_};
+ghost use Prim.Native.Nat.{_≤_};
 ghost use lib.ListN.{length};
 ghost use Rattle.geometry.specs.declared.Checked.the-variants.{Passed};
 ghost use Rattle.geometry.specs.Limit.{coordinateLimit};
-ghost use Rattle.geometry.specs.Polygons.{PolygonOnGrid};
 ghost use Rattle.fracture.specs.Fracture.{fracture, fractureAll};
-ghost use Rattle.files.specs.Formats.{fileWords, polygonFile};
-ghost use Rattle.files.specs.Directory.{HasPairs};
-ghost use Rattle.files.specs.Contents.{countIn, polygonsOf};
+ghost use Rattle.files.specs.Formats.{fileWords};
+ghost use Rattle.files.specs.Contents.{polygonsOf};
 ghost use Rattle.files.specs.Rows.{polygonFileChecked};
 ghost use Rattle.trapezoids_code.specs.Tails.{Borrowed, FilledAs};
 ghost use Rattle.files_code.specs.Code.{polygonAt};
+ghost use Rattle.polygons_code.specs.Code.{MayFracture};
 
 // The trapezoids of polygon number i of a polygon file that passes and has `count` polygons, written as `fracture_polygon` writes them.
 fn fracture_numbered(
@@ -23,7 +22,7 @@ fn fracture_numbered(
     out: &mut [i32],
     room: usize,
 ) -> Fill
-    requires { ⌜ HasPairs polygonFile (fileWords (now file)) (countIn (fileWords (now file))) × (count ≡ countIn (fileWords (now file))) × (i < countIn (fileWords (now file))) × PolygonOnGrid limit (polygonAt (fileWords (now file)) i) × (limit ≤ coordinateLimit) × Borrowed (now out) room ⌝ }
+    requires { ⌜ MayFracture (now file) count i limit (now out) room ⌝ }
     ensures { λ r. ⌜ FilledAs (length (now (out .entry))) room (fracture limit (polygonAt (fileWords (now (file .entry))) i)) r (now (out .exit)) ⌝ }
 {
     let e = files_code::polygon_extent(file, i);

@@ -14,6 +14,10 @@ fileWidth = 24
 abbrev pub maxRecords : ℕ
 maxRecords = 512
 
+-- the words of such a layer: row 1's 12,288
+abbrev pub maxWords : ℕ
+maxWords = memoryWidth * maxRecords
+
 -- row 1 of the table lets a layer, an output or a scratch area (paper 01: work area) of n words pass
 unfoldable pub sized : ℕ → Bool
-sized n = eqb (n % memoryWidth) 0 && leb n (memoryWidth * maxRecords)
+sized n = eqb (n % memoryWidth) 0 && leb n maxWords

@@ -11,7 +11,7 @@ ghost use Rattle.records.specs.Words.{unsigned as unsignedOf, signed as signedO
 pub fn sized(words: usize) -> bool
     ensures { λ r. ⌜ r ≡ sizedLayer words ⌝ }
 {
-    words % records::MEMORY_WIDTH == 0 && words <= records::MEMORY_WIDTH * records::MAX_RECORDS
+    words % records::MEMORY_WIDTH == 0 && words <= records::MAX_WORDS
 }
 
 // Every word is set to 0.

@@ -3,11 +3,11 @@ use geometry::Checked;
 use integer::Int;
 ghost use mathlib.Core.Path.{_≡_};
 ghost use mathlib.Core.Bool.{_&&_};
-ghost use Prim.Native.Nat.{_*_, _≤_};
+ghost use Prim.Native.Nat.{_≤_};
 ghost use lib.ListN.{length};
 ghost use lib.IntN.{pos, natAbs};
 ghost use lib.Signed.{leZ};
-ghost use Rattle.records.specs.Limits.{sized, memoryWidth, maxRecords};
+ghost use Rattle.records.specs.Limits.{sized, maxWords};
 ghost use Rattle.geometry.specs.Limit.{coordinateLimit};
 ghost use Rattle.calls.specs.Components.{listsSized, componentsChecked};
 ghost use Rattle.calls.specs.Rows.{buffersSized, withinTimes, pointPasses, layersChecked, fractureChecked, combineChecked, deoverlapChecked, equalChecked, containsChecked};
@@ -99,7 +99,7 @@ fn point_passes(limit: u32, x: Int, y: Int, d: Int) -> bool
 
 // Rows 7 to 11: the trapezoids of the first layer, then those of the second, numbered on.
 fn layers_checked(limit: u32, a: &[i32], b: &[i32]) -> Checked
-    requires { ⌜ (limit ≤ coordinateLimit) × (length (now a) ≤ memoryWidth * maxRecords) ⌝ }
+    requires { ⌜ (limit ≤ coordinateLimit) × (length (now a) ≤ maxWords) ⌝ }
     ensures { λ r. ⌜ r ≡ layersChecked limit (now (a .entry)) (now (b .entry)) ⌝ }
 {
     let first = fitness_code::first_refused(a, limit, 0);

@@ -1,6 +1,5 @@
 use mathlib.Core.Path.{_≡_, refl, _∙_}
 use Prim.Native.Nat.{_-_}
-use native.Mathlib.Omega.{arith}
 use lib.ListN.{length}
 use borrow.Author.Needs.{needs}
 use Rattle.cases.proofs.bytes_of.Statement.{statement}
@@ -15,17 +14,11 @@ abbrev μ-loop : tie.MeasureT-loop
 loop-holds : tie.Need-loop-holds Inv-loop μ-loop
 loop-holds c = refl
 
-same-length : tie.Need-same-length Inv-loop μ-loop
-same-length c = c .before .before .loop .inv
-
-store-word-requires : tie.Need-store-word-requires Inv-loop μ-loop
-store-word-requires c κs = omega (arith, c .before .before .if1 .left)
-
 loop-again : tie.Need-loop-again Inv-loop μ-loop
-loop-again c = c .before .before .store-word .kept .0 ∙ c .before .before .before .before .before .before .before .loop .inv
+loop-again c = c .before .before .put-word .kept .0 ∙ c .before .before .before .before .before .before .loop .inv
 
-same-length-2 : tie.Need-same-length-2 Inv-loop μ-loop
-same-length-2 c = c .before .loop .inv
+same-length : tie.Need-same-length Inv-loop μ-loop
+same-length c = c .before .loop .inv
 
 pub bytes-of-spec : {M : Type 1} → statement M
 bytes-of-spec =
@@ -34,13 +27,11 @@ bytes-of-spec =
     Inv-loop
     μ-loop
     loop-holds
-    same-length
     (λ c. search needs)
     (λ c. search needs)
-    (λ c. search needs)
-    store-word-requires
+    (λ c κs. search needs)
     (λ c. search needs)
     (λ c. search needs)
     loop-again
-    same-length-2
+    same-length
     (λ c. search needs))

@@ -14,4 +14,4 @@ unfolding sized
 returns-2 c = rw (ne-eqb (c .before .args .words % memoryWidth) 0 (c .if1 .left))
 
 pub sized-spec : {M : Type 1} → statement M
-sized-spec = tie.close (tie.spec (λ c. search needs) returns returns-2)
+sized-spec = tie.close (tie.spec returns returns-2)
