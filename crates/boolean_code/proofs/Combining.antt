@@ -22,7 +22,7 @@ use Rattle.boolean.specs.Space.{Mark, addition, short, plus, space, marks}
 use Rattle.boolean.proofs.Space.{plus-none, space-enough}
 use Rattle.trapezoids_code.specs.Tails.{Borrowed}
 use Rattle.remainder_code.specs.Code.{held, Holding, withOverlays, FoldedAs}
-use Rattle.remainder_code.proofs.Answers.{folded-held}
+use Rattle.remainder_code.proofs.Answers.{filled-held}
 
 -- ---- nothing in front
 module _ (d : List ℤ) (room : ℕ) (h : Borrowed d room) where
@@ -44,13 +44,13 @@ module _ (d : List ℤ) (room : ℕ) (h : Borrowed d room) where
 module _ (n room : ℕ) (ts : List Trapezoid) (ms : List Mark) (p c : ℕ) (t : List ℤ) (g : FoldedAs n room ts ms (Done p c) t) (long : length t ≡ n) (wide : memoryWidth * room ≤ n) where
   pub holding-done : Holding t p room
   holding-done =
-      let d = folded-held n room ts ms p c t g in
+      let d = filled-held n room ts p t (g .1) in
       record { is = g .1 .2 ∙ (λ j. image trapezoidCodec (sym long j) (sym d j)); within = omega (arith, g .1 .0, g .1 .1); wide = omega (arith, long, wide) }
 
   -- `us` with the marks `ns p` follow
   pub folded-after : (us : List Trapezoid) (ns : ℕ → List Mark) (r : Folded) (v : List ℤ) → FoldedAs (length t) room (held t p ++ us) (ns p) r v → FoldedAs n room (ts ++ us) (ms ++ ns (length ts)) (withOverlays c r) v
   folded-after us ns r v h =
-      let d = folded-held n room ts ms p c t g in
+      let d = filled-held n room ts p t (g .1) in
       let a = subst (λ (x : List Trapezoid). FoldedAs (length t) room (x ++ us) (ns p) r v) d h in
       let b = subst (λ (x : ℕ). FoldedAs (length t) room (ts ++ us) (ns x) r v) (g .1 .0) a in
       go r (subst (λ (x : ℕ). FoldedAs x room (ts ++ us) (ns (length ts)) r v) long b)

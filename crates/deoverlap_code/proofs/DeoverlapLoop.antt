@@ -1,33 +1,31 @@
--- A layer deoverlapped: what holds before each trapezoid, that a turn keeps it, and what it says at each way out.
+-- A layer deoverlapped: a fold that adds each trapezoid less what stands.
 use mathlib.Core.Path.{_≡_, refl, sym, _∙_, ap, subst}
 use mathlib.Core.List.{List, [], _∷_, _++_}
 use Prim.Native.Nat.{ℕ, _+_, _*_, _-_, _<_, _≤_}
 use native.Mathlib.Omega.{arith}
-use lib.ListN.{length, length-append, take-append-drop}
+use lib.ListN.{length}
 use lib.IntN.{ℤ, pos}
 use Rattle.lists.specs.Lists.{All}
-use Rattle.lists.proofs.Lists.{all-of, all-append}
-use Rattle.records.specs.Limits.{memoryWidth, maxRecords}
-use Rattle.records.specs.Records.{recordAt, recordsFrom, wordsOf, image, count, Blank}
-use Rattle.records.proofs.Records.{from-start, from-step, from-none, length-from}
-use Rattle.records.proofs.Buffer.{image-none, image-append, image-records}
+use Rattle.lists.proofs.Lists.{all-append}
+use Rattle.records.specs.Limits.{maxRecords}
+use Rattle.records.specs.Records.{recordAt, count, Blank}
 use Rattle.geometry.specs.declared.Trapezoid.{Trapezoid}
 use Rattle.geometry.specs.Limit.{coordinateLimit}
 use Rattle.geometry.specs.Fitness.{FitFor}
 use Rattle.geometry.specs.Trapezoids.{trapezoidCodec, layerOf}
-use Rattle.geometry.proofs.Trapezoids.{trapezoid-faithful}
+use Rattle.geometry.specs.declared.Fill.the-variants.{Written}
 use Rattle.boolean.specs.declared.Folded.{Folded}
 use Rattle.boolean.specs.declared.Folded.the-variants.{Short, Done}
 use Rattle.boolean.specs.Operations.{lessAll, deoverlapped, deoverlappedFrom}
-use Rattle.boolean.specs.Space.{Mark, enough, short, plus, space, oneMarks, deoverlappedMarks}
+use Rattle.boolean.specs.Space.{enough, short, space, oneMarks, deoverlappedMarks}
 use Rattle.boolean.proofs.Kept.{lessAll-fit}
-use Rattle.boolean.proofs.Space.{plus-none, plus-plus, space-enough, space-short}
 use Rattle.boolean.proofs.Shifting.{one-shift}
-use Rattle.trapezoids_code.specs.Tails.{Borrowed}
-use Rattle.remainder_code.specs.Code.{front, rest, from, held, overlaysOfOne, maxOverlays, OverlaysWithin, Remaining, FoldedAs}
-use Rattle.remainder_code.proofs.Answers.{within-short, within-done}
-use Rattle.remainder_code.proofs.Held.{front-words}
-use Rattle.deoverlap_code.proofs.Front.{rest-length}
+use Rattle.trapezoids_code.specs.Tails.{Borrowed, FilledAs}
+use Rattle.trapezoids_code.proofs.Writing.{tail, fill-nothing}
+use Rattle.remainder_code.specs.Code.{front, rest, held, overlaysOfOne, maxOverlays, OverlaysWithin, Remaining, FoldedAs, ScratchFor}
+use Rattle.remainder_code.proofs.Answers.{within-short, within-done, filled-remaining}
+use Rattle.remainder_code.proofs.Held.{rest-is, back-whole}
+use Rattle.remainder_code.proofs.Folding.{Fold, Steps, Folding, blank-start, fold-held, fold-words, fold-added, fold-fit, fold-short, fold-next}
 
 -- ---- the definitions, step by step
 from-nothing : (done : List Trapezoid) → deoverlappedFrom done [] ≡ done
@@ -46,133 +44,83 @@ marks-one : (done A : List Trapezoid) (a : Trapezoid) → deoverlappedMarks done
 unfolding deoverlappedMarks
 marks-one done A a = refl
 
-held-none : (d : List ℤ) → held d 0 ≡ []
-unfolding recordsFrom
-held-none d = refl
+abbrev pub deoverlapFold : Fold
+deoverlapFold =
+    record {
+      result = deoverlappedFrom;
+      marks = deoverlappedMarks;
+      next = λ done a. done ++ lessAll (a ∷ []) done;
+      turn = λ done a left. oneMarks (length done) a done;
+    }
+
+deoverlap-steps : Steps deoverlapFold
+deoverlap-steps = record { none = from-nothing; one = from-one; no-marks = marks-nothing; one-marks = marks-one }
 
 -- ---- the loop
--- k trapezoids are in the result, and `sum` overlays have been made, before number i
 pub record Deoverlapping (W room : ℕ) (layer out scratch : List ℤ) (k sum i : ℕ) : Type 0 where
+  pub folding : Folding deoverlapFold W room (deoverlapped (layerOf layer)) (deoverlappedMarks [] (layerOf layer)) layer out k sum i
   pub buffer : Remaining out k room
-  pub yields : deoverlapped (layerOf layer) ≡ deoverlappedFrom (held out k) (from layer i)
-  pub marks : space room (deoverlappedMarks [] (layerOf layer)) ≡ plus sum (space room (deoverlappedMarks (held out k) (from layer i)))
   pub few : sum ≤ overlaysOfOne * i
-  pub upto : i ≤ count trapezoidCodec layer
-  pub fit : All (FitFor coordinateLimit) (from layer i)
-  pub blank : Blank (pos 0) scratch
-  pub same : length scratch ≡ length out
-  pub long : length out ≡ W
+  pub scratch-for : ScratchFor out scratch
 
-pub deoverlap-start : (room : ℕ) (layer out scratch : List ℤ) → Borrowed out room → All (FitFor coordinateLimit) (layerOf layer) → Blank (pos 0) scratch → length scratch ≡ length out → Deoverlapping (length out) room layer out scratch 0 0 0
-deoverlap-start room layer out scratch h f z n =
-    let e : layerOf layer ≡ from layer 0 = sym (from-start trapezoidCodec (count trapezoidCodec layer) layer) in
-    let y : held out 0 ≡ [] = held-none out in
+pub deoverlap-start : (room : ℕ) (layer out scratch : List ℤ) → Borrowed out room → All (FitFor coordinateLimit) (layerOf layer) → ScratchFor out scratch → Deoverlapping (length out) room layer out scratch 0 0 0
+deoverlap-start room layer out scratch h f z =
     record {
-      buffer = record {
-        is = h .blank ∙ sym (image-none trapezoidCodec trapezoid-faithful (length out)) ∙ ap (image trapezoidCodec (length out)) (sym y);
-        fit = subst (All (FitFor coordinateLimit)) (sym y) tt;
-        within = omega arith;
-        wide = h .wide;
-      };
-      yields = (λ j. deoverlappedFrom (sym y j) (e j));
-      marks = (λ j. space room (deoverlappedMarks (sym y j) (e j))) ∙ sym (plus-none (space room (deoverlappedMarks (held out 0) (from layer 0))));
+      folding = blank-start deoverlapFold deoverlap-steps room layer out h f;
+      buffer = filled-remaining (length out) room [] 0 out (fill-nothing out room h) refl (h .wide) tt;
       few = omega arith;
-      upto = omega arith;
-      fit = subst (All (FitFor coordinateLimit)) e f;
-      blank = z;
-      same = n;
-      long = refl;
+      scratch-for = z;
     }
 
 module _ {W room : ℕ} {layer out scratch : List ℤ} {k sum i : ℕ} (h : Deoverlapping W room layer out scratch k sum i) where
-  size : length (held out k) ≡ k
-  size = length-from trapezoidCodec k out 0
+  abbrev F : Folding deoverlapFold W room (deoverlapped (layerOf layer)) (deoverlappedMarks [] (layerOf layer)) layer out k sum i
+  F = h .folding
 
   pub deoverlap-few : count trapezoidCodec layer ≤ maxRecords → sum ≤ maxOverlays
-  deoverlap-few l = omega (arith, h .few, h .upto, l)
+  deoverlap-few l = omega (arith, h .few, F .upto, l)
 
-  pub deoverlap-stop : count trapezoidCodec layer ≤ i → FoldedAs W room (deoverlapped (layerOf layer)) (deoverlappedMarks [] (layerOf layer)) (Done k sum) out
-  deoverlap-stop l =
-      let e : from layer i ≡ [] = from-none trapezoidCodec (count trapezoidCodec layer) layer i l in
-      let y : deoverlapped (layerOf layer) ≡ held out k = h .yields ∙ ap (deoverlappedFrom (held out k)) e ∙ from-nothing (held out k) in
-      let z : sum + 0 ≡ sum = omega arith in (
-        h .marks ∙ ap (λ (ts : List Trapezoid). plus sum (space room (deoverlappedMarks (held out k) ts))) e ∙ ap (plus sum) (marks-nothing room (held out k)) ∙ ap enough z,
-        rw y (sym size, omega (arith, size, h .buffer .within), h .buffer .is ∙ ap (λ (m : ℕ). image trapezoidCodec m (held out k)) (h .long)),
-      )
+  -- what an answer says of the loop, when the buffer comes back as t and the scratch area as w
+  pub record Deoverlapped (f : Folded) (t w : List ℤ) : Type 0 where
+    pub full : (c : ℕ) → f ≡ Short c → space room (deoverlappedMarks [] (layerOf layer)) ≡ short (sum + c)
+    pub full-few : (c : ℕ) → f ≡ Short c → sum + c ≤ overlaysOfOne * (i + 1)
+    pub fits : (m c : ℕ) → f ≡ Done m c → k + m ≤ room
+    pub keeps : (m c : ℕ) → f ≡ Done m c → Deoverlapping W room layer t w (k + m) (sum + c) (i + 1)
 
-  -- x is number i of the layer, and f answers it less what the result holds
-  module _ (l : i < count trapezoidCodec layer) (x : Trapezoid) (is : x ≡ recordAt trapezoidCodec layer i) (f : Folded) (t : List ℤ)
-      (g : FoldedAs (length (rest out k)) (room - k) (lessAll (x ∷ []) (held out k)) (oneMarks 0 x (held out k)) f (rest t k)) (u : OverlaysWithin overlaysOfOne f) where
-    abbrev more : List Trapezoid
-    more = lessAll (x ∷ []) (held out k)
+  -- x is number i of the layer, and f answers it less what the result holds, past k records of t that stand
+  pub deoverlap-turn : (l : i < count trapezoidCodec layer) (x : Trapezoid) → x ≡ recordAt trapezoidCodec layer i → (f : Folded) (t w : List ℤ)
+      → FoldedAs (length (rest out k)) (room - k) (lessAll (x ∷ []) (held out k)) (oneMarks 0 x (held out k)) f (rest t k) → OverlaysWithin overlaysOfOne f → front t k ≡ front out k
+      → Blank (pos 0) w → length w ≡ length scratch → Deoverlapped f t w
+  deoverlap-turn l x is f t w g u stands z n = record { full = full; full-few = full-few; fits = fits; keeps = keeps }
+    where
+      known : (r : Folded) → f ≡ r → FoldedAs (length (tail out k)) (room - k) (lessAll (x ∷ []) (F .done)) (oneMarks 0 x (F .done)) r (rest t k)
+      known r e = rw (rest-is out k) (rw (fold-held F, e) at g)
 
-    abbrev later : List Mark
-    later = deoverlappedMarks (held out k ++ more) (from layer (i + 1))
+      same : space room (oneMarks (length (F .done)) x (F .done)) ≡ space (room - k) (oneMarks 0 x (F .done))
+      same = ap (λ (y : ℕ). space room (oneMarks y x (F .done))) (sym (F .size)) ∙ one-shift room k (room - k) x (F .done) (omega (arith, F .within))
 
-    step : from layer i ≡ x ∷ from layer (i + 1)
-    step = from-step trapezoidCodec (count trapezoidCodec layer) layer i l ∙ ap (λ (a : Trapezoid). a ∷ from layer (i + 1)) (sym is)
+      added : (m c : ℕ) → f ≡ Done m c → FilledAs W room (F .done ++ lessAll (x ∷ []) (F .done)) (Written (k + m)) t
+      added m c e =
+          subst (FilledAs W room (F .done ++ lessAll (x ∷ []) (F .done)) (Written (k + m))) (back-whole out k (fold-words F) t stands)
+          (fold-added F (room - k) (lessAll (x ∷ []) (F .done)) m (rest t k) (omega (arith, F .within)) (known (Done m c) e .1))
 
-    unrolled : space room (deoverlappedMarks [] (layerOf layer)) ≡ plus sum (space room (oneMarks k x (held out k) ++ later))
-    unrolled =
-        h .marks ∙ ap (λ (ts : List Trapezoid). plus sum (space room (deoverlappedMarks (held out k) ts))) step ∙ ap (λ (ms : List Mark). plus sum (space room ms)) (marks-one (held out k) (from layer (i + 1)) x)
-        ∙ ap (λ (n : ℕ). plus sum (space room (oneMarks n x (held out k) ++ later))) size
+      full : (c : ℕ) → f ≡ Short c → space room (deoverlappedMarks [] (layerOf layer)) ≡ short (sum + c)
+      full c e = fold-short F l x is c (same ∙ known (Short c) e .0)
 
-    moved : space room (oneMarks k x (held out k)) ≡ space (room - k) (oneMarks 0 x (held out k))
-    moved = one-shift room k x (held out k) (h .buffer .within)
+      full-few : (c : ℕ) → f ≡ Short c → sum + c ≤ overlaysOfOne * (i + 1)
+      full-few c e = omega (arith, h .few, within-short overlaysOfOne c f e u)
 
-    answer : (r : Folded) → f ≡ r → FoldedAs (length (rest out k)) (room - k) more (oneMarks 0 x (held out k)) r (rest t k)
-    answer r e = subst (λ (r : Folded). FoldedAs (length (rest out k)) (room - k) more (oneMarks 0 x (held out k)) r (rest t k)) e g
+      fits : (m c : ℕ) → f ≡ Done m c → k + m ≤ room
+      fits m c e = let a = added m c e in omega (arith, a .0, a .1)
 
-    sum-few : (c : ℕ) → c ≤ overlaysOfOne → sum + c ≤ overlaysOfOne * (i + 1)
-    sum-few c m = omega (arith, h .few, m)
-
-    pub deoverlap-short : (c : ℕ) → f ≡ Short c → space room (deoverlappedMarks [] (layerOf layer)) ≡ short (sum + c)
-    deoverlap-short c e = unrolled ∙ ap (plus sum) (space-short room c (oneMarks k x (held out k)) later (moved ∙ answer (Short c) e .0))
-
-    pub short-few : count trapezoidCodec layer ≤ maxRecords → (c : ℕ) → f ≡ Short c → sum + c ≤ maxOverlays
-    short-few n c e = omega (arith, sum-few c (within-short overlaysOfOne c f e u), l, n)
-
-    module _ (m c : ℕ) (e : f ≡ Done m c) where
-      pub deoverlap-upto : k + m ≤ room
-      deoverlap-upto = let a = answer (Done m c) e in omega (arith, a .1 .0, a .1 .1, h .buffer .within)
-
-      pub turn-few : count trapezoidCodec layer ≤ maxRecords → sum + c ≤ maxOverlays
-      turn-few n = omega (arith, sum-few c (within-done overlaysOfOne m c f e u), l, n)
-
-      module _ (stands : front t k ≡ front out k) (kept : length t ≡ length out) where
-        longer : k + m ≡ length (held out k ++ more)
-        longer = omega (arith, length-append (held out k) more, answer (Done m c) e .1 .0, size)
-
-        laid : t ≡ image trapezoidCodec (length out) (held out k ++ more)
-        laid =
-            let n : length (rest out k) ≡ length out - memoryWidth * length (held out k) = rest-length out k ∙ ap (λ (q : ℕ). length out - memoryWidth * q) (sym size) in
-            let p : front t k ≡ wordsOf trapezoidCodec (held out k) = stands ∙ front-words out k room (h .buffer) in
-            let q : rest t k ≡ image trapezoidCodec (length out - memoryWidth * length (held out k)) more = answer (Done m c) e .1 .2 ∙ ap (λ (w : ℕ). image trapezoidCodec w more) n in
-            sym (take-append-drop (memoryWidth * k) t) ∙ (λ j. p j ++ q j) ∙ image-append trapezoidCodec trapezoid-faithful (length out) (held out k) more
-
-        now-held : held t (k + m) ≡ held out k ++ more
-        now-held =
-            ap (λ (q : ℕ). recordsFrom trapezoidCodec q t 0) longer ∙ ap (λ (d : List ℤ). recordsFrom trapezoidCodec (length (held out k ++ more)) d 0) laid
-            ∙ image-records trapezoidCodec trapezoid-faithful (length out) (held out k ++ more) (all-of (λ (t : Trapezoid). Unit {0}) (λ t. tt) (held out k ++ more))
-
-        pub deoverlap-turn : (w : List ℤ) → Blank (pos 0) w → length w ≡ length scratch → Deoverlapping W room layer t w (k + m) (sum + c) (i + 1)
-        deoverlap-turn w z n =
-            let fits = subst (All (FitFor coordinateLimit)) step (h .fit) in
-            let y = all-append (FitFor coordinateLimit) (held out k) more (h .buffer .fit) (lessAll-fit coordinateLimit (x ∷ []) (held out k) (fits .0, tt) (h .buffer .fit)) in
-            record {
-              buffer = record {
-                is = laid ∙ (λ j. image trapezoidCodec (sym kept j) (sym now-held j));
-                fit = subst (All (FitFor coordinateLimit)) (sym now-held) y;
-                within = deoverlap-upto;
-                wide = omega (arith, kept, h .buffer .wide);
-              };
-              yields = h .yields ∙ ap (deoverlappedFrom (held out k)) step ∙ from-one (held out k) (from layer (i + 1)) x ∙ ap (λ (ts : List Trapezoid). deoverlappedFrom ts (from layer (i + 1))) (sym now-held);
-              marks = unrolled ∙ ap (plus sum) (space-enough room c (oneMarks k x (held out k)) later (moved ∙ answer (Done m c) e .0)) ∙ plus-plus sum c (space room later)
-                  ∙ ap (λ (ts : List Trapezoid). plus (sum + c) (space room (deoverlappedMarks ts (from layer (i + 1))))) (sym now-held);
-              few = sum-few c (within-done overlaysOfOne m c f e u);
-              upto = omega (arith, l);
-              fit = fits .1;
-              blank = z;
-              same = n ∙ h .same ∙ sym kept;
-              long = kept ∙ h .long;
-            }
+      keeps : (m c : ℕ) → f ≡ Done m c → Deoverlapping W room layer t w (k + m) (sum + c) (i + 1)
+      keeps m c e =
+          let a = added m c e in
+          let s = fold-next F l x is (k + m) c t (same ∙ known (Done m c) e .0) a in
+          let y = subst (All (FitFor coordinateLimit)) (fold-held F) (h .buffer .fit) in
+          record {
+            folding = s;
+            buffer = filled-remaining W room (F .done ++ lessAll (x ∷ []) (F .done)) (k + m) t a (s .long) (s .wide)
+                (all-append (FitFor coordinateLimit) (F .done) (lessAll (x ∷ []) (F .done)) y (lessAll-fit coordinateLimit (x ∷ []) (F .done) (fold-fit F l x is, tt) y));
+            few = omega (arith, h .few, within-done overlaysOfOne m c f e u);
+            scratch-for = (z, n ∙ h .scratch-for .1 ∙ F .long ∙ sym (s .long));
+          }

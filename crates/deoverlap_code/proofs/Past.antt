@@ -1,20 +1,19 @@
 -- One trapezoid in hand less those that a buffer holds, and what remains of it past them.
-use mathlib.Core.Path.{_≡_, sym, _∙_, ap, subst}
+use mathlib.Core.Path.{_≡_, sym, subst}
 use mathlib.Core.List.{List, [], _∷_}
 use Prim.Native.Nat.{ℕ, _+_, _*_, _-_, _<_, _≤_}
 use native.Mathlib.Omega.{arith}
-use lib.ListN.{length, drop, replicate}
+use lib.ListN.{length}
 use lib.IntN.{ℤ, pos}
 use borrow.Rule.Slice.PartMut.{putMid}
 use Rattle.lists.specs.Lists.{All}
 use Rattle.records.specs.Limits.{memoryWidth, maxRecords}
 use Rattle.records.specs.Records.{recordAt, count}
-use Rattle.records.proofs.Buffer.{blank-of, image-drop}
+use Rattle.records.proofs.Buffer.{blank-of}
 use Rattle.geometry.specs.declared.Trapezoid.{Trapezoid}
 use Rattle.geometry.specs.Limit.{coordinateLimit}
 use Rattle.geometry.specs.Fitness.{FitFor, Layer}
 use Rattle.geometry.specs.Trapezoids.{trapezoidCodec, layerOf}
-use Rattle.geometry.proofs.Trapezoids.{trapezoid-faithful}
 use Rattle.boolean.specs.declared.Folded.{Folded}
 use Rattle.boolean.specs.declared.Folded.the-variants.{Short, Done}
 use Rattle.boolean.specs.Operations.{less, lessAll}
@@ -23,21 +22,15 @@ use Rattle.trapezoids_code.specs.Tails.{Borrowed}
 use Rattle.trapezoids_code.proofs.Writing.{tail}
 use Rattle.remainder_code.specs.Code.{front, rest, from, held, withOverlays, OverlaysWithin, Remaining, FoldedAs, apartBefore}
 use Rattle.remainder_code.proofs.One.{one-whole, first-few, one-refused, one-remaining, one-folded, one-start, skip-upto, one-skip}
-use Rattle.remainder_code.proofs.Held.{front-held, held-fits, size}
-use Rattle.deoverlap_code.proofs.Front.{rest-is, rest-length, front-count, back-front, back-rest}
+use Rattle.remainder_code.proofs.Held.{front-held, held-fits, rest-blanks, rest-is, rest-length, front-count, back-front, back-rest}
 
 module _ (d : List ℤ) (k room : ℕ) (h : Remaining d k room) where
   pub front-layer : room ≤ maxRecords → Layer (front d k)
   front-layer l = record { fit = subst (All (FitFor coordinateLimit)) (sym (front-held d k room h)) (h .fit); few = omega (arith, front-count d k (held-fits d k room h), h .within, l) }
 
-  rest-blanks : rest d k ≡ replicate (length d - memoryWidth * k) (pos 0)
-  rest-blanks =
-      ap (λ (m : ℕ). drop m d) (sym (size d k room h)) ∙ ap (drop (memoryWidth * length (held d k))) (h .is) ∙ image-drop trapezoidCodec trapezoid-faithful (length d) (held d k)
-      ∙ ap (λ (m : ℕ). replicate (length d - m) (pos 0)) (size d k room h)
-
   pub past-borrowed : Borrowed (tail d k) (room - k)
   past-borrowed =
-      subst (λ (t : List ℤ). Borrowed t (room - k)) (sym (rest-is d k)) (record { blank = blank-of (pos 0) (rest d k) (length d - memoryWidth * k) rest-blanks; wide = omega (arith, rest-length d k, h .within, h .wide) })
+      subst (λ (t : List ℤ). Borrowed t (room - k)) (sym (rest-is d k)) (record { blank = blank-of (pos 0) (rest d k) (length d - memoryWidth * k) (rest-blanks d k room h); wide = omega (arith, rest-length d k, h .within, h .wide) })
 
   pub past-front : (t : List ℤ) → front (putMid (memoryWidth * k) (length d - memoryWidth * k) d t) k ≡ front d k
   past-front t = back-front d k (held-fits d k room h) t

@@ -1,1 +1,1 @@
-pub mod Subtracting
+pub mod Folds

@@ -1,2 +1,1 @@
-pub mod Commoning
-pub mod Intersecting
+pub mod Folds

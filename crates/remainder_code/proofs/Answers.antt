@@ -7,20 +7,24 @@ use native.Mathlib.Omega.{arith}
 use lib.Dec.{ltb}
 use lib.ListN.{length}
 use lib.IntN.{ℤ}
-use borrow.Author.Tests.{le-ltb}
+use borrow.Author.Tests.{lt-ltb, le-ltb}
 use Rattle.lists.specs.Lists.{All}
 use Rattle.lists.proofs.Lists.{all-of}
 use Rattle.records.specs.Limits.{memoryWidth}
 use Rattle.records.specs.Records.{recordsFrom, image}
+use Rattle.records.proofs.Records.{length-from}
 use Rattle.records.proofs.Buffer.{image-records}
 use Rattle.geometry.specs.declared.Trapezoid.{Trapezoid}
 use Rattle.geometry.specs.Limit.{coordinateLimit}
 use Rattle.geometry.specs.Fitness.{FitFor}
 use Rattle.geometry.specs.Trapezoids.{trapezoidCodec}
 use Rattle.geometry.proofs.Trapezoids.{trapezoid-faithful}
+use Rattle.geometry.specs.declared.Fill.{Fill}
+use Rattle.geometry.specs.declared.Fill.the-variants.{NoRoom, Written}
 use Rattle.boolean.specs.declared.Folded.{Folded}
 use Rattle.boolean.specs.declared.Folded.the-variants.{Short, Done}
 use Rattle.boolean.specs.Space.{Mark, held, overlaysOf, overlaid, addition, Space, enough, short, plus, space}
+use Rattle.trapezoids_code.specs.Tails.{FilledAs}
 use Rattle.remainder_code.specs.Code.{withOverlays, OverlaysWithin, Remaining, FoldedAs}
 use Rattle.remainder_code.specs.Code as code
 
@@ -65,23 +69,41 @@ within-short m c r e h = subst (OverlaysWithin m) e h
 pub within-done : (m p c : ℕ) (r : Folded) → r ≡ Done p c → OverlaysWithin m r → c ≤ m
 within-done m p c r e h = subst (OverlaysWithin m) e h
 
--- ---- an addition that there is room for
+-- ---- an addition and an overlay that there is room for
 pub space-added : (room k : ℕ) → k ≤ room → space room (addition k ∷ []) ≡ enough 0
 unfolding space
 space-added room k l = rw (le-ltb room k l) refl
 
+pub space-overlaid : (room k : ℕ) → k ≤ room → space room (overlaid k ∷ []) ≡ enough 1
+unfolding space
+space-overlaid room k l = rw (le-ltb room k l) refl
+
+-- ---- one overlay, as a fold
+abbrev pub once : Fill → Folded
+once NoRoom = Short 1
+once (Written n) = Done n 1
+
+pub once-folded : (n room : ℕ) (ts : List Trapezoid) (f : Fill) (d : List ℤ) → FilledAs n room ts f d → FoldedAs n room ts (overlaid (length ts) ∷ []) (once f) d
+unfolding space
+once-folded n room ts NoRoom d g = (rw (lt-ltb room (length ts) (g .0)) refl, g .1)
+once-folded n room ts (Written m) d g = (space-overlaid room (length ts) (g .1), g)
+
 -- ---- the tail
-pub folded-held : (n room : ℕ) (ts : List Trapezoid) (ms : List Mark) (p c : ℕ) (t : List ℤ) → FoldedAs n room ts ms (Done p c) t → code.held t p ≡ ts
-folded-held n room ts ms p c t g =
-    ap (λ (q : ℕ). recordsFrom trapezoidCodec q t 0) (g .1 .0) ∙ ap (λ (u : List ℤ). recordsFrom trapezoidCodec (length ts) u 0) (g .1 .2)
+pub filled-held : (n room : ℕ) (ts : List Trapezoid) (p : ℕ) (t : List ℤ) → FilledAs n room ts (Written p) t → code.held t p ≡ ts
+filled-held n room ts p t g =
+    ap (λ (q : ℕ). recordsFrom trapezoidCodec q t 0) (g .0) ∙ ap (λ (u : List ℤ). recordsFrom trapezoidCodec (length ts) u 0) (g .2)
     ∙ image-records trapezoidCodec trapezoid-faithful n ts (all-of (λ (t : Trapezoid). Unit {0}) (λ t. tt) ts)
 
-pub folded-remaining : (n room : ℕ) (ts : List Trapezoid) (ms : List Mark) (p c : ℕ) (t : List ℤ) → FoldedAs n room ts ms (Done p c) t → length t ≡ n → memoryWidth * room ≤ n → All (FitFor coordinateLimit) ts → Remaining t p room
-folded-remaining n room ts ms p c t g l w f =
-    let d = folded-held n room ts ms p c t g in
+pub filled-remaining : (n room : ℕ) (ts : List Trapezoid) (p : ℕ) (t : List ℤ) → FilledAs n room ts (Written p) t → length t ≡ n → memoryWidth * room ≤ n → All (FitFor coordinateLimit) ts → Remaining t p room
+filled-remaining n room ts p t g l w f =
+    let d = filled-held n room ts p t g in
     record {
-      is = g .1 .2 ∙ (λ j. image trapezoidCodec (sym l j) (sym d j));
+      is = g .2 ∙ (λ j. image trapezoidCodec (sym l j) (sym d j));
       fit = subst (All (FitFor coordinateLimit)) (sym d) f;
-      within = omega (arith, g .1 .0, g .1 .1);
+      within = omega (arith, g .0, g .1);
       wide = omega (arith, l, w);
     }
+
+-- what it holds at its front
+pub held-filled : (d : List ℤ) (n room : ℕ) → d ≡ image trapezoidCodec (length d) (code.held d n) → n ≤ room → FilledAs (length d) room (code.held d n) (Written n) d
+held-filled d n room e l = let m = length-from trapezoidCodec n d 0 in (sym m, omega (arith, m, l), e)

@@ -1,4 +1,4 @@
--- Trapezoids that do not overlap: the overlay leaves them whole, and the loops that look for one that does.
+-- Trapezoids that do not overlap: the overlay leaves them whole; and the walk to the first that does.
 use mathlib.Core.Path.{_≡_, refl, sym, _∙_, ap}
 use mathlib.Core.Bool.{Bool, true, false, cond, _||_}
 use mathlib.Core.List.{List, [], _∷_, _++_}
@@ -8,17 +8,18 @@ use lib.ListN.{length, drop}
 use lib.IntN.{ℤ}
 use Rattle.lists.proofs.Tests.{either-false}
 use Rattle.records.specs.Records.{recordAt, count}
-use Rattle.records.proofs.Records.{from-start, from-step, from-none}
 use Rattle.geometry.specs.declared.Trapezoid.{Trapezoid}
 use Rattle.geometry.specs.Trapezoids.{trapezoidCodec, layerOf}
 use Rattle.overlay.specs.Overlaps.{overlaps}
 use Rattle.overlay.specs.Overlay.{overlay, tagged}
 use Rattle.boolean.specs.Operations.{less, lessAll}
-use Rattle.boolean.specs.Space.{enough, plus, space, lessMarks, lessAllMarks}
+use Rattle.boolean.specs.Space.{overlaid, enough, plus, space, lessMarks, lessAllMarks}
 use Rattle.boolean.proofs.Space.{plus-none, plus-plus, space-enough}
 use Rattle.remainder_code.specs.Code.{from, overlapsAny, apartBefore}
 use Rattle.remainder_code.proofs.Reducing.{all-one, all-marks-one}
-use Rattle.remainder_code.proofs.Lessening.{less-none, less-one, marks-none, marks-next}
+use Rattle.remainder_code.proofs.Lessening.{less-none, less-one, marks-none, marks-one}
+use Rattle.remainder_code.proofs.Answers.{space-overlaid}
+use Rattle.remainder_code.proofs.Walking.{Walking, walk-stop, walk-here, walk-turn}
 
 -- ---- the definitions
 pub part-apart : (r b : Trapezoid) → overlaps r b ≡ false → tagged 1 (overlay r b) ≡ r ∷ []
@@ -43,7 +44,9 @@ marks-apart room k (r ∷ rs) b e l =
     let h = either-false (overlaps r b) (overlapsAny rs b) e in
     let n : length (tagged 1 (overlay r b)) ≡ 1 = ap length (part-apart r b (h .0)) in
     let z : 1 + length rs ≡ length (r ∷ rs) = omega arith in
-    marks-next room k r b rs (omega (arith, n, l)) ∙ ap (plus 1) (marks-apart room (k + length (tagged 1 (overlay r b))) rs b (h .1) (omega (arith, n, l))) ∙ ap enough z
+    let p = tagged 1 (overlay r b) in
+    ap (space room) (marks-one k r b rs) ∙ space-enough room 1 (overlaid (k + length p + length rs) ∷ []) (lessMarks (k + length p) rs b) (space-overlaid room (k + length p + length rs) (omega (arith, n, l)))
+    ∙ ap (plus 1) (marks-apart room (k + length p) rs b (h .1) (omega (arith, n, l))) ∙ ap enough z
 
 -- ---- a alone is in hand: those before the first that overlaps it leave it whole
 module _ (a : Trapezoid) where
@@ -87,58 +90,21 @@ module _ (a : Trapezoid) where
           ∙ plus-plus 1 (apartBefore a bs) rest
           ∙ ap (λ (m : ℕ). plus m rest) z
 
--- ---- a loop over a layer, for one that overlaps b
--- none of the first i does, and the rest decides
-pub record Searching (b : Trapezoid) (layer : List ℤ) (i : ℕ) : Type 0 where
-  pub same : overlapsAny (layerOf layer) b ≡ overlapsAny (from layer i) b
-  pub upto : i ≤ count trapezoidCodec layer
-
-pub search-start : (b : Trapezoid) (layer : List ℤ) → Searching b layer 0
-search-start b layer = record { same = ap (λ (ts : List Trapezoid). overlapsAny ts b) (sym (from-start trapezoidCodec (count trapezoidCodec layer) layer)); upto = omega arith }
-
-module _ {b : Trapezoid} {layer : List ℤ} {i : ℕ} (h : Searching b layer i) where
-  pub search-stop : count trapezoidCodec layer ≤ i → false ≡ overlapsAny (layerOf layer) b
-  search-stop l = sym (h .same ∙ ap (λ (ts : List Trapezoid). overlapsAny ts b) (from-none trapezoidCodec (count trapezoidCodec layer) layer i l))
-
-  module _ (l : i < count trapezoidCodec layer) (t : Trapezoid) (is : t ≡ recordAt trapezoidCodec layer i) where
-    turn : overlapsAny (layerOf layer) b ≡ overlaps t b || overlapsAny (from layer (i + 1)) b
-    turn =
-        h .same ∙ ap (λ (ts : List Trapezoid). overlapsAny ts b) (from-step trapezoidCodec (count trapezoidCodec layer) layer i l)
-        ∙ ap (λ (x : Trapezoid). overlaps x b || overlapsAny (from layer (i + 1)) b) (sym is)
-
-    pub search-found : overlaps t b ≡ true → true ≡ overlapsAny (layerOf layer) b
-    search-found e = sym (turn ∙ ap (λ (x : Bool). x || overlapsAny (from layer (i + 1)) b) e)
-
-    pub search-turn : overlaps t b ≡ false → Searching b layer (i + 1)
-    search-turn e = record { same = turn ∙ ap (λ (x : Bool). x || overlapsAny (from layer (i + 1)) b) e; upto = omega (arith, l) }
-
--- ---- a loop over a layer, for the first that overlaps a
+-- ---- a walk over a layer, for the first that overlaps a
 -- it is none of the first i
-pub record Passing (a : Trapezoid) (layer : List ℤ) (i : ℕ) : Type 0 where
-  pub same : apartBefore a (layerOf layer) ≡ i + apartBefore a (from layer i)
-  pub upto : i ≤ count trapezoidCodec layer
+abbrev pub Passing : Trapezoid → List ℤ → ℕ → Type 0
+Passing a layer i = Walking (λ j ts. j + apartBefore a ts) layer i
 
-pub pass-start : (a : Trapezoid) (layer : List ℤ) → Passing a layer 0
-pass-start a layer =
-    let e : apartBefore a (layerOf layer) ≡ apartBefore a (from layer 0) = ap (apartBefore a) (sym (from-start trapezoidCodec (count trapezoidCodec layer) layer)) in
-    record { same = omega (arith, e); upto = omega arith }
-
-module _ {a : Trapezoid} {layer : List ℤ} {i : ℕ} (h : Passing a layer i) where
+module _ (a : Trapezoid) {layer : List ℤ} {i : ℕ} (h : Passing a layer i) where
   pub pass-stop : count trapezoidCodec layer ≤ i → i ≡ apartBefore a (layerOf layer)
-  pass-stop l =
-      let e : apartBefore a (from layer i) ≡ 0 = ap (apartBefore a) (from-none trapezoidCodec (count trapezoidCodec layer) layer i l) in
-      omega (arith, h .same, e)
+  pass-stop l = omega (arith, walk-stop h l)
 
   module _ (l : i < count trapezoidCodec layer) (t : Trapezoid) (is : t ≡ recordAt trapezoidCodec layer i) where
-    next : apartBefore a (from layer i) ≡ cond (overlaps a t) 0 (suc (apartBefore a (from layer (i + 1))))
-    next = ap (apartBefore a) (from-step trapezoidCodec (count trapezoidCodec layer) layer i l) ∙ ap (λ (x : Trapezoid). cond (overlaps a x) 0 (suc (apartBefore a (from layer (i + 1))))) (sym is)
+    next : (b : Bool) → overlaps a t ≡ b → i + apartBefore a (t ∷ from layer (i + 1)) ≡ i + cond b 0 (suc (apartBefore a (from layer (i + 1))))
+    next b e = ap (λ (x : Bool). i + cond x 0 (suc (apartBefore a (from layer (i + 1))))) e
 
     pub pass-found : overlaps a t ≡ true → i ≡ apartBefore a (layerOf layer)
-    pass-found e =
-        let n : apartBefore a (from layer i) ≡ 0 = next ∙ ap (λ (x : Bool). cond x 0 (suc (apartBefore a (from layer (i + 1))))) e in
-        omega (arith, h .same, n)
+    pass-found e = omega (arith, walk-here h l t is, next true e)
 
     pub pass-turn : overlaps a t ≡ false → Passing a layer (i + 1)
-    pass-turn e =
-        let n : apartBefore a (from layer i) ≡ suc (apartBefore a (from layer (i + 1))) = next ∙ ap (λ (x : Bool). cond x 0 (suc (apartBefore a (from layer (i + 1))))) e in
-        record { same = omega (arith, h .same, n); upto = omega (arith, l) }
+    pass-turn e = walk-turn h l t is (omega (arith, next false e))

@@ -1,3 +1,5 @@
+pub mod Folding
+pub mod Walking
 pub mod Lessening
 pub mod Apart
 pub mod Moving

@@ -8,17 +8,15 @@ use lib.ListN.{length, take, drop, replicate, length-replicate, replicate-append
 use lib.Seq.{length-take-le, take-at, drop-at}
 use lib.IntN.{ℤ, pos}
 use Rattle.lists.specs.Lists.{All}
-use Rattle.lists.proofs.Lists.{all-of}
 use Rattle.lists.proofs.Parts.{drop-replicate}
 use Rattle.records.specs.Limits.{memoryWidth}
-use Rattle.records.specs.Records.{wordsOf, image, count, Blank}
-use Rattle.records.proofs.Records.{length-from, records-words}
-use Rattle.records.proofs.Buffer.{blank-of, image-take, image-drop}
+use Rattle.records.specs.Records.{image, count, Blank}
+use Rattle.records.proofs.Records.{length-from}
+use Rattle.records.proofs.Buffer.{blank-of}
 use Rattle.geometry.specs.declared.Trapezoid.{Trapezoid}
 use Rattle.geometry.specs.Limit.{coordinateLimit}
 use Rattle.geometry.specs.Fitness.{FitFor}
 use Rattle.geometry.specs.Trapezoids.{trapezoidCodec, layerOf}
-use Rattle.geometry.proofs.Trapezoids.{trapezoid-faithful}
 use Rattle.boolean.specs.declared.Folded.{Folded}
 use Rattle.boolean.specs.declared.Folded.the-variants.{Done}
 use Rattle.boolean.specs.Operations.{less}
@@ -26,7 +24,7 @@ use Rattle.boolean.specs.Space.{enough, lessMarks}
 use Rattle.trapezoids_code.specs.Tails.{Borrowed}
 use Rattle.remainder_code.specs.Code.{held, Remaining, FoldedAs, overlapsAny}
 use Rattle.remainder_code.proofs.Apart.{less-apart, marks-apart}
-use Rattle.remainder_code.proofs.Held.{held-fits, front-held}
+use Rattle.remainder_code.proofs.Held.{held-fits, rest-blanks, front-held}
 
 -- ---- none overlaps b: they stand
 module _ (d : List ℤ) (n room : ℕ) (h : Remaining d n room) where
@@ -52,21 +50,10 @@ module _ (d w d' w' : List ℤ) (n room : ℕ) (h : Remaining d n room) (blank :
   end = memoryWidth * n
 
   pub remainder-words : memoryWidth * n ≤ length d
-  remainder-words = omega (arith, h .within, h .wide)
+  remainder-words = held-fits d n room h
 
   pub remainder-scratch : memoryWidth * n ≤ length w
   remainder-scratch = omega (arith, remainder-words, same)
-
-  size : memoryWidth * length (held d n) ≡ end
-  size = ap (λ (m : ℕ). memoryWidth * m) (length-from trapezoidCodec n d 0)
-
-  front : take end d ≡ wordsOf trapezoidCodec (held d n)
-  front = ap (λ (m : ℕ). take m d) (sym size) ∙ ap (take (memoryWidth * length (held d n))) (h .is) ∙ image-take trapezoidCodec trapezoid-faithful (length d) (held d n)
-
-  rest : drop end d ≡ replicate (length d - end) (pos 0)
-  rest =
-      ap (λ (m : ℕ). drop m d) (sym size) ∙ ap (drop (memoryWidth * length (held d n))) (h .is) ∙ image-drop trapezoidCodec trapezoid-faithful (length d) (held d n)
-      ∙ ap (λ (m : ℕ). replicate (length d - m) (pos 0)) size
 
   first-words : length (take end d) ≡ end
   first-words = length-take-le end d remainder-words
@@ -78,9 +65,7 @@ module _ (d w d' w' : List ℤ) (n room : ℕ) (h : Remaining d n room) (blank :
   remainder-length = sym (ap length moved ∙ first-words)
 
   pub remainder-layer : layerOf (take (memoryWidth * n) w') ≡ held d n
-  remainder-layer =
-      ap layerOf (moved ∙ front)
-      ∙ records-words trapezoidCodec trapezoid-faithful (held d n) (all-of (λ (t : Trapezoid). Unit {0}) (λ t. tt) (held d n))
+  remainder-layer = ap layerOf moved ∙ front-held d n room h
 
   pub remainder-fit : All (FitFor coordinateLimit) (layerOf (take (memoryWidth * n) w'))
   remainder-fit = subst (All (FitFor coordinateLimit)) (sym remainder-layer) (h .fit)
@@ -93,7 +78,7 @@ module _ (d w d' w' : List ℤ) (n room : ℕ) (h : Remaining d n room) (blank :
   cleared : d' ≡ replicate (length d) (pos 0)
   cleared =
       let e : end + (length d - end) ≡ length d = omega (arith, remainder-words) in
-      out ∙ ap (λ (t : List ℤ). replicate end (pos 0) ++ t) rest ∙ replicate-append-replicate end (length d - end) (pos 0) ∙ ap (λ (m : ℕ). replicate m (pos 0)) e
+      out ∙ ap (λ (t : List ℤ). replicate end (pos 0) ++ t) (rest-blanks d n room h) ∙ replicate-append-replicate end (length d - end) (pos 0) ∙ ap (λ (m : ℕ). replicate m (pos 0)) e
 
   pub remainder-out : length d' ≡ length d
   remainder-out = ap length cleared ∙ length-replicate (length d) (pos 0)

@@ -13,22 +13,23 @@ use Rattle.geometry.specs.declared.Trapezoid.{Trapezoid}
 use Rattle.geometry.specs.Limit.{coordinateLimit}
 use Rattle.geometry.specs.Fitness.{FitFor}
 use Rattle.geometry.specs.Trapezoids.{trapezoidCodec, trapezoidWords, layerOf}
-use Rattle.geometry.specs.declared.Fill.the-variants.{NoRoom, Written}
+use Rattle.geometry.specs.declared.Fill.{Fill}
+use Rattle.geometry.specs.declared.Fill.the-variants.{Written}
 use Rattle.overlay.specs.Overlay.{overlay, tagged}
 use Rattle.boolean.specs.declared.Folded.{Folded}
 use Rattle.boolean.specs.declared.Folded.the-variants.{Short, Done}
 use Rattle.boolean.specs.Operations.{less, lessAll}
-use Rattle.boolean.specs.Space.{Mark, addition, enough, short, plus, space, lessMarks, lessAllMarks, oneMarks}
+use Rattle.boolean.specs.Space.{Mark, overlaid, addition, enough, short, plus, space, lessMarks, lessAllMarks, oneMarks}
 use Rattle.boolean.proofs.Kept.{less-fit}
 use Rattle.boolean.proofs.Space.{after, plus-after, space-append, space-enough, space-short}
 use Rattle.trapezoids_code.specs.Tails.{Borrowed, FilledAs}
 use Rattle.trapezoids_code.proofs.Writing.{fill-one}
 use Rattle.remainder_code.specs.Code.{from, withOverlays, OverlaysWithin, Remaining, FoldedAs, apartBefore}
 use Rattle.remainder_code.specs.Code as code
-use Rattle.remainder_code.proofs.Lessening.{less-none, less-one, marks-none, marks-over, marks-next}
+use Rattle.remainder_code.proofs.Lessening.{less-none, less-one}
 use Rattle.remainder_code.proofs.Reducing.{layer-split, all-none, all-one, all-marks-one}
 use Rattle.remainder_code.proofs.Apart.{apart-upto, all-apart, all-marks-apart}
-use Rattle.remainder_code.proofs.Answers.{folded-within, folded-held, folded-remaining, space-added}
+use Rattle.remainder_code.proofs.Answers.{folded-within, filled-held, filled-remaining, space-added, once, once-folded}
 
 -- ---- added whole
 pub whole-short : (room : ℕ) → room ≡ 0 → space room (addition 1 ∷ []) ≡ short 0
@@ -50,23 +51,16 @@ one-whole n room a layer j r d l g =
     (subst (λ (ms : List Mark). FoldedAs n room (lessAll (a ∷ []) []) ms r d) (sym (no-marks a)) (subst (λ (ts : List Trapezoid). FoldedAs n room ts (addition 1 ∷ []) r d) (sym (all-none (a ∷ []))) g))
 
 -- ---- the first overlay
-first-marks : (a b : Trapezoid) → length (lessMarks 0 (a ∷ []) b) ≡ 1
+first-marks : (a b : Trapezoid) → lessMarks 0 (a ∷ []) b ≡ overlaid (length (tagged 1 (overlay a b))) ∷ []
 unfolding lessMarks
-first-marks a b = refl
+first-marks a b = let e : 0 + length (tagged 1 (overlay a b)) + 0 ≡ length (tagged 1 (overlay a b)) = omega arith in ap (λ (n : ℕ). overlaid n ∷ []) e
 
-module _ (n room : ℕ) (a b : Trapezoid) where
-  abbrev parts : List Trapezoid
-  parts = tagged 1 (overlay a b)
+first-parts : (a b : Trapezoid) → less (a ∷ []) b ≡ tagged 1 (overlay a b)
+first-parts a b = less-one a b [] ∙ ap (λ (ts : List Trapezoid). tagged 1 (overlay a b) ++ ts) (less-none b) ∙ append-nil (tagged 1 (overlay a b))
 
-  one-less : less (a ∷ []) b ≡ tagged 1 (overlay a b)
-  one-less = less-one a b [] ∙ ap (λ (ts : List Trapezoid). parts ++ ts) (less-none b) ∙ append-nil parts
-
-  pub first-short : (d : List ℤ) → FilledAs n room (tagged 1 (overlay a b)) NoRoom d → FoldedAs n room (less (a ∷ []) b) (lessMarks 0 (a ∷ []) b) (Short 1) d
-  first-short d g = (marks-over room 0 a b [] (omega (arith, g .0)), g .1)
-
-  pub first-done : (d : List ℤ) (m : ℕ) → FilledAs n room (tagged 1 (overlay a b)) (Written m) d → FoldedAs n room (less (a ∷ []) b) (lessMarks 0 (a ∷ []) b) (Done m 1) d
-  first-done d m g =
-      (marks-next room 0 a b [] (omega (arith, g .1)) ∙ ap (plus 1) (marks-none room (0 + length parts) b), subst (λ (ts : List Trapezoid). FilledAs n room ts (Written m) d) (sym one-less) g)
+pub first-folded : (n room : ℕ) (a b : Trapezoid) (f : Fill) (r : Folded) (d : List ℤ) → FilledAs n room (tagged 1 (overlay a b)) f d → once f ≡ r → FoldedAs n room (less (a ∷ []) b) (lessMarks 0 (a ∷ []) b) r d
+first-folded n room a b f r d g e =
+    rw (first-parts a b, first-marks a b) (subst (λ (x : Folded). FoldedAs n room (tagged 1 (overlay a b)) (overlaid (length (tagged 1 (overlay a b))) ∷ []) x d) e (once-folded n room (tagged 1 (overlay a b)) f d g))
 
 -- ---- the rest
 module _ (n room : ℕ) (a b : Trapezoid) (bs : List Trapezoid) where
@@ -112,20 +106,20 @@ module _ (n room : ℕ) (a b : Trapezoid) (layer : List ℤ) (j : ℕ) (some : j
   known r e = subst (λ (x : Folded). FoldedAs n room (less (a ∷ []) b) (lessMarks 0 (a ∷ []) b) x d) e g
 
   pub first-few : OverlaysWithin 1 f
-  first-few = subst (λ (m : ℕ). OverlaysWithin m f) (first-marks a b) (folded-within n room (less (a ∷ []) b) (lessMarks 0 (a ∷ []) b) f d g)
+  first-few = subst (λ (m : ℕ). OverlaysWithin m f) (ap length (first-marks a b)) (folded-within n room (less (a ∷ []) b) (lessMarks 0 (a ∷ []) b) f d g)
 
   pub one-refused : (c : ℕ) → f ≡ Short c → FoldedAs n room (lessAll (a ∷ []) (from layer j)) (oneMarks 0 a (from layer j)) f d
   one-refused c e = subst (λ (x : Folded). FoldedAs n room (lessAll (a ∷ []) (from layer j)) (oneMarks 0 a (from layer j)) x d) (sym e) (at-layer (Short c) d (one-short n room a b (from layer (j + 1)) c d (known (Short c) e)))
 
   module _ (m c : ℕ) (e : f ≡ Done m c) where
     pub one-remaining : length d ≡ n → memoryWidth * room ≤ n → FitFor coordinateLimit a → FitFor coordinateLimit b → Remaining d m room
-    one-remaining l w ha hb = folded-remaining n room (less (a ∷ []) b) (lessMarks 0 (a ∷ []) b) m c d (known (Done m c) e) l w (less-fit coordinateLimit (a ∷ []) b (ha, tt) hb)
+    one-remaining l w ha hb = filled-remaining n room (less (a ∷ []) b) m d (known (Done m c) e .1) l w (less-fit coordinateLimit (a ∷ []) b (ha, tt) hb)
 
     pub one-folded : (r : Folded) (t : List ℤ) → length d ≡ n → FoldedAs (length d) room (lessAll (code.held d m) (from layer (j + 1))) (lessAllMarks 0 (code.held d m) (from layer (j + 1))) r t
         → FoldedAs n room (lessAll (a ∷ []) (from layer j)) (oneMarks 0 a (from layer j)) (withOverlays c r) t
     one-folded r t l h =
         let k = known (Done m c) e in
-        let u = folded-held n room (less (a ∷ []) b) (lessMarks 0 (a ∷ []) b) m c d k in
+        let u = filled-held n room (less (a ∷ []) b) m d (k .1) in
         let v = subst (λ (ts : List Trapezoid). FoldedAs (length d) room (lessAll ts (from layer (j + 1))) (lessAllMarks 0 ts (from layer (j + 1))) r t) u h in
         let w = subst (λ (x : ℕ). FoldedAs x room (lessAll (less (a ∷ []) b) (from layer (j + 1))) (lessAllMarks 0 (less (a ∷ []) b) (from layer (j + 1))) r t) l v in
         at-layer (withOverlays c r) t (one-rest n room a b (from layer (j + 1)) c (k .0) r t w)

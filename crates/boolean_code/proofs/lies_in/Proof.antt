@@ -1,4 +1,5 @@
-use mathlib.Core.Path.{sym, _∙_, ap, subst}
+-- Before turn i: the point lies in none of the first i trapezoids of the layer.
+use mathlib.Core.Path.{refl, sym, _∙_, subst}
 use Prim.Native.Nat.{_-_}
 use native.Mathlib.Omega.{arith}
 use borrow.Author.Needs.{needs}
@@ -6,21 +7,21 @@ use Rattle.lists.specs.Lists.{All}
 use Rattle.geometry.specs.declared.Trapezoid.{Trapezoid}
 use Rattle.geometry.specs.Limit.{coordinateLimit, OnGrid}
 use Rattle.geometry.specs.Fitness.{FitFor}
-use Rattle.geometry.specs.Trapezoids.{linesOf, liesIn}
+use Rattle.geometry.specs.Trapezoids.{linesOf, liesIn, liesInLayer}
 use Rattle.geometry.proofs.Layers.{all-record}
 use Rattle.geometry_code.specs.Code.{pointOf}
-use Rattle.boolean_code.proofs.Containing.{Containing, contain-start, contain-found, contain-turn, contain-stop}
+use Rattle.remainder_code.proofs.Walking.{walk-start, walk-stop, Searching, search-found, search-turn}
 use Rattle.boolean_code.proofs.lies_in.Statement.{statement}
 use Rattle.boolean_code.proofs.lies_in.Tie as tie
 
 abbrev Inv-loop : tie.InvT-loop
-Inv-loop layer x y d n i₀ i = Containing (pointOf x y d) layer i
+Inv-loop layer x y d n i₀ i = Searching (liesInLayer (pointOf x y d)) layer i
 
 abbrev μ-loop : tie.MeasureT-loop
 μ-loop layer x y d n i₀ i = n - i
 
 loop-holds : tie.Need-loop-holds Inv-loop μ-loop
-loop-holds c = contain-start (pointOf (c .args .x) (c .args .y) (c .args .d)) (c .args .layer .now)
+loop-holds c = walk-start (λ j ts. liesInLayer (pointOf (c .args .x) (c .args .y) (c .args .d)) ts) (c .args .layer .now)
 
 load-requires : tie.Need-load-requires Inv-loop μ-loop
 load-requires c κs = omega (arith, c .loop-test .taken)
@@ -34,15 +35,19 @@ contains-requires c κs =
 returns : tie.Need-returns Inv-loop μ-loop
 returns c =
     let k = c .before .before in
-    contain-found (k .before .before .loop .inv) (k .before .loop-test .taken) (ap (liesIn _) (sym (k .load .ensures)) ∙ sym (c .before .contains .ensures) ∙ c .if1 .taken)
+    let a = k .before .before .before .args in
+    let P = pointOf (a .x) (a .y) (a .d) in
+    search-found (liesInLayer P) (liesIn P) (λ t ts. refl) (k .before .before .loop .inv) (k .before .loop-test .taken) (k .load .result) (k .load .ensures) (sym (c .before .contains .ensures) ∙ c .if1 .taken)
 
 loop-again : tie.Need-loop-again Inv-loop μ-loop
 loop-again c =
     let k = c .before .before in
-    contain-turn (k .before .before .loop .inv) (k .before .loop-test .taken) (ap (liesIn _) (sym (k .load .ensures)) ∙ sym (c .before .contains .ensures) ∙ c .if1 .left)
+    let a = k .before .before .before .args in
+    let P = pointOf (a .x) (a .y) (a .d) in
+    search-turn (liesInLayer P) (liesIn P) (λ t ts. refl) (k .before .before .loop .inv) (k .before .loop-test .taken) (k .load .result) (k .load .ensures) (sym (c .before .contains .ensures) ∙ c .if1 .left)
 
 returns-2 : tie.Need-returns-2 Inv-loop μ-loop
-returns-2 c = contain-stop (c .before .loop .inv) (c .loop-test .left)
+returns-2 c = sym (walk-stop (c .before .loop .inv) (c .loop-test .left))
 
 pub lies-in-spec : {M : Type 1} → statement M
 lies-in-spec =

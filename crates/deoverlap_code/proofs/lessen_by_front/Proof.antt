@@ -1,3 +1,4 @@
+-- Before turn i: the first k records stand, past them what remains of the n trapezoids less numbers `start` to i of those records, and the scratch area is blank.
 use mathlib.Core.Path.{sym, _∙_}
 use Prim.Native.Nat.{_*_, _-_}
 use native.Mathlib.Omega.{arith}
@@ -5,8 +6,9 @@ use lib.ListN.{length}
 use borrow.Author.Needs.{needs}
 use borrow.Rule.Slice.PartMut.{same-len-mid}
 use Rattle.records.specs.Limits.{memoryWidth}
-use Rattle.remainder_code.proofs.Lessening.{placed}
-use Rattle.deoverlap_code.proofs.Front.{FrontReducing, front-length, front-start, front-fits, front-few, front-stop, front-none, front-fit, front-remaining, front-scratch, front-next, front-short, short-few, front-stands, scratch-blank, turn-few, front-turn}
+use Rattle.trapezoids_code.proofs.Placed.{placed-own}
+use Rattle.remainder_code.proofs.Held.{front-length}
+use Rattle.deoverlap_code.proofs.Front.{FrontReducing, front-start, front-fits, front-few, front-stop, front-none, front-fit, front-remaining, front-scratch, front-stands, scratch-blank, front-next, FrontReduced, front-turn}
 use Rattle.deoverlap_code.proofs.lessen_by_front.Statement.{statement}
 use Rattle.deoverlap_code.proofs.lessen_by_front.Tie as tie
 
@@ -19,7 +21,7 @@ abbrev μ-loop : tie.MeasureT-loop
 loop-holds : tie.Need-loop-holds Inv-loop μ-loop
 loop-holds c =
     let a = c .args in
-    front-start (a .room) (a .k) (a .start) (a .n) (a .out .now) (a .scratch .now) (c .pre .0 .0) (c .pre .0 .1) (c .pre .0 .2) (c .pre .0 .3) (c .pre .1 .0 .0) (c .pre .1 .0 .1) (c .pre .1 .1 .0) (c .pre .1 .1 .1)
+    front-start (a .room) (a .k) (a .start) (a .n) (a .out .now) (a .scratch .now) (c .pre .0 .0) (c .pre .0 .1) (c .pre .0 .2) (c .pre .0 .3) (c .pre .1 .0 .0) (c .pre .1 .0 .1) (c .pre .1 .1)
 
 same-length : tie.Need-same-length Inv-loop μ-loop
 same-length c = c .before .before .loop .inv .long
@@ -47,15 +49,19 @@ placed-at-requires c κs =
 lessen-requires : tie.Need-lessen-requires Inv-loop μ-loop
 lessen-requires c κs =
     let h = c .before .before .before .before .before .before .loop .inv in
-    ((placed (c .before .before .placed-at .ensures), front-remaining h), front-scratch h)
+    ((placed-own (c .before .before .placed-at .ensures), front-remaining h), front-scratch h)
+
+-- the remainder less number i
+turn : (o : tie.After-lessen Inv-loop μ-loop) → FrontReduced (o .before .before .before .before .before .before .before .loop .inv) (o .lessen .result) (o .lessen .last .1 .1 .0) (o .lessen .last .1 .1 .1 .0)
+turn o =
+    let m = o .lessen in
+    let p = o .before .before .before .placed-at in
+    let q = o .before .before .before .before .before .before in
+    front-turn (q .before .loop .inv) (q .loop-test .taken) (p .result .shape) (p .ensures .shape) (m .result) (m .last .1 .1 .0) (m .last .1 .1 .1 .0) (m .ensures .0) (m .ensures .1) (m .kept .1 .1 .0) (m .kept .1 .1 .1 .0)
 
 add-t30 : tie.Need-add-t30 Inv-loop μ-loop
 add-t30 c =
-    let m = c .before .before .before .before .before .lessen in
-    let p = c .before .before .before .before .before .before .before .before .placed-at in
-    let q = c .before .before .before .before .before .before .before .before .before .before .before in
-    let h = q .before .loop .inv in
-    omega (arith, short-few h (q .loop-test .taken) (p .result .shape) (p .ensures .shape) (m .result) (m .last .1 .1 .0) (m .ensures .0) _ (c .before .f .given .1))
+    omega (arith, turn (c .before .before .before .before .before) .full-few _ (c .before .f .given .1))
 
 same-length-3 : tie.Need-same-length-3 Inv-loop μ-loop
 same-length-3 c =
@@ -73,30 +79,18 @@ same-length-4 c =
 
 returns-2 : tie.Need-returns-2 Inv-loop μ-loop
 returns-2 c =
-    let m = c .before .before .before .before .before .lessen in
-    let p = c .before .before .before .before .before .before .before .before .placed-at in
-    let q = c .before .before .before .before .before .before .before .before .before .before .before in
-    let h = q .before .loop .inv in
-    let l = q .loop-test .taken in (
-      front-short h l (p .result .shape) (p .ensures .shape) (m .result) (m .last .1 .1 .0) (m .ensures .0) _ (c .before .f .given .1),
-      (front-stands h (m .last .1 .1 .0), (short-few h l (p .result .shape) (p .ensures .shape) (m .result) (m .last .1 .1 .0) (m .ensures .0) _ (c .before .f .given .1), scratch-blank h (m .last .1 .1 .1 .0) (m .ensures .1))),
-    )
+    let o = c .before .before .before .before .before in
+    let h = o .before .before .before .before .before .before .before .loop .inv in
+    let e = c .before .f .given .1 in
+    (turn o .full _ e, (front-stands h (o .lessen .last .1 .1 .0), (turn o .full-few _ e, scratch-blank h (o .lessen .last .1 .1 .1 .0) (o .lessen .ensures .1))))
 
 add-sum : tie.Need-add-sum Inv-loop μ-loop
 add-sum c =
-    let m = c .before .before .before .before .before .lessen in
-    let p = c .before .before .before .before .before .before .before .before .placed-at in
-    let q = c .before .before .before .before .before .before .before .before .before .before .before in
-    let h = q .before .loop .inv in
-    omega (arith, turn-few h (q .loop-test .taken) (p .result .shape) (p .ensures .shape) (m .result) (m .last .1 .1 .0) (m .ensures .0) (m .last .1 .1 .1 .0) (m .ensures .1) (m .kept .1 .1 .0) (m .kept .1 .1 .1 .0) _ _ (c .before .f2 .given .1))
+    omega (arith, front-few (turn (c .before .before .before .before .before) .keeps _ _ (c .before .f2 .given .1)))
 
 loop-again : tie.Need-loop-again Inv-loop μ-loop
 loop-again c =
-    let m = c .before .before .before .before .before .lessen in
-    let p = c .before .before .before .before .before .before .before .before .placed-at in
-    let q = c .before .before .before .before .before .before .before .before .before .before .before in
-    let h = q .before .loop .inv in
-    front-turn h (q .loop-test .taken) (p .result .shape) (p .ensures .shape) (m .result) (m .last .1 .1 .0) (m .ensures .0) (m .last .1 .1 .1 .0) (m .ensures .1) (m .kept .1 .1 .0) (m .kept .1 .1 .1 .0) _ _ (c .before .f2 .given .1)
+    turn (c .before .before .before .before .before) .keeps _ _ (c .before .f2 .given .1)
 
 returns-3 : tie.Need-returns-3 Inv-loop μ-loop
 returns-3 c =

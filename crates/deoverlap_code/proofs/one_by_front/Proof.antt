@@ -5,8 +5,7 @@ use borrow.Author.Needs.{needs}
 use Rattle.records.specs.Limits.{maxRecords}
 use Rattle.remainder_code.specs.Code.{overlaysOfOne, maxOverlays, OverlaysWithin}
 use Rattle.remainder_code.proofs.Answers.{within-least, within-more}
-use Rattle.remainder_code.proofs.Held.{held-fits}
-use Rattle.deoverlap_code.proofs.Front.{front-length}
+use Rattle.remainder_code.proofs.Held.{held-fits, front-length}
 use Rattle.deoverlap_code.proofs.Past.{front-layer, past-start, past-upto, past-skip}
 use Rattle.deoverlap_code.proofs.one_by_front.Statement.{statement}
 use Rattle.deoverlap_code.proofs.one_by_front.Tie as tie

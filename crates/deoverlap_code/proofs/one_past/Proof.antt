@@ -10,10 +10,9 @@ use Rattle.geometry.specs.Fitness.{Layer}
 use Rattle.boolean.specs.Space.{addition}
 use Rattle.trapezoids_code.proofs.Writing.{tail}
 use Rattle.remainder_code.specs.Code.{maxOverlays, OverlaysWithin}
-use Rattle.remainder_code.proofs.Lessening.{placed}
+use Rattle.trapezoids_code.proofs.Placed.{placed-own}
 use Rattle.remainder_code.proofs.Answers.{folded-within, within-least, within-more, within-done}
-use Rattle.remainder_code.proofs.Held.{held-fits}
-use Rattle.deoverlap_code.proofs.Front.{front-length, front-count}
+use Rattle.remainder_code.proofs.Held.{held-fits, front-length, front-count}
 use Rattle.deoverlap_code.proofs.Past.{front-layer, past-borrowed, past-whole, past-few, past-refused, past-front, past-remaining, past-folded}
 use Rattle.deoverlap_code.proofs.one_past.Statement.{statement}
 use Rattle.deoverlap_code.proofs.one_past.Tie as tie
@@ -55,7 +54,7 @@ first-into-requires : tie.Need-first-into-requires
 first-into-requires c κs =
     let s = c .before .before .before .before in
     let a = s .args in
-    (record { first = s .pre .0 .0; second = placed (c .before .placed-at .ensures) }, past-borrowed (a .out .now) (a .k) (a .room) (s .pre .0 .1))
+    (record { first = s .pre .0 .0; second = placed-own (c .before .placed-at .ensures) }, past-borrowed (a .out .now) (a .k) (a .room) (s .pre .0 .1))
 
 returns-2 : tie.Need-returns-2
 returns-2 c =

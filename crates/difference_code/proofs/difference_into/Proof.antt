@@ -1,23 +1,31 @@
-use mathlib.Core.Path.{_≡_, sym, _∙_, ap}
-use Prim.Native.Nat.{ℕ, _*_, _-_}
+-- Before turn i: the `start` trapezoids and past them what is left of the first i of the first layer less the second stand in `out`, each took at most
+-- `overlaysOfOne` overlays, and the scratch area is blank.
+use mathlib.Core.Path.{refl, sym, _∙_, ap}
+use mathlib.Core.List.{_++_}
+use Prim.Native.Nat.{ℕ, _*_, _-_, _≤_}
 use native.Mathlib.Omega.{arith}
 use lib.ListN.{length, replicate}
 use lib.IntN.{pos}
 use borrow.Author.Needs.{needs}
-use borrow.Rule.Slice.PartMut.{putMid, same-len-mid}
+use borrow.Rule.Slice.PartMut.{putMid}
 use Rattle.records.specs.Limits.{memoryWidth}
-use Rattle.records.proofs.Buffer.{blank-of}
-use Rattle.geometry.specs.Trapezoids.{layerOf}
-use Rattle.remainder_code.specs.Code.{held, overlaysOfOne}
-use Rattle.remainder_code.proofs.Lessening.{placed}
-use Rattle.remainder_code.proofs.Answers.{within-short, within-done}
-use Rattle.difference_code.proofs.Subtracting.{Subtracting, subtract-start, subtract-stop, subtract-words, subtract-scratch, subtract-borrowed, subtract-blank, subtract-same, subtract-short, subtract-upto, subtract-turn, scratch-back}
+use Rattle.records.proofs.Records.{length-from}
+use Rattle.geometry.specs.Trapezoids.{trapezoidCodec, layerOf}
+use Rattle.boolean.specs.Operations.{difference}
+use Rattle.boolean.specs.Space.{differenceMarks}
+use Rattle.trapezoids_code.proofs.Placed.{placed-own}
+use Rattle.remainder_code.specs.Code.{held, overlaysOfOne, ScratchFor}
+use Rattle.remainder_code.proofs.Answers.{within-short, within-done, held-filled}
+use Rattle.remainder_code.proofs.Held.{scratch-tail, scratch-back}
+use Rattle.remainder_code.proofs.Folding.{Folding, fold-start, fold-words, fold-stop, fold-borrowed, fold-long, Turned, fold-turn}
+use Rattle.difference_code.proofs.Folds.{differenceFold, difference-steps, difference-part}
 use Rattle.difference_code.proofs.difference_into.Statement.{statement}
 use Rattle.difference_code.proofs.difference_into.Tie as tie
 
 abbrev Inv-loop : tie.InvT-loop
 Inv-loop start first second out₀ scratch₀ room n k₀ made₀ i₀ out scratch k made i =
-    Subtracting (length out₀) room start (held out₀ start) first (layerOf second) out scratch k made i
+    Folding (differenceFold (layerOf second)) (length out₀) room (held out₀ start ++ difference (layerOf first) (layerOf second)) (differenceMarks start (layerOf first) (layerOf second)) first out k made i
+    × (made ≤ overlaysOfOne * i) × ScratchFor out scratch
 
 abbrev μ-loop : tie.MeasureT-loop
 μ-loop start first second out₀ scratch₀ room n k₀ made₀ i₀ out scratch k made i =
@@ -26,7 +34,14 @@ abbrev μ-loop : tie.MeasureT-loop
 loop-holds : tie.Need-loop-holds Inv-loop μ-loop
 loop-holds c =
     let a = c .args in
-    subtract-start (a .room) (a .start) (a .first .now) (layerOf (a .second .now)) (a .out .now) (a .scratch .now) (c .pre .0 .2) (c .pre .0 .0 .fit) (c .pre .1 .0) (c .pre .1 .1)
+    let B = layerOf (a .second .now) in
+    let d = a .out .now in
+    let h = c .pre .0 .2 in (
+      fold-start (differenceFold B) (difference-steps B) (a .room) (a .first .now) d (held d (a .start)) (differenceMarks (a .start) (layerOf (a .first .now)) B) (a .start) (held-filled d (a .start) (a .room) (h .is) (h .within)) (h .wide)
+          (ap (λ (k : ℕ). differenceMarks k (layerOf (a .first .now)) B) (sym (length-from trapezoidCodec (a .start) d 0))) (c .pre .0 .0 .fit),
+      omega arith,
+      c .pre .1,
+    )
 
 placed-at-requires : tie.Need-placed-at-requires Inv-loop μ-loop
 placed-at-requires c κs =
@@ -34,132 +49,130 @@ placed-at-requires c κs =
 
 mul-free : tie.Need-mul-free Inv-loop μ-loop
 mul-free c =
-    let h = c .before .before .loop .inv in
-    omega (arith, subtract-words h, c .before .before .before .good .1 .1 .1 .0)
+    omega (arith, fold-words (c .before .before .loop .inv .0), c .before .before .before .good .1 .1 .1 .0)
 
 mul-one-into : tie.Need-mul-one-into Inv-loop μ-loop
 mul-one-into c =
-    let h = c .before .before .loop .inv in
-    omega (arith, subtract-words h, c .before .before .before .good .1 .1 .1 .0)
+    omega (arith, fold-words (c .before .before .loop .inv .0), c .before .before .before .good .1 .1 .1 .0)
 
 sub-one-into : tie.Need-sub-one-into Inv-loop μ-loop
 sub-one-into c =
-    omega (arith, subtract-words (c .before .before .loop .inv))
+    omega (arith, fold-words (c .before .before .loop .inv .0))
 
 part-one-into-end : tie.Need-part-one-into-end Inv-loop μ-loop
 part-one-into-end c =
-    omega (arith, subtract-words (c .before .before .loop .inv))
+    omega (arith, fold-words (c .before .before .loop .inv .0))
 
 mul-one-into-2 : tie.Need-mul-one-into-2 Inv-loop μ-loop
 mul-one-into-2 c =
-    let h = c .before .before .before .loop .inv in
-    omega (arith, subtract-words h, c .before .before .before .before .good .1 .1 .1 .0)
+    omega (arith, fold-words (c .before .before .before .loop .inv .0), c .before .before .before .before .good .1 .1 .1 .0)
 
 sub-one-into-2 : tie.Need-sub-one-into-2 Inv-loop μ-loop
 sub-one-into-2 c =
-    omega (arith, subtract-scratch (c .before .before .before .loop .inv))
+    let h = c .before .before .before .loop .inv in
+    omega (arith, fold-words (h .0), h .2 .1)
 
 part-one-into-end-2 : tie.Need-part-one-into-end-2 Inv-loop μ-loop
 part-one-into-end-2 c =
-    omega (arith, subtract-scratch (c .before .before .before .loop .inv))
+    let h = c .before .before .before .loop .inv in
+    omega (arith, fold-words (h .0), h .2 .1)
 
 sub-one-into-3 : tie.Need-sub-one-into-3 Inv-loop μ-loop
 sub-one-into-3 c =
-    omega (arith, c .before .before .before .before .loop .inv .writing .upto)
+    omega (arith, c .before .before .before .before .loop .inv .0 .within)
 
 one-into-requires : tie.Need-one-into-requires Inv-loop μ-loop
 one-into-requires c κs =
     let l = c .before .before .before .before in
     let s = l .before in
-    let h = l .loop .inv in
-    ((placed (c .before .before .placed-at .ensures), s .pre .0 .1, subtract-borrowed h, omega (arith, s .pre .0 .3)), (subtract-blank h, subtract-same h))
+    let p = l .loop in
+    let h = p .inv in
+    ((placed-own (c .before .before .placed-at .ensures), s .pre .0 .1, fold-borrowed (h .0) _ (omega (arith, h .0 .within)), omega (arith, s .pre .0 .3)), scratch-tail (p .out) (p .scratch) (p .k) (h .2))
+
+-- number i less the second layer
+turn : (o : tie.After-one-into Inv-loop μ-loop)
+    → let l = o .before .before .before .before .before in
+    Turned (l .loop .inv .0) (l .before .args .room - l .loop .k) (o .one-into .result) (o .one-into .last .1 .1 .0)
+turn o =
+    let p = o .before .before .before .placed-at in
+    let l = o .before .before .before .before .before in
+    let h = l .loop .inv .0 in
+    let a = p .result .shape in
+    let f = o .one-into in
+    fold-turn h (o .before .before .before .before .loop-test .taken) a (p .ensures .shape)
+    (difference-part (layerOf (l .before .args .second .now)) a (h .size) (h .within)) (f .result) (f .last .1 .1 .0) (f .ensures .0)
+
+-- the scratch area with its tail back
+scratched : (o : tie.After-one-into Inv-loop μ-loop)
+    → let p = o .before .before .before .before .before .loop in
+    ScratchFor (putMid (memoryWidth * p .k) (length (p .out) - memoryWidth * p .k) (p .out) (o .one-into .last .1 .1 .0)) (putMid (memoryWidth * p .k) (length (p .scratch) - memoryWidth * p .k) (p .scratch) (o .one-into .last .1 .1 .1 .0))
+scratched o =
+    let p = o .before .before .before .before .before .loop in
+    let f = o .one-into in
+    scratch-back (p .out) (p .scratch) (p .k) (p .inv .2) (fold-words (p .inv .0)) (f .last .1 .1 .0) (f .last .1 .1 .1 .0) (f .kept .1 .1 .0) (f .kept .1 .1 .1 .0) (f .ensures .1 .1)
 
 add-t33 : tie.Need-add-t33 Inv-loop μ-loop
 add-t33 c =
-    let o = c .before .before .before .before .before .before .before .before .one-into in
-    let p = c .before .before .before .before .before .before .before .before .before .before .before .placed-at in
-    let t = c .before .before .before .before .before .before .before .before .before .before .before .before .loop-test .taken in
-    let l = c .before .before .before .before .before .before .before .before .before .before .before .before .before .loop in
-    let s = c .before .before .before .before .before .before .before .before .before .before .before .before .before .before in
-    let h = l .inv in
-    let u = within-short overlaysOfOne _ (o .result) (c .before .before .before .before .f .given .1) (o .ensures .1 .0) in
-    omega (arith, u, h .few, t, s .pre .0 .0 .few)
+    let o = c .before .before .before .before .before .before .before .before in
+    let l = o .before .before .before .before .before in
+    let u = within-short overlaysOfOne _ (o .one-into .result) (c .before .before .before .before .f .given .1) (o .one-into .ensures .1 .0) in
+    omega (arith, u, l .loop .inv .1, o .before .before .before .before .loop-test .taken, l .before .pre .0 .0 .few)
 
 same-length : tie.Need-same-length Inv-loop μ-loop
 same-length c =
-    let o = c .before .before .before .before .before .before .before .before .one-into in
-    let l = c .before .before .before .before .before .before .before .before .before .before .before .before .before .loop in
-    c .before .clear .kept .0 ∙ same-len-mid (memoryWidth * l .k) (length (l .out) - memoryWidth * l .k) (l .out) (o .last .1 .1 .0) (o .kept .1 .1 .0) ∙ l .inv .writing .long
+    let o = c .before .before .before .before .before .before .before .before in
+    c .before .clear .kept .0 ∙ fold-long (o .before .before .before .before .before .loop .inv .0) (o .one-into .last .1 .1 .0) (o .one-into .kept .1 .1 .0)
 
 same-length-2 : tie.Need-same-length-2 Inv-loop μ-loop
 same-length-2 c =
-    let o = c .before .before .before .before .before .before .before .before .one-into in
-    let l = c .before .before .before .before .before .before .before .before .before .before .before .before .before .loop in
-    same-len-mid (memoryWidth * l .k) (length (l .scratch) - memoryWidth * l .k) (l .scratch) (o .last .1 .1 .1 .0) (o .kept .1 .1 .1 .0) ∙ l .inv .same ∙ l .inv .writing .long ∙ sym (c .before .before .before .before .before .before .before .before .before .before .before .before .before .before .pre .1 .1)
+    let o = c .before .before .before .before .before .before .before .before in
+    let l = o .before .before .before .before .before in
+    scratched o .1 ∙ fold-long (l .loop .inv .0) (o .one-into .last .1 .1 .0) (o .one-into .kept .1 .1 .0) ∙ sym (l .before .pre .1 .1)
 
 returns : tie.Need-returns Inv-loop μ-loop
 returns c =
-    let o = c .before .before .before .before .before .before .before .before .one-into in
-    let p = c .before .before .before .before .before .before .before .before .before .before .before .placed-at in
-    let t = c .before .before .before .before .before .before .before .before .before .before .before .before .loop-test .taken in
-    let l = c .before .before .before .before .before .before .before .before .before .before .before .before .before .loop in
-    let s = c .before .before .before .before .before .before .before .before .before .before .before .before .before .before in
-    let h = l .inv in
-    let e = c .before .before .before .before .f .given .1 in
-    let u = within-short overlaysOfOne _ (o .result) e (o .ensures .1 .0) in
-    let n : length (c .before .clear .last .0) ≡ length (s .args .out .now) = same-length c in
-    let z = blank-of (pos 0) (c .before .clear .last .0) (length (putMid (memoryWidth * l .k) (length (l .out) - memoryWidth * l .k) (l .out) (o .last .1 .1 .0))) (c .before .clear .ensures) in (
-      (subtract-short h t (p .result .shape) (p .ensures .shape) (o .result) (o .last .1 .1 .0) (o .ensures .0) _ e, z ∙ ap (λ (m : ℕ). replicate m (pos 0)) n),
-      (omega (arith, u, h .few, t, s .pre .0 .0 .few), scratch-back (l .scratch) (l .k) (h .blank) (subtract-scratch h) (o .last .1 .1 .1 .0) (o .ensures .1 .1) (o .kept .1 .1 .1 .0)),
+    let o = c .before .before .before .before .before .before .before .before in
+    let l = o .before .before .before .before .before in
+    let g = c .before .before .before .before .f .given .1 in
+    let u = within-short overlaysOfOne _ (o .one-into .result) g (o .one-into .ensures .1 .0) in
+    let e = fold-long (l .loop .inv .0) (o .one-into .last .1 .1 .0) (o .one-into .kept .1 .1 .0) in (
+      (turn o .full _ g, c .before .clear .ensures ∙ ap (λ (n : ℕ). replicate n (pos 0)) e),
+      (omega (arith, u, l .loop .inv .1, o .before .before .before .before .loop-test .taken, l .before .pre .0 .0 .few), scratched o .0),
     )
 
 add-k : tie.Need-add-k Inv-loop μ-loop
 add-k c =
-    let o = c .before .before .before .before .before .one-into in
-    let p = c .before .before .before .before .before .before .before .before .placed-at in
-    let t = c .before .before .before .before .before .before .before .before .before .loop-test .taken in
-    let l = c .before .before .before .before .before .before .before .before .before .before .loop in
-    let s = c .before .before .before .before .before .before .before .before .before .before .before in
-    let h = l .inv in
-    let u = subtract-upto h t (p .result .shape) (p .ensures .shape) (o .result) (o .last .1 .1 .0) (o .ensures .0) _ _ (c .before .f2 .given .1) in
-    omega (arith, u, s .pre .0 .3)
+    let o = c .before .before .before .before .before in
+    let l = o .before .before .before .before .before in
+    omega (arith, turn o .fits _ _ (c .before .f2 .given .1), l .loop .inv .0 .within, l .before .pre .0 .3)
 
 add-made : tie.Need-add-made Inv-loop μ-loop
 add-made c =
-    let o = c .before .before .before .before .before .one-into in
-    let p = c .before .before .before .before .before .before .before .before .placed-at in
-    let t = c .before .before .before .before .before .before .before .before .before .loop-test .taken in
-    let l = c .before .before .before .before .before .before .before .before .before .before .loop in
-    let s = c .before .before .before .before .before .before .before .before .before .before .before in
-    let h = l .inv in
-    let u = within-done overlaysOfOne _ _ (o .result) (c .before .f2 .given .1) (o .ensures .1 .0) in
-    omega (arith, u, h .few, t, s .pre .0 .0 .few)
+    let o = c .before .before .before .before .before in
+    let l = o .before .before .before .before .before in
+    let u = within-done overlaysOfOne _ _ (o .one-into .result) (c .before .f2 .given .1) (o .one-into .ensures .1 .0) in
+    omega (arith, u, l .loop .inv .1, o .before .before .before .before .loop-test .taken, l .before .pre .0 .0 .few)
 
 loop-again : tie.Need-loop-again Inv-loop μ-loop
 loop-again c =
-    let o = c .before .before .before .before .before .one-into in
-    let p = c .before .before .before .before .before .before .before .before .placed-at in
-    let t = c .before .before .before .before .before .before .before .before .before .loop-test .taken in
-    let l = c .before .before .before .before .before .before .before .before .before .before .loop in
-    let s = c .before .before .before .before .before .before .before .before .before .before .before in
-    let h = l .inv in
-    let e = c .before .f2 .given .1 in
-    let u = within-done overlaysOfOne _ _ (o .result) e (o .ensures .1 .0) in
-    subtract-turn h t (p .result .shape) (p .ensures .shape) (o .result) (o .last .1 .1 .0) (o .ensures .0) _ _ e u (o .last .1 .1 .1 .0) (o .ensures .1 .1) (o .kept .1 .1 .1 .0) (o .kept .1 .1 .0)
+    let o = c .before .before .before .before .before in
+    let g = c .before .f2 .given .1 in
+    let u = within-done overlaysOfOne _ _ (o .one-into .result) g (o .one-into .ensures .1 .0) in
+    (turn o .keeps _ _ g, omega (arith, u, o .before .before .before .before .before .loop .inv .1), scratched o)
 
 same-length-3 : tie.Need-same-length-3 Inv-loop μ-loop
 same-length-3 c =
-    c .before .loop .inv .writing .long
+    c .before .loop .inv .0 .long
 
 same-length-4 : tie.Need-same-length-4 Inv-loop μ-loop
 same-length-4 c =
     let l = c .before in
-    l .loop .inv .same ∙ l .loop .inv .writing .long ∙ sym (l .before .pre .1 .1)
+    l .loop .inv .2 .1 ∙ l .loop .inv .0 .long ∙ sym (l .before .pre .1 .1)
 
 returns-2 : tie.Need-returns-2 Inv-loop μ-loop
 returns-2 c =
     let h = c .before .loop .inv in
-    (subtract-stop h (c .loop-test .left), (omega (arith, h .few, h .upto, c .before .before .pre .0 .0 .few), h .blank))
+    (fold-stop (h .0) (c .loop-test .left) _ refl, (omega (arith, h .1, h .0 .upto, c .before .before .pre .0 .0 .few), h .2 .0))
 
 pub difference-into-spec : {M : Type 1} → statement M
 difference-into-spec =

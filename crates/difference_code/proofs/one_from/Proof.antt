@@ -7,7 +7,7 @@ use borrow.Author.Needs.{needs}
 use Rattle.records.specs.Limits.{maxRecords}
 use Rattle.boolean.specs.Space.{addition}
 use Rattle.remainder_code.specs.Code.{maxOverlays, OverlaysWithin}
-use Rattle.remainder_code.proofs.Lessening.{placed}
+use Rattle.trapezoids_code.proofs.Placed.{placed-own}
 use Rattle.remainder_code.proofs.Answers.{folded-within, within-least, within-more, within-done}
 use Rattle.remainder_code.proofs.One.{one-whole, first-few, one-refused, one-remaining, one-folded}
 use Rattle.difference_code.proofs.one_from.Statement.{statement}
@@ -26,7 +26,7 @@ returns c =
 first-into-requires : tie.Need-first-into-requires
 first-into-requires c κs =
     let s = c .before .before .before in
-    (record { first = s .pre .0 .0; second = placed (c .before .placed-at .ensures) }, s .pre .0 .2)
+    (record { first = s .pre .0 .0; second = placed-own (c .before .placed-at .ensures) }, s .pre .0 .2)
 
 returns-2 : tie.Need-returns-2
 returns-2 c =

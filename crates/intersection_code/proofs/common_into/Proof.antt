@@ -1,24 +1,23 @@
-use mathlib.Core.Path.{_≡_, sym, _∙_, subst}
-use Prim.Native.Nat.{_*_, _-_}
+-- Before turn i: what a has in common with the first i trapezoids of the layer stands in `out`, and each took one overlay.
+use mathlib.Core.Path.{_∙_, ap}
+use Prim.Native.Nat.{ℕ, _-_}
 use native.Mathlib.Omega.{arith}
-use lib.ListN.{length}
+use lib.ListN.{length, replicate}
 use lib.IntN.{pos}
 use borrow.Author.Needs.{needs}
-use borrow.Rule.Slice.PartMut.{putMid, same-len-mid}
-use Rattle.records.specs.Records.{recordAt}
-use Rattle.records.specs.Limits.{memoryWidth}
-use Rattle.records.proofs.Buffer.{blank-of}
-use Rattle.geometry.specs.Fitness.{FitFor}
-use Rattle.geometry.specs.Limit.{coordinateLimit}
-use Rattle.geometry.specs.Trapezoids.{trapezoidCodec}
-use Rattle.trapezoids_code.proofs.Writing.{tail}
-use Rattle.remainder_code.proofs.Lessening.{placed}
-use Rattle.intersection_code.proofs.Commoning.{Commoning, common-start, common-stop, common-borrowed, common-fit, common-short, common-upto, common-turn, common-filled}
+use Rattle.geometry.specs.Trapezoids.{layerOf}
+use Rattle.boolean.specs.Operations.{common}
+use Rattle.boolean.specs.Space.{commonMarks}
+use Rattle.trapezoids_code.proofs.Placed.{placed-own}
+use Rattle.remainder_code.proofs.Answers.{once}
+use Rattle.remainder_code.proofs.Folding.{Folding, blank-start, fold-words, fold-stop, fold-borrowed, fold-long, fold-fit, Turned, fill-turn}
+use Rattle.intersection_code.proofs.Folds.{commonFold, common-steps, common-part}
 use Rattle.intersection_code.proofs.common_into.Statement.{statement}
 use Rattle.intersection_code.proofs.common_into.Tie as tie
 
 abbrev Inv-loop : tie.InvT-loop
-Inv-loop a layer out₀ room n k₀ i₀ out k i = Commoning (length out₀) room (a .shape) layer out k i
+Inv-loop a layer out₀ room n k₀ i₀ out k i =
+    Folding (commonFold (a .shape)) (length out₀) room (common (a .shape) (layerOf layer)) (commonMarks 0 (a .shape) (layerOf layer)) layer out k i i
 
 abbrev μ-loop : tie.MeasureT-loop
 μ-loop a layer out₀ room n k₀ i₀ out k i = n - i
@@ -26,7 +25,7 @@ abbrev μ-loop : tie.MeasureT-loop
 loop-holds : tie.Need-loop-holds Inv-loop μ-loop
 loop-holds c =
     let a = c .args in
-    common-start (a .room) (a .a .shape) (a .layer .now) (a .out .now) (c .pre .1 .1) (c .pre .0)
+    blank-start (commonFold (a .a .shape)) (common-steps (a .a .shape)) (a .room) (a .layer .now) (a .out .now) (c .pre .1 .1) (c .pre .0)
 
 load-requires : tie.Need-load-requires Inv-loop μ-loop
 load-requires c κs =
@@ -34,36 +33,46 @@ load-requires c κs =
 
 place-requires : tie.Need-place-requires Inv-loop μ-loop
 place-requires c κs =
-    subst (FitFor coordinateLimit) (sym (c .load .ensures)) (common-fit (c .before .before .loop .inv) (c .before .loop-test .taken))
+    fold-fit (c .before .before .loop .inv) (c .before .loop-test .taken) (c .load .result) (c .load .ensures)
 
 mul-common-parts : tie.Need-mul-common-parts Inv-loop μ-loop
 mul-common-parts c =
-    let h = c .before .before .before .loop .inv .writing in
-    omega (arith, h .upto, h .wide, h .long, c .before .before .before .before .good .1 .1 .0)
+    omega (arith, fold-words (c .before .before .before .loop .inv), c .before .before .before .before .good .1 .1 .0)
 
 mul-common-parts-2 : tie.Need-mul-common-parts-2 Inv-loop μ-loop
 mul-common-parts-2 c =
-    let h = c .before .before .before .loop .inv .writing in
-    omega (arith, h .upto, h .wide, h .long, c .before .before .before .before .good .1 .1 .0)
+    omega (arith, fold-words (c .before .before .before .loop .inv), c .before .before .before .before .good .1 .1 .0)
 
 sub-common-parts : tie.Need-sub-common-parts Inv-loop μ-loop
 sub-common-parts c =
-    let h = c .before .before .before .loop .inv .writing in
-    omega (arith, h .upto, h .wide, h .long, c .before .before .before .before .good .1 .1 .0)
+    omega (arith, fold-words (c .before .before .before .loop .inv))
 
 part-common-parts-end : tie.Need-part-common-parts-end Inv-loop μ-loop
 part-common-parts-end c =
-    let h = c .before .before .before .loop .inv .writing in
-    omega (arith, h .upto, h .wide, h .long, c .before .before .before .before .good .1 .1 .0)
+    omega (arith, fold-words (c .before .before .before .loop .inv))
 
 sub-common-parts-2 : tie.Need-sub-common-parts-2 Inv-loop μ-loop
 sub-common-parts-2 c =
-    omega (arith, c .before .before .before .before .loop .inv .writing .upto)
+    omega (arith, c .before .before .before .before .loop .inv .within)
 
 common-parts-requires : tie.Need-common-parts-requires Inv-loop μ-loop
 common-parts-requires c κs =
     let l = c .before .before .before .before in
-    (record { first = l .before .pre .1 .0; second = placed (c .before .place .ensures) }, common-borrowed (l .loop .inv))
+    let h = l .loop .inv in
+    (record { first = l .before .pre .1 .0; second = placed-own (c .before .place .ensures) }, fold-borrowed h _ (omega (arith, h .within)))
+
+-- the parts common to a and number i
+turn : (o : tie.After-common-parts Inv-loop μ-loop)
+    → let l = o .before .before .before .before .before in
+    Turned (l .loop .inv) (l .before .args .room - l .loop .k) (once (o .common-parts .result)) (o .common-parts .last .1 .1 .0)
+turn o =
+    let q = o .before .before in
+    let l = q .before .before .before in
+    let p = l .loop in
+    let b = q .place .result .shape in
+    let f = o .common-parts in
+    fill-turn (p .inv) (q .before .before .loop-test .taken) b (q .place .ensures .shape ∙ q .before .load .ensures)
+    (common-part (l .before .args .a .shape) b (p .inv .size) (p .inv .within)) (f .result) (f .last .1 .1 .0) (f .ensures)
 
 add-t24 : tie.Need-add-t24 Inv-loop μ-loop
 add-t24 c =
@@ -73,36 +82,20 @@ add-t24 c =
 same-length : tie.Need-same-length Inv-loop μ-loop
 same-length c =
     let o = c .before .before .before .before .before .before in
-    let l = o .before .before .before .before .before .loop in
-    let f = o .common-parts in
-    c .before .clear .kept .0 ∙ same-len-mid (memoryWidth * l .k) (length (l .out) - memoryWidth * l .k) (l .out) (f .last .1 .1 .0) (f .kept .1 .1 .0) ∙ l .inv .writing .long
+    c .before .clear .kept .0 ∙ fold-long (o .before .before .before .before .before .loop .inv) (o .common-parts .last .1 .1 .0) (o .common-parts .kept .1 .1 .0)
 
 returns : tie.Need-returns Inv-loop μ-loop
 returns c =
     let o = c .before .before .before .before .before .before in
-    let q = o .before .before in
-    let l = q .before .before .before in
-    let s = l .before in
-    let p = l .loop in
-    let f = o .common-parts in
-    let t = s .args .layer .now in
-    let g = common-filled (length (tail (p .out) (p .k))) (s .args .room - p .k) (s .args .a .shape) (q .place .result .shape) (recordAt trapezoidCodec t (p .i)) (f .result) (f .last .1 .1 .0) (q .place .ensures .shape ∙ q .before .load .ensures) (f .ensures) in
-    let n : length (c .before .clear .last .0) ≡ length (s .args .out .now) = same-length c in
-    let z = blank-of (pos 0) (c .before .clear .last .0) (length (putMid (memoryWidth * p .k) (length (p .out) - memoryWidth * p .k) (p .out) (f .last .1 .1 .0))) (c .before .clear .ensures) in
-    (common-short (p .inv) (q .before .before .loop-test .taken) (f .result) (f .last .1 .1 .0) g (c .before .before .before .enum-told .given .1), rw (← n) z)
+    let e = fold-long (o .before .before .before .before .before .loop .inv) (o .common-parts .last .1 .1 .0) (o .common-parts .kept .1 .1 .0) in
+    (turn o .full 1 (ap once (c .before .before .before .enum-told .given .1)), c .before .clear .ensures ∙ ap (λ (n : ℕ). replicate n (pos 0)) e)
 
 add-k : tie.Need-add-k Inv-loop μ-loop
 add-k c =
     let o = c .before .before .before .before in
-    let q = o .before .before in
-    let l = q .before .before .before in
-    let s = l .before in
-    let p = l .loop in
-    let f = o .common-parts in
-    let t = s .args .layer .now in
-    let g = common-filled (length (tail (p .out) (p .k))) (s .args .room - p .k) (s .args .a .shape) (q .place .result .shape) (recordAt trapezoidCodec t (p .i)) (f .result) (f .last .1 .1 .0) (q .place .ensures .shape ∙ q .before .load .ensures) (f .ensures) in
-    let u = common-upto (p .inv) (q .before .before .loop-test .taken) (f .result) (f .last .1 .1 .0) g _ (c .before .f .given .1) in
-    omega (arith, u, p .inv .writing .wide, s .good .1 .1 .0)
+    let l = o .before .before .before .before .before in
+    let h = l .loop .inv in
+    omega (arith, turn o .fits _ 1 (ap once (c .before .f .given .1)), h .within, h .wide, l .before .good .1 .1 .0)
 
 add-i : tie.Need-add-i Inv-loop μ-loop
 add-i c =
@@ -111,23 +104,16 @@ add-i c =
 
 loop-again : tie.Need-loop-again Inv-loop μ-loop
 loop-again c =
-    let o = c .before .before .before .before in
-    let q = o .before .before in
-    let l = q .before .before .before in
-    let s = l .before in
-    let p = l .loop in
-    let f = o .common-parts in
-    let t = s .args .layer .now in
-    let g = common-filled (length (tail (p .out) (p .k))) (s .args .room - p .k) (s .args .a .shape) (q .place .result .shape) (recordAt trapezoidCodec t (p .i)) (f .result) (f .last .1 .1 .0) (q .place .ensures .shape ∙ q .before .load .ensures) (f .ensures) in
-    common-turn (p .inv) (q .before .before .loop-test .taken) (f .result) (f .last .1 .1 .0) g _ (c .before .f .given .1)
+    turn (c .before .before .before .before) .keeps _ 1 (ap once (c .before .f .given .1))
 
 same-length-2 : tie.Need-same-length-2 Inv-loop μ-loop
 same-length-2 c =
-    c .before .loop .inv .writing .long
+    c .before .loop .inv .long
 
 returns-2 : tie.Need-returns-2 Inv-loop μ-loop
 returns-2 c =
-    common-stop (c .before .loop .inv) (c .loop-test .left)
+    let h = c .before .loop .inv in
+    fold-stop h (c .loop-test .left) _ (omega (arith, h .upto, c .loop-test .left))
 
 pub common-into-spec : {M : Type 1} → statement M
 common-into-spec =

@@ -1,24 +1,26 @@
-use mathlib.Core.Path.{_≡_, sym, _∙_, subst}
-use Prim.Native.Nat.{_*_, _-_}
+-- Before turn i: what the first i trapezoids of the first layer have in common with the second stands in `out`, and each took at most `maxRecords` overlays.
+use mathlib.Core.Path.{refl, _∙_, ap}
+use Prim.Native.Nat.{ℕ, _*_, _-_, _≤_}
 use native.Mathlib.Omega.{arith}
-use lib.ListN.{length}
+use lib.ListN.{length, replicate}
 use lib.IntN.{pos}
 use borrow.Author.Needs.{needs}
-use borrow.Rule.Slice.PartMut.{putMid, same-len-mid}
-use Rattle.records.specs.Records.{recordAt}
-use Rattle.records.specs.Limits.{memoryWidth}
-use Rattle.records.proofs.Buffer.{blank-of}
-use Rattle.geometry.specs.Fitness.{FitFor}
-use Rattle.geometry.specs.Limit.{coordinateLimit}
-use Rattle.geometry.specs.Trapezoids.{trapezoidCodec, layerOf}
-use Rattle.trapezoids_code.proofs.Writing.{tail}
-use Rattle.remainder_code.proofs.Lessening.{placed}
-use Rattle.intersection_code.proofs.Intersecting.{Intersecting, intersection-start, intersection-stop, intersection-borrowed, intersection-fit, intersection-short, intersection-upto, intersection-turn, short-few, done-few, layer-few, common-folded}
+use Rattle.records.specs.Limits.{maxRecords}
+use Rattle.geometry.specs.Trapezoids.{layerOf}
+use Rattle.boolean.specs.Operations.{intersection}
+use Rattle.boolean.specs.Space.{intersectionMarks}
+use Rattle.trapezoids_code.proofs.Placed.{placed-own}
+use Rattle.remainder_code.specs.Code.{OverlaysWithin}
+use Rattle.remainder_code.proofs.Answers.{within-short, within-done}
+use Rattle.remainder_code.proofs.Folding.{Folding, blank-start, fold-words, fold-stop, fold-borrowed, fold-long, fold-fit, Turned, fold-turn}
+use Rattle.intersection_code.proofs.Folds.{common-few, intersectionFold, intersection-steps, intersection-part}
 use Rattle.intersection_code.proofs.intersection_into.Statement.{statement}
 use Rattle.intersection_code.proofs.intersection_into.Tie as tie
 
 abbrev Inv-loop : tie.InvT-loop
-Inv-loop first second out₀ room n k₀ cuts₀ i₀ out k overlays i = Intersecting (length out₀) room first (layerOf second) out k overlays i
+Inv-loop first second out₀ room n k₀ cuts₀ i₀ out k overlays i =
+    Folding (intersectionFold (layerOf second)) (length out₀) room (intersection (layerOf first) (layerOf second)) (intersectionMarks 0 (layerOf first) (layerOf second)) first out k overlays i
+    × (overlays ≤ maxRecords * i)
 
 abbrev μ-loop : tie.MeasureT-loop
 μ-loop first second out₀ room n k₀ cuts₀ i₀ out k overlays i = n - i
@@ -26,7 +28,8 @@ abbrev μ-loop : tie.MeasureT-loop
 loop-holds : tie.Need-loop-holds Inv-loop μ-loop
 loop-holds c =
     let a = c .args in
-    intersection-start (a .room) (a .first .now) (layerOf (a .second .now)) (a .out .now) (c .pre .2) (c .pre .0 .fit)
+    let B = layerOf (a .second .now) in
+    (blank-start (intersectionFold B) (intersection-steps B) (a .room) (a .first .now) (a .out .now) (c .pre .2) (c .pre .0 .fit), omega arith)
 
 load-requires : tie.Need-load-requires Inv-loop μ-loop
 load-requires c κs =
@@ -34,126 +37,105 @@ load-requires c κs =
 
 place-requires : tie.Need-place-requires Inv-loop μ-loop
 place-requires c κs =
-    subst (FitFor coordinateLimit) (sym (c .load .ensures)) (intersection-fit (c .before .before .loop .inv) (c .before .loop-test .taken))
+    fold-fit (c .before .before .loop .inv .0) (c .before .loop-test .taken) (c .load .result) (c .load .ensures)
 
 mul-common-into : tie.Need-mul-common-into Inv-loop μ-loop
 mul-common-into c =
-    let h = c .before .before .before .loop .inv .writing in
-    omega (arith, h .upto, h .wide, h .long, c .before .before .before .before .good .1 .1 .0)
+    omega (arith, fold-words (c .before .before .before .loop .inv .0), c .before .before .before .before .good .1 .1 .0)
 
 mul-common-into-2 : tie.Need-mul-common-into-2 Inv-loop μ-loop
 mul-common-into-2 c =
-    let h = c .before .before .before .loop .inv .writing in
-    omega (arith, h .upto, h .wide, h .long, c .before .before .before .before .good .1 .1 .0)
+    omega (arith, fold-words (c .before .before .before .loop .inv .0), c .before .before .before .before .good .1 .1 .0)
 
 sub-common-into : tie.Need-sub-common-into Inv-loop μ-loop
 sub-common-into c =
-    let h = c .before .before .before .loop .inv .writing in
-    omega (arith, h .upto, h .wide, h .long, c .before .before .before .before .good .1 .1 .0)
+    omega (arith, fold-words (c .before .before .before .loop .inv .0))
 
 part-common-into-end : tie.Need-part-common-into-end Inv-loop μ-loop
 part-common-into-end c =
-    let h = c .before .before .before .loop .inv .writing in
-    omega (arith, h .upto, h .wide, h .long, c .before .before .before .before .good .1 .1 .0)
+    omega (arith, fold-words (c .before .before .before .loop .inv .0))
 
 sub-common-into-2 : tie.Need-sub-common-into-2 Inv-loop μ-loop
 sub-common-into-2 c =
-    omega (arith, c .before .before .before .before .loop .inv .writing .upto)
+    omega (arith, c .before .before .before .before .loop .inv .0 .within)
 
 common-into-requires : tie.Need-common-into-requires Inv-loop μ-loop
 common-into-requires c κs =
     let l = c .before .before .before .before in
-    (l .before .pre .1 .fit, (placed (c .before .place .ensures), intersection-borrowed (l .loop .inv)))
+    let h = l .loop .inv .0 in
+    (l .before .pre .1 .fit, (placed-own (c .before .place .ensures), fold-borrowed h _ (omega (arith, h .within))))
+
+-- the parts common to number i and the second layer
+turn : (o : tie.After-common-into Inv-loop μ-loop)
+    → let l = o .before .before .before .before .before in
+    Turned (l .loop .inv .0) (l .before .args .room - l .loop .k) (o .common-into .result) (o .common-into .last .1 .1 .0)
+turn o =
+    let q = o .before .before in
+    let l = q .before .before .before in
+    let h = l .loop .inv .0 in
+    let a = q .place .result .shape in
+    let f = o .common-into in
+    fold-turn h (q .before .before .loop-test .taken) a (q .place .ensures .shape ∙ q .before .load .ensures)
+    (intersection-part (layerOf (l .before .args .second .now)) a (h .size) (h .within)) (f .result) (f .last .1 .1 .0) (f .ensures)
+
+few : (o : tie.After-common-into Inv-loop μ-loop) → OverlaysWithin maxRecords (o .common-into .result)
+few o =
+    let s = o .before .before .before .before .before .before in
+    let f = o .common-into in
+    common-few (o .before .before .place .result .shape) (s .args .second .now) (s .pre .1 .few) _ _ (f .result) (f .last .1 .1 .0) (f .ensures)
 
 add-t27 : tie.Need-add-t27 Inv-loop μ-loop
 add-t27 c =
     let o = c .before .before .before .before .before .before .before in
-    let q = o .before .before in
-    let l = q .before .before .before in
-    let s = l .before in
-    let p = l .loop in
-    let f = o .common-into in
-    let t = s .args .first .now in
-    let B = layerOf (s .args .second .now) in
-    let g = common-folded (length (tail (p .out) (p .k))) (s .args .room - p .k) (q .place .result .shape) (recordAt trapezoidCodec t (p .i)) B (f .result) (f .last .1 .1 .0) (q .place .ensures .shape ∙ q .before .load .ensures) (f .ensures) in
-    let u = short-few (p .inv) (q .before .before .loop-test .taken) (f .result) (f .last .1 .1 .0) g _ (c .before .before .before .before .f .given .1) in
-    let n = layer-few (s .args .second .now) (s .pre .1 .few) in
-    omega (arith, u, n, p .inv .few, q .before .before .loop-test .taken, s .pre .0 .few)
+    let l = o .before .before .before .before .before in
+    let u = within-short maxRecords _ (o .common-into .result) (c .before .before .before .before .f .given .1) (few o) in
+    omega (arith, u, l .loop .inv .1, o .before .before .before .before .loop-test .taken, l .before .pre .0 .few)
 
 same-length : tie.Need-same-length Inv-loop μ-loop
 same-length c =
     let o = c .before .before .before .before .before .before .before in
-    let l = o .before .before .before .before .before .loop in
-    let f = o .common-into in
-    c .before .clear .kept .0 ∙ same-len-mid (memoryWidth * l .k) (length (l .out) - memoryWidth * l .k) (l .out) (f .last .1 .1 .0) (f .kept .1 .1 .0) ∙ l .inv .writing .long
+    c .before .clear .kept .0 ∙ fold-long (o .before .before .before .before .before .loop .inv .0) (o .common-into .last .1 .1 .0) (o .common-into .kept .1 .1 .0)
 
 returns : tie.Need-returns Inv-loop μ-loop
 returns c =
     let o = c .before .before .before .before .before .before .before in
-    let q = o .before .before in
-    let l = q .before .before .before in
-    let s = l .before in
-    let p = l .loop in
-    let f = o .common-into in
-    let t = s .args .first .now in
-    let B = layerOf (s .args .second .now) in
-    let g = common-folded (length (tail (p .out) (p .k))) (s .args .room - p .k) (q .place .result .shape) (recordAt trapezoidCodec t (p .i)) B (f .result) (f .last .1 .1 .0) (q .place .ensures .shape ∙ q .before .load .ensures) (f .ensures) in
-    let n : length (c .before .clear .last .0) ≡ length (s .args .out .now) = same-length c in
-    let z = blank-of (pos 0) (c .before .clear .last .0) (length (putMid (memoryWidth * p .k) (length (p .out) - memoryWidth * p .k) (p .out) (f .last .1 .1 .0))) (c .before .clear .ensures) in
-    let u = short-few (p .inv) (q .before .before .loop-test .taken) (f .result) (f .last .1 .1 .0) g _ (c .before .before .before .before .f .given .1) in
-    let m = layer-few (s .args .second .now) (s .pre .1 .few) in
-    ((intersection-short (p .inv) (q .before .before .loop-test .taken) (f .result) (f .last .1 .1 .0) g _ (c .before .before .before .before .f .given .1), rw (← n) z), omega (arith, u, m, p .inv .few, q .before .before .loop-test .taken, s .pre .0 .few))
+    let l = o .before .before .before .before .before in
+    let g = c .before .before .before .before .f .given .1 in
+    let u = within-short maxRecords _ (o .common-into .result) g (few o) in
+    let e = fold-long (l .loop .inv .0) (o .common-into .last .1 .1 .0) (o .common-into .kept .1 .1 .0) in (
+      (turn o .full _ g, c .before .clear .ensures ∙ ap (λ (n : ℕ). replicate n (pos 0)) e),
+      omega (arith, u, l .loop .inv .1, o .before .before .before .before .loop-test .taken, l .before .pre .0 .few),
+    )
 
 add-k : tie.Need-add-k Inv-loop μ-loop
 add-k c =
     let o = c .before .before .before .before in
-    let q = o .before .before in
-    let l = q .before .before .before in
-    let s = l .before in
-    let p = l .loop in
-    let f = o .common-into in
-    let t = s .args .first .now in
-    let B = layerOf (s .args .second .now) in
-    let g = common-folded (length (tail (p .out) (p .k))) (s .args .room - p .k) (q .place .result .shape) (recordAt trapezoidCodec t (p .i)) B (f .result) (f .last .1 .1 .0) (q .place .ensures .shape ∙ q .before .load .ensures) (f .ensures) in
-    let u = intersection-upto (p .inv) (q .before .before .loop-test .taken) (f .result) (f .last .1 .1 .0) g _ _ (c .before .f2 .given .1) in
-    omega (arith, u, p .inv .writing .wide, s .good .1 .1 .0)
+    let l = o .before .before .before .before .before in
+    let h = l .loop .inv .0 in
+    omega (arith, turn o .fits _ _ (c .before .f2 .given .1), h .within, h .wide, l .before .good .1 .1 .0)
 
 add-overlays : tie.Need-add-overlays Inv-loop μ-loop
 add-overlays c =
     let o = c .before .before .before .before in
-    let q = o .before .before in
-    let l = q .before .before .before in
-    let s = l .before in
-    let p = l .loop in
-    let f = o .common-into in
-    let t = s .args .first .now in
-    let B = layerOf (s .args .second .now) in
-    let g = common-folded (length (tail (p .out) (p .k))) (s .args .room - p .k) (q .place .result .shape) (recordAt trapezoidCodec t (p .i)) B (f .result) (f .last .1 .1 .0) (q .place .ensures .shape ∙ q .before .load .ensures) (f .ensures) in
-    let u = done-few (p .inv) (q .before .before .loop-test .taken) (f .result) (f .last .1 .1 .0) g _ _ (c .before .f2 .given .1) in
-    let n = layer-few (s .args .second .now) (s .pre .1 .few) in
-    omega (arith, u, n, p .inv .few, q .before .before .loop-test .taken, s .pre .0 .few)
+    let l = o .before .before .before .before .before in
+    let u = within-done maxRecords _ _ (o .common-into .result) (c .before .f2 .given .1) (few o) in
+    omega (arith, u, l .loop .inv .1, o .before .before .before .before .loop-test .taken, l .before .pre .0 .few)
 
 loop-again : tie.Need-loop-again Inv-loop μ-loop
 loop-again c =
     let o = c .before .before .before .before in
-    let q = o .before .before in
-    let l = q .before .before .before in
-    let s = l .before in
-    let p = l .loop in
-    let f = o .common-into in
-    let t = s .args .first .now in
-    let B = layerOf (s .args .second .now) in
-    let g = common-folded (length (tail (p .out) (p .k))) (s .args .room - p .k) (q .place .result .shape) (recordAt trapezoidCodec t (p .i)) B (f .result) (f .last .1 .1 .0) (q .place .ensures .shape ∙ q .before .load .ensures) (f .ensures) in
-    intersection-turn (p .inv) (q .before .before .loop-test .taken) (f .result) (f .last .1 .1 .0) g (layer-few (s .args .second .now) (s .pre .1 .few)) _ _ (c .before .f2 .given .1)
+    let g = c .before .f2 .given .1 in
+    let u = within-done maxRecords _ _ (o .common-into .result) g (few o) in
+    (turn o .keeps _ _ g, omega (arith, u, o .before .before .before .before .before .loop .inv .1))
 
 same-length-2 : tie.Need-same-length-2 Inv-loop μ-loop
 same-length-2 c =
-    c .before .loop .inv .writing .long
+    c .before .loop .inv .0 .long
 
 returns-2 : tie.Need-returns-2 Inv-loop μ-loop
 returns-2 c =
     let h = c .before .loop .inv in
-    (intersection-stop h (c .loop-test .left), omega (arith, h .few, h .upto, c .before .before .pre .0 .few))
+    (fold-stop (h .0) (c .loop-test .left) _ refl, omega (arith, h .1, h .0 .upto, c .before .before .pre .0 .few))
 
 pub intersection-into-spec : {M : Type 1} → statement M
 intersection-into-spec =

@@ -1,38 +1,43 @@
-use mathlib.Core.Path.{sym, _∙_}
+-- Before turn i: none of the first i trapezoids of the layer overlaps b.
+use mathlib.Core.Path.{refl, sym, _∙_}
 use Prim.Native.Nat.{_-_}
 use borrow.Author.Needs.{needs}
-use Rattle.remainder_code.proofs.Lessening.{placed}
-use Rattle.remainder_code.proofs.Apart.{Searching, search-start, search-stop, search-found, search-turn}
+use Rattle.trapezoids_code.proofs.Placed.{placed-own}
+use Rattle.overlay.specs.Overlaps.{overlaps}
+use Rattle.remainder_code.specs.Code.{overlapsAny}
+use Rattle.remainder_code.proofs.Walking.{walk-start, walk-stop, Searching, search-found, search-turn}
 use Rattle.remainder_code.proofs.any_overlapping.Statement.{statement}
 use Rattle.remainder_code.proofs.any_overlapping.Tie as tie
 
 abbrev Inv-loop : tie.InvT-loop
-Inv-loop layer b n i₀ i = Searching (b .shape) layer i
+Inv-loop layer b n i₀ i = Searching (λ ts. overlapsAny ts (b .shape)) layer i
 
 abbrev μ-loop : tie.MeasureT-loop
 μ-loop layer b n i₀ i = n - i
 
 loop-holds : tie.Need-loop-holds Inv-loop μ-loop
-loop-holds c = search-start (c .args .b .shape) (c .args .layer .now)
+loop-holds c = walk-start (λ j ts. overlapsAny ts (c .args .b .shape)) (c .args .layer .now)
 
 placed-at-requires : tie.Need-placed-at-requires Inv-loop μ-loop
 placed-at-requires c κs = (c .before .before .pre .0, c .loop-test .taken)
 
 overlapping-requires : tie.Need-overlapping-requires Inv-loop μ-loop
-overlapping-requires c κs = record { first = placed (c .placed-at .ensures); second = c .before .before .before .pre .1 }
+overlapping-requires c κs = record { first = placed-own (c .placed-at .ensures); second = c .before .before .before .pre .1 }
 
 returns : tie.Need-returns Inv-loop μ-loop
 returns c =
     let p = c .before .before in
-    search-found (p .before .before .loop .inv) (p .before .loop-test .taken) (p .placed-at .result .shape) (p .placed-at .ensures .shape) (sym (c .before .overlapping .ensures) ∙ c .if1 .taken)
+    let b = p .before .before .before .args .b .shape in
+    search-found (λ ts. overlapsAny ts b) (λ t. overlaps t b) (λ t ts. refl) (p .before .before .loop .inv) (p .before .loop-test .taken) (p .placed-at .result .shape) (p .placed-at .ensures .shape) (sym (c .before .overlapping .ensures) ∙ c .if1 .taken)
 
 loop-again : tie.Need-loop-again Inv-loop μ-loop
 loop-again c =
     let p = c .before .before in
-    search-turn (p .before .before .loop .inv) (p .before .loop-test .taken) (p .placed-at .result .shape) (p .placed-at .ensures .shape) (sym (c .before .overlapping .ensures) ∙ c .if1 .left)
+    let b = p .before .before .before .args .b .shape in
+    search-turn (λ ts. overlapsAny ts b) (λ t. overlaps t b) (λ t ts. refl) (p .before .before .loop .inv) (p .before .loop-test .taken) (p .placed-at .result .shape) (p .placed-at .ensures .shape) (sym (c .before .overlapping .ensures) ∙ c .if1 .left)
 
 returns-2 : tie.Need-returns-2 Inv-loop μ-loop
-returns-2 c = search-stop (c .before .loop .inv) (c .loop-test .left)
+returns-2 c = sym (walk-stop (c .before .loop .inv) (c .loop-test .left))
 
 pub any-overlapping-spec : {M : Type 1} → statement M
 any-overlapping-spec =

@@ -1,8 +1,11 @@
+-- Before turn i: a overlaps none of the first i trapezoids of the layer.
 use mathlib.Core.Path.{sym, _∙_}
-use Prim.Native.Nat.{_-_}
+use Prim.Native.Nat.{_+_, _-_}
 use borrow.Author.Needs.{needs}
-use Rattle.remainder_code.proofs.Lessening.{placed}
-use Rattle.remainder_code.proofs.Apart.{Passing, pass-start, pass-stop, pass-found, pass-turn}
+use Rattle.trapezoids_code.proofs.Placed.{placed-own}
+use Rattle.remainder_code.proofs.Apart.{Passing, pass-stop, pass-found, pass-turn}
+use Rattle.remainder_code.proofs.Walking.{walk-start}
+use Rattle.remainder_code.specs.Code.{apartBefore}
 use Rattle.remainder_code.proofs.first_overlapping.Statement.{statement}
 use Rattle.remainder_code.proofs.first_overlapping.Tie as tie
 
@@ -13,26 +16,26 @@ abbrev μ-loop : tie.MeasureT-loop
 μ-loop a layer n i₀ i = n - i
 
 loop-holds : tie.Need-loop-holds Inv-loop μ-loop
-loop-holds c = pass-start (c .args .a .shape) (c .args .layer .now)
+loop-holds c = walk-start (λ j ts. j + apartBefore (c .args .a .shape) ts) (c .args .layer .now)
 
 placed-at-requires : tie.Need-placed-at-requires Inv-loop μ-loop
 placed-at-requires c κs = (c .before .before .pre .1, c .loop-test .taken)
 
 overlapping-requires : tie.Need-overlapping-requires Inv-loop μ-loop
-overlapping-requires c κs = record { first = c .before .before .before .pre .0; second = placed (c .placed-at .ensures) }
+overlapping-requires c κs = record { first = c .before .before .before .pre .0; second = placed-own (c .placed-at .ensures) }
 
 returns : tie.Need-returns Inv-loop μ-loop
 returns c =
     let p = c .before .before in
-    pass-found (p .before .before .loop .inv) (p .before .loop-test .taken) (p .placed-at .result .shape) (p .placed-at .ensures .shape) (sym (c .before .overlapping .ensures) ∙ c .if1 .taken)
+    pass-found (p .before .before .before .args .a .shape) (p .before .before .loop .inv) (p .before .loop-test .taken) (p .placed-at .result .shape) (p .placed-at .ensures .shape) (sym (c .before .overlapping .ensures) ∙ c .if1 .taken)
 
 loop-again : tie.Need-loop-again Inv-loop μ-loop
 loop-again c =
     let p = c .before .before in
-    pass-turn (p .before .before .loop .inv) (p .before .loop-test .taken) (p .placed-at .result .shape) (p .placed-at .ensures .shape) (sym (c .before .overlapping .ensures) ∙ c .if1 .left)
+    pass-turn (p .before .before .before .args .a .shape) (p .before .before .loop .inv) (p .before .loop-test .taken) (p .placed-at .result .shape) (p .placed-at .ensures .shape) (sym (c .before .overlapping .ensures) ∙ c .if1 .left)
 
 returns-2 : tie.Need-returns-2 Inv-loop μ-loop
-returns-2 c = pass-stop (c .before .loop .inv) (c .loop-test .left)
+returns-2 c = pass-stop (c .before .before .args .a .shape) (c .before .loop .inv) (c .loop-test .left)
 
 pub first-overlapping-spec : {M : Type 1} → statement M
 first-overlapping-spec =

@@ -1,0 +1,93 @@
+-- The parts common to one trapezoid and a layer, and to two layers, as folds.
+use mathlib.Core.Path.{_≡_, refl, sym, _∙_, ap}
+use mathlib.Core.List.{List, [], _∷_, _++_}
+use Prim.Native.Nat.{ℕ, _+_, _-_, _≤_}
+use native.Mathlib.Omega.{arith}
+use lib.ListN.{length}
+use lib.IntN.{ℤ}
+use Rattle.records.specs.Limits.{maxRecords}
+use Rattle.records.specs.Records.{count}
+use Rattle.records.proofs.Records.{length-from}
+use Rattle.geometry.specs.declared.Trapezoid.{Trapezoid}
+use Rattle.geometry.specs.Trapezoids.{trapezoidCodec, layerOf}
+use Rattle.overlay.specs.Overlay.{overlay, tagged}
+use Rattle.boolean.specs.declared.Folded.{Folded}
+use Rattle.boolean.specs.Operations.{common, intersection}
+use Rattle.boolean.specs.Space.{overlaid, enough, space, commonMarks, intersectionMarks}
+use Rattle.boolean.proofs.Shifting.{overlaid-shift, common-shift}
+use Rattle.remainder_code.specs.Code.{FoldedAs, OverlaysWithin}
+use Rattle.remainder_code.proofs.Answers.{folded-within, within-least}
+use Rattle.remainder_code.proofs.Folding.{Fold, Steps, Part, appending, appending-steps}
+
+-- ---- one trapezoid and a layer
+module _ (a : Trapezoid) where
+  common-none : common a [] ≡ []
+  unfolding common
+  common-none = refl
+
+  common-one : (b : Trapezoid) (bs : List Trapezoid) → common a (b ∷ bs) ≡ tagged 3 (overlay a b) ++ common a bs
+  unfolding common
+  common-one b bs = refl
+
+  common-no-marks : (room k : ℕ) → space room (commonMarks k a []) ≡ enough 0
+  unfolding space commonMarks
+  common-no-marks room k = refl
+
+  common-one-marks : (k : ℕ) (b : Trapezoid) (bs : List Trapezoid) → commonMarks k a (b ∷ bs) ≡ (overlaid (k + length (tagged 3 (overlay a b))) ∷ []) ++ commonMarks (k + length (tagged 3 (overlay a b))) a bs
+  unfolding commonMarks
+  common-one-marks k b bs = refl
+
+  -- one for each trapezoid of the layer
+  marks-length : (k : ℕ) (bs : List Trapezoid) → length (commonMarks k a bs) ≡ length bs
+  unfolding commonMarks
+  marks-length k [] = refl
+  marks-length k (b ∷ bs) = let h = marks-length (k + length (tagged 3 (overlay a b))) bs in omega (arith, h)
+
+  pub common-few : (layer : List ℤ) → count trapezoidCodec layer ≤ maxRecords → (n room : ℕ) (f : Folded) (d : List ℤ) → FoldedAs n room (common a (layerOf layer)) (commonMarks 0 a (layerOf layer)) f d → OverlaysWithin maxRecords f
+  common-few layer l n room f d g =
+      let B = layerOf layer in
+      within-least (length (commonMarks 0 a B)) maxRecords f (omega (arith, marks-length 0 B, length-from trapezoidCodec (count trapezoidCodec layer) layer 0, l)) (folded-within n room (common a B) (commonMarks 0 a B) f d g)
+
+  abbrev pub commonFold : Fold
+  commonFold = appending (common a) (λ k bs. commonMarks k a bs) (λ b. tagged 3 (overlay a b)) (λ k b left. overlaid (k + length (tagged 3 (overlay a b))) ∷ [])
+
+  pub common-steps : Steps commonFold
+  common-steps =
+      appending-steps (common a) (λ k bs. commonMarks k a bs) (λ b. tagged 3 (overlay a b)) (λ k b left. overlaid (k + length (tagged 3 (overlay a b))) ∷ [])
+      common-none common-one common-no-marks common-one-marks
+
+  pub common-part : {room k left : ℕ} {done : List Trapezoid} (b : Trapezoid) → k ≡ length done → k ≤ room
+      → Part commonFold room done b left (room - k) (tagged 3 (overlay a b)) (overlaid (length (tagged 3 (overlay a b))) ∷ [])
+  common-part {room} {k} {left} {done} b n l =
+      let m = length (tagged 3 (overlay a b)) in
+      record { next = refl; same = ap (λ (x : ℕ). space room (overlaid (x + m) ∷ [])) (sym n) ∙ overlaid-shift room k (room - k) m (omega (arith, l)); within = omega (arith, n, l) }
+
+-- ---- two layers
+module _ (B : List Trapezoid) where
+  intersection-none : intersection [] B ≡ []
+  unfolding intersection
+  intersection-none = refl
+
+  intersection-one : (a : Trapezoid) (A : List Trapezoid) → intersection (a ∷ A) B ≡ common a B ++ intersection A B
+  unfolding intersection
+  intersection-one a A = refl
+
+  intersection-no-marks : (room k : ℕ) → space room (intersectionMarks k [] B) ≡ enough 0
+  unfolding space intersectionMarks
+  intersection-no-marks room k = refl
+
+  intersection-one-marks : (k : ℕ) (a : Trapezoid) (A : List Trapezoid) → intersectionMarks k (a ∷ A) B ≡ commonMarks k a B ++ intersectionMarks (k + length (common a B)) A B
+  unfolding intersectionMarks
+  intersection-one-marks k a A = refl
+
+  abbrev pub intersectionFold : Fold
+  intersectionFold = appending (λ A. intersection A B) (λ k A. intersectionMarks k A B) (λ a. common a B) (λ k a left. commonMarks k a B)
+
+  pub intersection-steps : Steps intersectionFold
+  intersection-steps =
+      appending-steps (λ A. intersection A B) (λ k A. intersectionMarks k A B) (λ a. common a B) (λ k a left. commonMarks k a B)
+      intersection-none intersection-one intersection-no-marks intersection-one-marks
+
+  pub intersection-part : {room k left : ℕ} {done : List Trapezoid} (a : Trapezoid) → k ≡ length done → k ≤ room → Part intersectionFold room done a left (room - k) (common a B) (commonMarks 0 a B)
+  intersection-part {room} {k} {left} {done} a n l =
+      record { next = refl; same = ap (λ (x : ℕ). space room (commonMarks x a B)) (sym n) ∙ common-shift room k (room - k) a B (omega (arith, l)); within = omega (arith, n, l) }
