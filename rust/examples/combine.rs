@@ -16,7 +16,7 @@ use std::{env, fs};
 
 const USAGE: &str = "usage: combine IN OUT CODE A B
 Writes the layers of IN and, as one more layer, A and B combined.
-CODE: 0 union, 1 intersection, 2 A less B, 3 B less A, 4 either and not both";
+CODE: 0 union, 1 intersection, 2 A minus B, 3 B minus A, 4 symmetric difference";
 
 /// Why there is no result.
 enum Trouble {

@@ -132,8 +132,8 @@ impl Done {
 pub enum Equality {
     /// Both layers hold the same points.
     Same { overlays: u32 },
-    /// Side 0: A - B is not empty. Side 1: A - B is empty, B - A is not.
-    Differs { side: u8, overlays: u32 },
+    /// Operand 0: A - B is not empty. Operand 1: A - B is empty, B - A is not.
+    Differs { operand: u8, overlays: u32 },
 }
 
 /// Combines layers A and B into `out`.
@@ -174,7 +174,7 @@ pub fn equal(
     Ok(match value {
         0 => Equality::Same { overlays },
         _ => Equality::Differs {
-            side: (value - 1) as u8,
+            operand: (value - 1) as u8,
             overlays,
         },
     })
@@ -307,7 +307,7 @@ pub mod raw {
         }
     }
 
-    /// The value is 0 for same, 1 for differs on side 0, 2 for differs on side 1.
+    /// The value is 0 for same, 1 for differs with operand 0, 2 for differs with operand 1.
     pub fn equal(a: &[i32], b: &[i32], out: &mut [i32], scratch: &mut [i32]) -> u64 {
         // SAFETY: as in `combine`.
         unsafe {

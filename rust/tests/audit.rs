@@ -8,7 +8,7 @@
 //! - A fenced block quotes the file that the last reference before it names: its lines stand there, one after the
 //!   other, at that line or below it.
 //! - The section "Must-fail edits" of docs/AUDIT.md names each edit, crates/C/must-fail/E.edit, as a code
-//!   span `C/E` in a table row whose last cell says something; and names none that isn't there.
+//!   span `C/E` in a table row whose last cell says something; and the document names none that isn't there.
 //! - The section "Crates" of README.md has a table row for each crate of crates.txt, with the name as a
 //!   code span in the first cell, and no other rows.
 //! - Words of the documents that begin with crates/, rust/, include/, docs/ or examples/, in code spans
@@ -277,10 +277,15 @@ fn names_an_edit(span: &str) -> bool {
         .is_some_and(|(a, b)| word(a) && word(b))
 }
 
-/// What is wrong with the section on must-fail edits.
+/// What is wrong with the section on must-fail edits, and with edits named elsewhere.
 fn check_edits(text: &str, edits: &BTreeSet<String>) -> Vec<String> {
     let lines = section(text, "Must-fail edits");
-    let all = spans(&lines.join("\n")).into_iter();
+    let of = |edit: &str| edit.split_once('/').map(|(folder, _)| folder.to_string());
+    let edited: BTreeSet<_> = edits.iter().map(|edit| of(edit)).collect();
+    let elsewhere = spans(text)
+        .into_iter()
+        .filter(|span| edited.contains(&of(span)));
+    let all = spans(&lines.join("\n")).into_iter().chain(elsewhere);
     let named: BTreeSet<String> = all.filter(|span| names_an_edit(span)).collect();
     let mut explained = BTreeSet::new();
     for row in lines.iter().filter_map(|line| cells(line)) {
@@ -331,6 +336,8 @@ fn must_fail_edits_of_a_sample() {
         assert_eq!(check_edits(&text(rows), &edits), [complaint]);
     }
     assert_eq!(check_edits(&text("| a, `one` | x |"), &edits).len(), 3);
+    let elsewhere = right.replace("`x/y`", "`a/three`");
+    assert_eq!(check_edits(&elsewhere, &edits), ["`a/three` is no edit"]);
 }
 
 // ---------------------------------------------------------------------------------------------

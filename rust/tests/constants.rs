@@ -117,10 +117,10 @@ fn codes() -> Vec<(&'static str, i64, i64)> {
     let names = [
         ("union", "UNION", Code::Union),
         ("intersect", "INTERSECTION", Code::Intersection),
-        ("first-less-second", "A_MINUS_B", Code::AMinusB),
-        ("second-less-first", "B_MINUS_A", Code::BMinusA),
+        ("a-minus-b", "A_MINUS_B", Code::AMinusB),
+        ("b-minus-a", "B_MINUS_A", Code::BMinusA),
         (
-            "either-not-both",
+            "symmetric-difference",
             "SYMMETRIC_DIFFERENCE",
             Code::SymmetricDifference,
         ),
@@ -259,10 +259,11 @@ fn header_page_and_crate() {
         assert_eq!(number, Some(right), "{name} in CALLS.md");
         assert!(rows.all(|row| leading(&row[0]) == Some(right)), "{name}");
     }
-    // The values of `equal`: side 0 is 1, side 1 is 2.
+    // The values of `equal`: operand 0 is 1, operand 1 is 2.
     let packed = text("crates/calls/specs/Packed.antt");
     assert!(packed.contains("packedEquality (same overlays) = success 0 overlays"));
-    assert!(packed.contains("packedEquality (differs side overlays) = success (side + 1) overlays"));
+    assert!(packed
+        .contains("packedEquality (differs operand overlays) = success (operand + 1) overlays"));
     for (name, value) in [("SAME", 0), ("DIFFERS_IN_A", 1), ("DIFFERS_IN_B", 2)] {
         assert_eq!(macros.remove(name), Some(value), "{name}");
         let said = |row: &Vec<String>| row.iter().any(|cell| cell.contains(&format!("({name})")));

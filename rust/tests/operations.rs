@@ -856,11 +856,11 @@ fn wrappers() {
                 overlays: done.overlays,
             },
             1 => Equality::Differs {
-                side: 0,
+                operand: 0,
                 overlays: done.overlays,
             },
             _ => Equality::Differs {
-                side: 1,
+                operand: 1,
                 overlays: done.overlays,
             },
         });

@@ -170,7 +170,7 @@ fn same_and_differs() {
     assert_eq!(
         equal(&q(), &halves[..WORDS], &mut out, &mut scratch),
         Ok(Equality::Differs {
-            side: 0,
+            operand: 0,
             overlays: 1
         })
     );
@@ -178,7 +178,7 @@ fn same_and_differs() {
     assert_eq!(
         equal(&halves[..WORDS], &q(), &mut out, &mut scratch),
         Ok(Equality::Differs {
-            side: 1,
+            operand: 1,
             overlays: 2
         })
     );

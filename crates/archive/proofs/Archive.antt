@@ -28,22 +28,22 @@ use Rattle.archive.proofs.Sources.{sources-disjoint, sources-fed}
 -- ---- written and read back
 module _ (w : WriteCall) (hold : WordsHold (w .limit)) (written : WriteAccepted w) (r : ReadCall) (more : w .limit ≤ r .limit) (file : r .file ≡ bytesBy w) (kept : ReadRight r) (room : length (w .words) ≤ length (r .out)) where
   file-is : r .file ≡ bytesWritten (w .limit) (w .words) (w .out)
-  file-is = file ∙ ap (λ (o : files.Outcome ℕ). take (4 * length (w .words)) (o .out)) (written .kept)
+  file-is = file ∙ ap (λ (o : files.FileOutcome ℕ). take (4 * length (w .words)) (o .out)) (written .kept)
 
   write-done : T (files.isDone (files.writeLayers (w .limit) (w .words) (w .out) .answer))
-  write-done = subst (λ (o : files.Outcome ℕ). T (files.isDone (o .answer))) (written .kept) (written .accepted)
+  write-done = subst (λ (o : files.FileOutcome ℕ). T (files.isDone (o .answer))) (written .kept) (written .accepted)
 
-  read-is : files.observed (files.readAnswer (r .answer)) (r .out-then) ≡ files.readLayers (r .limit) (bytesWritten (w .limit) (w .words) (w .out)) (r .out)
+  read-is : files.observedFile (files.readAnswer (r .answer)) (r .out-then) ≡ files.readLayers (r .limit) (bytesWritten (w .limit) (w .words) (w .out)) (r .out)
   read-is = kept ∙ ap (λ (bytes : List ℕ). files.readLayers (r .limit) bytes (r .out)) file-is
 
   back-accepted : ReadAccepted r
   back-accepted =
-      let e = ap (λ (o : files.Outcome ℤ). o .answer) read-is ∙ written-reads (w .limit) (r .limit) hold more (w .words) (w .out) (r .out) write-done room .0 in
+      let e = ap (λ (o : files.FileOutcome ℤ). o .answer) read-is ∙ written-reads (w .limit) (r .limit) hold more (w .words) (w .out) (r .out) write-done room .0 in
       record { kept = kept; accepted = subst (λ (a : files.Answer). T (files.isDone a)) (sym e) write-done }
 
   back-words : wordsBy r ≡ w .words
   back-words =
-      ap (λ (o : files.Outcome ℤ). take (length (r .file) / 4) (o .out)) read-is
+      ap (λ (o : files.FileOutcome ℤ). take (length (r .file) / 4) (o .out)) read-is
       ∙ ap (λ (bytes : List ℕ). take (length bytes / 4) (files.readLayers (r .limit) (bytesWritten (w .limit) (w .words) (w .out)) (r .out) .out)) file-is
       ∙ written-reads (w .limit) (r .limit) hold more (w .words) (w .out) (r .out) write-done room .1
 

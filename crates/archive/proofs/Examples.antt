@@ -5,7 +5,7 @@ use mathlib.Core.List.{List, [], _∷_, map}
 use Prim.Native.Nat.{ℕ, _≤_}
 use native.Mathlib.Omega.{arith}
 use lib.IntN.{ℤ, pos}
-use lib.ListN.{length, replicate}
+use lib.ListN.{replicate}
 use Rattle.lists.specs.Lists.{All, cut}
 use Rattle.lists.specs.Tests.{keep}
 use Rattle.integer.specs.Integer.{_⊕_, _⊖_, _⊗_, ⊝_}
@@ -17,7 +17,7 @@ use Rattle.records.specs.Words.{unsigned, signed, wordOf, bytesOf, wordCodec}
 use Rattle.levels.specs.Levels.{insert, levels}
 use Rattle.geometry.specs.Limit.{onGrid}
 use Rattle.geometry.specs.Lines.{dx, dy, offset, det, numer}
-use Rattle.geometry.specs.Positions.{crosses, root, meet, heights, rightOf, below}
+use Rattle.geometry.specs.Positions.{crosses, ratio, meet, heights, rightOf, below}
 use Rattle.geometry.specs.Trapezoids.{trapezoidOf, trapezoidWords}
 use Rattle.geometry.specs.Fitness.{lineOnGrid, isLine, belowBetween, shapeVerdict, verdict, firstRefusal}
 use Rattle.geometry.specs.Ranges.{commonLeft, commonRight}
@@ -28,8 +28,8 @@ use Rattle.sweep.specs.Columns.{slabs, upTo, column}
 use Rattle.sweep.specs.Sweep.{columns, sweep}
 use Rattle.overlay.specs.Overlaps.{crossesInCommon, overlapRight, overlapFrom, overlaps}
 use Rattle.overlay.specs.Overlay as overlays
-use Rattle.boolean.specs.Operations.{less, lessAll, difference, deoverlappedFrom}
-use Rattle.boolean.specs.Space.{lessMarks, lessAllMarks, differenceMarks, deoverlappedMarks, space}
+use Rattle.boolean.specs.Operations.{minus, minusAll, difference, deoverlappedFrom}
+use Rattle.boolean.specs.Space.{minusStages, minusAllStages, differenceStages, deoverlappedStages, space}
 use Rattle.fracture.specs.Polygons.{edge, edgesFrom, edges}
 use Rattle.fracture.specs.Fracture as fractures
 use Rattle.files.specs.declared.LayersRead.the-variants as read
@@ -100,14 +100,14 @@ reading = record { limit = plateLimit; file = bytes; out = replicate 27 (pos 7);
 examples : All Accepted sources × Contracts (map layerFrom sources) calls × (words ≡ archiveWords (held (map layerFrom sources) calls) (1 ∷ []))
     × WordsHold plateLimit × WriteAccepted writing × (plateLimit ≤ plateLimit) × (reading .file ≡ bytesBy writing) × ReadRight reading
 unfolding _⊕_ _⊖_ _⊗_ ⊝_ orderOf before sized recordAt recordsFrom wordsOf unsigned signed wordOf bytesOf insert levels
-    onGrid dx dy offset det numer crosses root meet heights rightOf below trapezoidOf trapezoidWords
+    onGrid dx dy offset det numer crosses ratio meet heights rightOf below trapezoidOf trapezoidWords
     lineOnGrid isLine belowBetween shapeVerdict verdict firstRefusal keep sum spans inside crossInside slabs upTo column columns sweep
-    commonLeft commonRight crossesInCommon overlapRight overlapFrom overlaps overlays.sides overlays.crossings overlays.events overlays.fills
+    commonLeft commonRight crossesInCommon overlapRight overlapFrom overlaps overlays.sides overlays.sideCrossings overlays.overlayEvents overlays.fills
     overlays.tagAbove overlays.stack overlays.parts overlays.subdivision overlays.overlay overlays.tagged
-    less lessAll difference deoverlappedFrom lessMarks lessAllMarks differenceMarks deoverlappedMarks space
+    minus minusAll difference deoverlappedFrom minusStages minusAllStages differenceStages deoverlappedStages space
     fileSized numberFrom countOf pairLength endOf pairsFrom directoryOf lengthsFrom cut vertexOf vertexWords pairsOf layerFileWords
     vertexOnGrid firstOffGrid polygonFileChecked layersChecked layerFileChecked readLayers writeLayers
-    edge edgesFrom edges fractures.mark fractures.marks fractures.crossingsWith fractures.crossings fractures.events
+    edge edgesFrom edges fractures.mark fractures.marks fractures.edgeCrossingsWith fractures.edgeCrossings fractures.polygonEvents
     fractures.trapezoids fractures.fracture fractures.fractureAll
     fractureChecked combineChecked deoverlapChecked fractureOutcome outcomes.combined deoverlapOutcome outcomeOf called held Contracts
 examples = (

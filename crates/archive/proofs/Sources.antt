@@ -22,7 +22,7 @@ use Rattle.files.specs.Statements.{wordsRead}
 use Rattle.files.proofs.Pairs.{lists-length}
 use Rattle.files.proofs.RoundTrip.{read-passed, read-words}
 use Rattle.files.proofs.Words.{layer-at, read-pairs}
-use Rattle.calls.specs.Answers.{Answer, isDone}
+use Rattle.files.specs.Outcomes.{Answer, isDone}
 use Rattle.calls.specs.Outcomes.{Outcome, recordsOf}
 use Rattle.calls.proofs.Exact.{fracture-file-exact, deoverlap-exact}
 use Rattle.chains.specs.Chains.{Layer, fed}
@@ -60,10 +60,10 @@ module _ (f : FractureCall) (d : DeoverlapCall) (h : BothAccepted f d) where
 -- ---- a layer of a layer file
 module _ (r : ReadCall) (n : ℕ) (h : LayerAccepted r n) where
   read-done : T (files.isDone (files.readLayers (r .limit) (r .file) (r .out) .answer))
-  read-done = subst (λ (o : files.Outcome ℤ). T (files.isDone (o .answer))) (h .read .kept) (h .read .accepted)
+  read-done = subst (λ (o : files.FileOutcome ℤ). T (files.isDone (o .answer))) (h .read .kept) (h .read .accepted)
 
   words-are : wordsBy r ≡ wordsRead (r .limit) (r .file) (r .out)
-  words-are = ap (λ (o : files.Outcome ℤ). take (length (r .file) / 4) (o .out)) (h .read .kept)
+  words-are = ap (λ (o : files.FileOutcome ℤ). take (length (r .file) / 4) (o .out)) (h .read .kept)
 
   layers-are : layersOf (wordsRead (r .limit) (r .file) (r .out)) ≡ fileLayersOf (fileWords (r .file))
   layers-are = let p = read-passed (r .limit) (r .file) (r .out) read-done in ap layersOf (read-words (r .limit) (r .file) (r .out) (p .0) (p .1))

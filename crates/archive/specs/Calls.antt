@@ -8,9 +8,10 @@ use lib.ListN.{length, take}
 use Rattle.files.specs.declared.LayersRead.{LayersRead}
 use Rattle.files.specs.declared.LayersWritten.{LayersWritten}
 use Rattle.files.specs.Outcomes as files
+use Rattle.files.specs.Outcomes.{isDone}
 use Rattle.calls.specs.declared.Fractured.{Fractured}
 use Rattle.calls.specs.declared.Deoverlapped.{Deoverlapped}
-use Rattle.calls.specs.Answers.{fracturedAnswer, deoverlappedAnswer, isDone}
+use Rattle.calls.specs.Answers.{fracturedAnswer, deoverlappedAnswer}
 use Rattle.calls.specs.Outcomes.{recordsOf}
 use Rattle.calls.specs.Contracts.{FractureKept, DeoverlapKept, ReadKept, WriteKept}
 use Rattle.chains.specs.Chains.{Layer}

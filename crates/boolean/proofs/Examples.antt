@@ -13,14 +13,14 @@ use Rattle.geometry.specs.declared.Line.{Line}
 use Rattle.geometry.specs.declared.Base.{Base}
 use Rattle.geometry.specs.declared.Trapezoid.{Trapezoid}
 use Rattle.geometry.specs.Lines.{dx, dy, offset, det, numer}
-use Rattle.geometry.specs.Positions.{crosses, root, meet, heights, rightOf, below}
+use Rattle.geometry.specs.Positions.{crosses, ratio, meet, heights, rightOf, below}
 use Rattle.geometry.specs.Ranges.{crossing, commonLeft, commonRight}
 use Rattle.sweep.specs.Segments.{spans}
 use Rattle.sweep.specs.Sweep.{columns, sweep}
 use Rattle.overlay.specs.Overlaps.{crossesInCommon, overlapRight, overlapFrom, overlaps}
-use Rattle.overlay.specs.Overlay.{sides, crossings, events, fills, tagAbove, stack, parts, subdivision, overlay, tagged}
-use Rattle.boolean.specs.Operations.{union, intersect, first-less-second, either-not-both, less, lessAll, difference, common, intersection, result, deoverlappedFrom, deoverlapped, Side}
-use Rattle.boolean.specs.Space.{overlaid, addition, enough, short, space, marks, lessMarks, lessAllMarks, differenceMarks, commonMarks, intersectionMarks, equalityMarks}
+use Rattle.overlay.specs.Overlay.{sides, sideCrossings, overlayEvents, fills, tagAbove, stack, parts, subdivision, overlay, tagged}
+use Rattle.boolean.specs.Operations.{union, intersect, a-minus-b, b-minus-a, symmetric-difference, codeAt, minus, minusAll, difference, common, intersection, result, deoverlappedFrom, deoverlapped, OperandOf}
+use Rattle.boolean.specs.Space.{overlaid, addition, enough, no-room, space, stages, minusStages, minusAllStages, differenceStages, commonStages, intersectionStages, equalityStages}
 
 abbrev line : ℕ → ℕ → ℕ → ℕ → Line
 line a b c d = record { x1 = pos a; y1 = pos b; x2 = pos c; y2 = pos d }
@@ -43,28 +43,33 @@ cell a c l m = trapezoid (baseAt a) (baseAt c) l m
 abbrev one : Trapezoid → List Trapezoid
 one t = t ∷ []
 
+-- ---- codes
+-- "Code 0 union", "Code 1 intersection", 2 and 3 the differences A−B and B−A, "Code 4"
+numbered : (codeAt 0 ≡ union) × (codeAt 1 ≡ intersect) × (codeAt 2 ≡ a-minus-b) × (codeAt 3 ≡ b-minus-a) × (codeAt 4 ≡ symmetric-difference)
+numbered = (refl, refl, refl, refl, refl)
+
 -- ---- overlays
 -- two squares that do not overlap: one overlay in the intersection, with nothing in the result, and one in the difference, which leaves the first
 abbrev NoOverlap : Type 0
 NoOverlap =
-    (marks intersect (one (box 0 0 1 1)) (one (box 2 0 3 1)) ≡ overlaid 0 ∷ [])
-    × (marks first-less-second (one (box 0 0 1 1)) (one (box 2 0 3 1)) ≡ overlaid 1 ∷ addition 1 ∷ [])
+    (stages intersect (one (box 0 0 1 1)) (one (box 2 0 3 1)) ≡ overlaid 0 ∷ [])
+    × (stages a-minus-b (one (box 0 0 1 1)) (one (box 2 0 3 1)) ≡ overlaid 1 ∷ addition 1 ∷ [])
 
 -- ---- space
--- a square that stays, and a box of three squares; less the box's middle square, and then its right one
+-- a square that stays, and a box of three squares; minus the box's middle square, and then its right one
 abbrev stays-and-wide : List Trapezoid
 stays-and-wide = box 0 0 1 1 ∷ box 2 0 5 1 ∷ []
 
 abbrev middle-and-right : List Trapezoid
 middle-and-right = box 3 0 4 1 ∷ box 4 0 5 1 ∷ []
 
--- at the fourth mark the result so far has 1 trapezoid and the remainder 2, the squares left and right of the middle. Each fits in a room of 2, and
--- so does the result at the end, but the two together do not: short, after 3 overlays
+-- at the fourth stage the result so far has 1 trapezoid and the remainder 2, the squares left and right of the middle. Each fits in a room of 2, and
+-- so does the result at the end, but the two together do not: no room, after 3 overlays
 abbrev Sum : Type 0
 Sum =
-    (marks first-less-second stays-and-wide middle-and-right ≡ overlaid 1 ∷ overlaid 1 ∷ addition 1 ∷ overlaid 3 ∷ overlaid 3 ∷ overlaid 2 ∷ addition 2 ∷ [])
-    × (space 2 (marks first-less-second stays-and-wide middle-and-right) ≡ short 3)
-    × (space 3 (marks first-less-second stays-and-wide middle-and-right) ≡ enough 5)
+    (stages a-minus-b stays-and-wide middle-and-right ≡ overlaid 1 ∷ overlaid 1 ∷ addition 1 ∷ overlaid 3 ∷ overlaid 3 ∷ overlaid 2 ∷ addition 2 ∷ [])
+    × (space 2 (stages a-minus-b stays-and-wide middle-and-right) ≡ no-room 3)
+    × (space 3 (stages a-minus-b stays-and-wide middle-and-right) ≡ enough 5)
     × (difference stays-and-wide middle-and-right ≡ box 0 0 1 1 ∷ cell 2 3 (line 2 0 5 0) (line 2 1 5 1) ∷ [])
 
 -- two squares with themselves: the second is still whole after the overlay with the first, beside the two of the result
@@ -72,7 +77,7 @@ abbrev two : List Trapezoid
 two = box 0 0 1 1 ∷ box 2 0 3 1 ∷ []
 
 abbrev Itself : Type 0
-Itself = (space 2 (marks union two two) ≡ short 2) × (space 3 (marks union two two) ≡ enough 3) × (result union two two ≡ two)
+Itself = (space 2 (stages union two two) ≡ no-room 2) × (space 3 (stages union two two) ≡ enough 3) × (result union two two ≡ two)
 
 -- ---- equality
 -- [0, 1) × [0, 1) and [0, 2) × [0, 1): nothing is left of the first, [1, 2) × [0, 1) of the second; one overlay for each difference.
@@ -81,9 +86,9 @@ abbrev Differ : Type 0
 Differ =
     (difference (one (box 0 0 1 1)) (one (box 0 0 2 1)) ≡ [])
     × (difference (one (box 0 0 2 1)) (one (box 0 0 1 1)) ≡ cell 1 2 (line 0 0 2 0) (line 0 1 2 1) ∷ [])
-    × (equalityMarks (one (box 0 0 1 1)) (one (box 0 0 2 1)) ≡ overlaid 0 ∷ addition 0 ∷ overlaid 1 ∷ addition 1 ∷ [])
-    × Side (difference (one (box 0 0 1 1)) (one (box 0 0 2 1))) (difference (one (box 0 0 2 1)) (one (box 0 0 1 1))) 1
-    × (equalityMarks (one (box 0 0 2 1)) (one (box 0 0 1 1)) ≡ overlaid 1 ∷ addition 1 ∷ [])
+    × (equalityStages (one (box 0 0 1 1)) (one (box 0 0 2 1)) ≡ overlaid 0 ∷ addition 0 ∷ overlaid 1 ∷ addition 1 ∷ [])
+    × OperandOf (difference (one (box 0 0 1 1)) (one (box 0 0 2 1))) (difference (one (box 0 0 2 1)) (one (box 0 0 1 1))) 1
+    × (equalityStages (one (box 0 0 2 1)) (one (box 0 0 1 1)) ≡ overlaid 1 ∷ addition 1 ∷ [])
 
 -- ---- the order of the results
 -- A = [0, 2) × [0, 1) and B = [1, 3) × [0, 1)
@@ -94,19 +99,19 @@ abbrev B : Trapezoid
 B = box 1 0 3 1
 
 -- what is left of A, and of B
-abbrev A-less-B : Trapezoid
-A-less-B = cell 0 1 (line 0 0 2 0) (line 0 1 2 1)
+abbrev A-minus-B : Trapezoid
+A-minus-B = cell 0 1 (line 0 0 2 0) (line 0 1 2 1)
 
-abbrev B-less-A : Trapezoid
-B-less-A = cell 2 3 (line 1 0 3 0) (line 1 1 3 1)
+abbrev B-minus-A : Trapezoid
+B-minus-A = cell 2 3 (line 1 0 3 0) (line 1 1 3 1)
 
 -- A whole, then B−A; not A−B, then B whole
 abbrev Union : Type 0
-Union = result union (one A) (one B) ≡ A ∷ B-less-A ∷ []
+Union = result union (one A) (one B) ≡ A ∷ B-minus-A ∷ []
 
 -- A−B, then B−A
 abbrev Either : Type 0
-Either = result either-not-both (one A) (one B) ≡ A-less-B ∷ B-less-A ∷ []
+Either = result symmetric-difference (one A) (one B) ≡ A-minus-B ∷ B-minus-A ∷ []
 
 -- two upright strips with two level ones: the first upright one with both, then the second with both; each upright one's line where sides coincide
 abbrev Order : Type 0
@@ -155,9 +160,9 @@ InDeoverlapping =
     × (deoverlapped (upon ∷ square ∷ []) ≡ upon ∷ square ∷ [])
 
 examples : NoOverlap × Sum × Itself × Differ × Union × Either × Order × InDifference × InDeoverlapping
-unfolding _⊕_ _⊖_ _⊗_ ⊝_ orderOf before insert levels dx dy offset det numer crosses root meet heights rightOf below keep spans columns sweep
-    commonLeft commonRight crossesInCommon overlapRight overlapFrom overlaps sides crossings events fills tagAbove stack parts subdivision overlay tagged
-    less lessAll difference common intersection deoverlappedFrom space lessMarks lessAllMarks differenceMarks commonMarks intersectionMarks
+unfolding _⊕_ _⊖_ _⊗_ ⊝_ orderOf before insert levels dx dy offset det numer crosses ratio meet heights rightOf below keep spans columns sweep
+    commonLeft commonRight crossesInCommon overlapRight overlapFrom overlaps sides sideCrossings overlayEvents fills tagAbove stack parts subdivision overlay tagged
+    minus minusAll difference common intersection deoverlappedFrom space minusStages minusAllStages differenceStages commonStages intersectionStages
 examples = (
   (refl, refl),
   (refl, refl, refl, refl),

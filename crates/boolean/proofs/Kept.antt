@@ -11,24 +11,24 @@ use Rattle.geometry.specs.Trapezoids.{linesOf}
 use Rattle.geometry.specs.Fitness.{FitFor}
 use Rattle.overlay.specs.Overlay.{overlay, tagged}
 use Rattle.overlay.proofs.Tagged.{tagged-fit, tagged-lines}
-use Rattle.boolean.specs.Operations.{Code, union, intersect, first-less-second, second-less-first, either-not-both, less, lessAll, difference, common, intersection, result, deoverlappedFrom, deoverlapped}
+use Rattle.boolean.specs.Operations.{Code, union, intersect, a-minus-b, b-minus-a, symmetric-difference, minus, minusAll, difference, common, intersection, result, deoverlappedFrom, deoverlapped}
 use Rattle.boolean.specs.Statements.{ResultFit, ResultLines, LineOf, LinesFrom, DeoverlappedFit, DeoverlappedLines}
 
 module _ (R : Trapezoid → Type 0) (keeps : (n : ℕ) (a b : Trapezoid) → R a → R b → All R (tagged n (overlay a b))) where
-  pub less-kept : (rs : List Trapezoid) (b : Trapezoid) → All R rs → R b → All R (less rs b)
-  unfolding less
-  less-kept [] b h k = tt
-  less-kept (r ∷ rs) b h k = all-append R (tagged 1 (overlay r b)) (less rs b) (keeps 1 r b (h .0) k) (less-kept rs b (h .1) k)
+  pub minus-kept : (rs : List Trapezoid) (b : Trapezoid) → All R rs → R b → All R (minus rs b)
+  unfolding minus
+  minus-kept [] b h k = tt
+  minus-kept (r ∷ rs) b h k = all-append R (tagged 1 (overlay r b)) (minus rs b) (keeps 1 r b (h .0) k) (minus-kept rs b (h .1) k)
 
-  pub lessAll-kept : (rs bs : List Trapezoid) → All R rs → All R bs → All R (lessAll rs bs)
-  unfolding lessAll
-  lessAll-kept rs [] h k = h
-  lessAll-kept rs (b ∷ bs) h k = lessAll-kept (less rs b) bs (less-kept rs b h (k .0)) (k .1)
+  pub minusAll-kept : (rs bs : List Trapezoid) → All R rs → All R bs → All R (minusAll rs bs)
+  unfolding minusAll
+  minusAll-kept rs [] h k = h
+  minusAll-kept rs (b ∷ bs) h k = minusAll-kept (minus rs b) bs (minus-kept rs b h (k .0)) (k .1)
 
   pub difference-kept : (A B : List Trapezoid) → All R A → All R B → All R (difference A B)
   unfolding difference
   difference-kept [] B h k = tt
-  difference-kept (a ∷ A) B h k = all-append R (lessAll (a ∷ []) B) (difference A B) (lessAll-kept (a ∷ []) B (h .0, tt) k) (difference-kept A B (h .1) k)
+  difference-kept (a ∷ A) B h k = all-append R (minusAll (a ∷ []) B) (difference A B) (minusAll-kept (a ∷ []) B (h .0, tt) k) (difference-kept A B (h .1) k)
 
   common-kept : (a : Trapezoid) (bs : List Trapezoid) → R a → All R bs → All R (common a bs)
   unfolding common
@@ -43,26 +43,26 @@ module _ (R : Trapezoid → Type 0) (keeps : (n : ℕ) (a b : Trapezoid) → R a
   pub result-kept : (c : Code) (A B : List Trapezoid) → All R A → All R B → All R (result c A B)
   result-kept union A B h k = all-append R A (difference B A) h (difference-kept B A k h)
   result-kept intersect A B h k = intersection-kept A B h k
-  result-kept first-less-second A B h k = difference-kept A B h k
-  result-kept second-less-first A B h k = difference-kept B A k h
-  result-kept either-not-both A B h k = all-append R (difference A B) (difference B A) (difference-kept A B h k) (difference-kept B A k h)
+  result-kept a-minus-b A B h k = difference-kept A B h k
+  result-kept b-minus-a A B h k = difference-kept B A k h
+  result-kept symmetric-difference A B h k = all-append R (difference A B) (difference B A) (difference-kept A B h k) (difference-kept B A k h)
 
   pub deoverlappedFrom-kept : (done A : List Trapezoid) → All R done → All R A → All R (deoverlappedFrom done A)
   unfolding deoverlappedFrom
   deoverlappedFrom-kept done [] h k = h
   deoverlappedFrom-kept done (a ∷ A) h k =
-      deoverlappedFrom-kept (done ++ lessAll (a ∷ []) done) A (all-append R done (lessAll (a ∷ []) done) h (lessAll-kept (a ∷ []) done (k .0, tt) h)) (k .1)
+      deoverlappedFrom-kept (done ++ minusAll (a ∷ []) done) A (all-append R done (minusAll (a ∷ []) done) h (minusAll-kept (a ∷ []) done (k .0, tt) h)) (k .1)
 
 -- ---- fit
 module _ (L : ℕ) where
   keeps-fit : (n : ℕ) (a b : Trapezoid) → FitFor L a → FitFor L b → All (FitFor L) (tagged n (overlay a b))
   keeps-fit n a b ha hb = tagged-fit ha hb n
 
-  pub less-fit : (rs : List Trapezoid) (b : Trapezoid) → All (FitFor L) rs → FitFor L b → All (FitFor L) (less rs b)
-  less-fit = less-kept (FitFor L) keeps-fit
+  pub minus-fit : (rs : List Trapezoid) (b : Trapezoid) → All (FitFor L) rs → FitFor L b → All (FitFor L) (minus rs b)
+  minus-fit = minus-kept (FitFor L) keeps-fit
 
-  pub lessAll-fit : (rs bs : List Trapezoid) → All (FitFor L) rs → All (FitFor L) bs → All (FitFor L) (lessAll rs bs)
-  lessAll-fit = lessAll-kept (FitFor L) keeps-fit
+  pub minusAll-fit : (rs bs : List Trapezoid) → All (FitFor L) rs → All (FitFor L) bs → All (FitFor L) (minusAll rs bs)
+  minusAll-fit = minusAll-kept (FitFor L) keeps-fit
 
   pub difference-fit : (A B : List Trapezoid) → All (FitFor L) A → All (FitFor L) B → All (FitFor L) (difference A B)
   difference-fit = difference-kept (FitFor L) keeps-fit

@@ -6,7 +6,7 @@ pub mod Results
 pub mod Deoverlapping
 pub mod Equality
 pub mod Space
-pub mod Marks
+pub mod Stages
 pub mod Counts
 pub mod Shifting
 pub mod Examples

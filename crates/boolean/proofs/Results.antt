@@ -11,7 +11,7 @@ use Rattle.geometry.specs.declared.Trapezoid.{Trapezoid}
 use Rattle.geometry.specs.Points.{Point, IsPoint}
 use Rattle.geometry.specs.Trapezoids.{LiesInLayer}
 use Rattle.geometry.specs.Fitness.{FitFor}
-use Rattle.boolean.specs.Operations.{union, intersect, first-less-second, second-less-first, either-not-both, difference}
+use Rattle.boolean.specs.Operations.{union, intersect, a-minus-b, b-minus-a, symmetric-difference, difference}
 use Rattle.boolean.specs.Statements.{IsYes, ResultExact, ResultDisjoint}
 use Rattle.boolean.proofs.Layers.{Inside, in-or-out, disjoint-append}
 use Rattle.boolean.proofs.Difference.{difference-in, in-difference, difference-disjoint}
@@ -43,9 +43,9 @@ result-exact L A B hA hB P hP intersect a b ya yb = (
   (λ h. let k = and-yes a b h in in-intersection L P hP A B hA hB (ya .0 (k .0)) (yb .0 (k .1))),
   (λ h. let k = intersection-in L P hP A B hA hB h in yes-and a b (ya .1 (k .0)) (yb .1 (k .1))),
 )
-result-exact L A B hA hB P hP first-less-second a b ya yb = difference-says L P hP A B hA hB a b ya yb
-result-exact L A B hA hB P hP second-less-first a b ya yb = difference-says L P hP B A hB hA b a yb ya
-result-exact L A B hA hB P hP either-not-both a b ya yb =
+result-exact L A B hA hB P hP a-minus-b a b ya yb = difference-says L P hP A B hA hB a b ya yb
+result-exact L A B hA hB P hP b-minus-a a b ya yb = difference-says L P hP B A hB hA b a yb ya
+result-exact L A B hA hB P hP symmetric-difference a b ya yb =
     let i = difference-says L P hP A B hA hB a b ya yb in
     let j = difference-says L P hP B A hB hA b a yb ya in (
       (λ h.
@@ -65,8 +65,8 @@ pub result-disjoint : ResultDisjoint
 result-disjoint L A B hA hB dA dB union =
     disjoint-append A (difference B A) dA (difference-disjoint L B A hB hA dB) (λ P hP x y. difference-in L P hP B A hB hA y .1 x)
 result-disjoint L A B hA hB dA dB intersect = intersection-disjoint L A B hA hB dA dB
-result-disjoint L A B hA hB dA dB first-less-second = difference-disjoint L A B hA hB dA
-result-disjoint L A B hA hB dA dB second-less-first = difference-disjoint L B A hB hA dB
-result-disjoint L A B hA hB dA dB either-not-both =
+result-disjoint L A B hA hB dA dB a-minus-b = difference-disjoint L A B hA hB dA
+result-disjoint L A B hA hB dA dB b-minus-a = difference-disjoint L B A hB hA dB
+result-disjoint L A B hA hB dA dB symmetric-difference =
     disjoint-append (difference A B) (difference B A) (difference-disjoint L A B hA hB dA) (difference-disjoint L B A hB hA dB)
     (λ P hP x y. difference-in L P hP B A hB hA y .1 (difference-in L P hP A B hA hB x .0))

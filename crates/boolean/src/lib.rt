@@ -1,15 +1,15 @@
 // What folds over layers of trapezoids answer.
 
-// What a fold answers: the space was short, after so many overlays; or how many trapezoids it wrote, and the number of overlays.
+// What a fold answers: there was no room, after so many overlays; or how many trapezoids it wrote, and the number of overlays.
 pub enum Folded {
-    Short(usize),
+    NoRoom(usize),
     Done { trapezoids: usize, overlays: usize },
 }
 
-// What the equality test answers: the space was short; no trapezoid is left on either side; or some are left on side 0 (the
-// first layer less the second), or else on side 1.
+// What the equality test answers: there was no room; no trapezoid is left of either difference; or some are left of the one
+// with operand 0 first (the first layer minus the second), or else of the one with operand 1 first.
 pub enum Compared {
-    TooShort(usize),
+    NoRoom(usize),
     Same(usize),
-    Differs { side: u32, overlays: usize },
+    Differs { operand: u32, overlays: usize },
 }

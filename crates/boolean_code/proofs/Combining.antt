@@ -16,55 +16,55 @@ use Rattle.geometry.specs.declared.Trapezoid.{Trapezoid}
 use Rattle.geometry.specs.Trapezoids.{trapezoidCodec, layerOf}
 use Rattle.geometry.proofs.Trapezoids.{trapezoid-faithful}
 use Rattle.boolean.specs.declared.Folded.{Folded}
-use Rattle.boolean.specs.declared.Folded.the-variants.{Short, Done}
+use Rattle.boolean.specs.declared.Folded.the-variants.{NoRoom, Done}
 use Rattle.boolean.specs.Operations.{Code, codeAt, result}
-use Rattle.boolean.specs.Space.{Mark, addition, short, plus, space, marks}
+use Rattle.boolean.specs.Space.{Stage, addition, no-room, plus, space, stages}
 use Rattle.boolean.proofs.Space.{plus-none, space-enough}
 use Rattle.trapezoids_code.specs.Tails.{Borrowed}
-use Rattle.remainder_code.specs.Code.{held, Holding, withOverlays, FoldedAs}
-use Rattle.remainder_code.proofs.Answers.{filled-held}
+use Rattle.remainder_code.specs.Code.{leading, Holding, withOverlays, FoldedAs}
+use Rattle.remainder_code.proofs.Answers.{filled-leading}
 
 -- ---- nothing in front
 module _ (d : List ℤ) (room : ℕ) (h : Borrowed d room) where
-  none-held : held d 0 ≡ []
-  none-held = from-none trapezoidCodec 0 d 0 (omega arith)
+  none-leading : leading d 0 ≡ []
+  none-leading = from-none trapezoidCodec 0 d 0 (omega arith)
 
   pub holding-none : Holding d 0 room
   holding-none =
       record {
-        is = h .blank ∙ sym (image-none trapezoidCodec trapezoid-faithful (length d)) ∙ ap (image trapezoidCodec (length d)) (sym none-held);
+        is = h .blank ∙ sym (image-none trapezoidCodec trapezoid-faithful (length d)) ∙ ap (image trapezoidCodec (length d)) (sym none-leading);
         within = omega arith;
         wide = h .wide;
       }
 
-  pub folded-none : (ts : List Trapezoid) (ms : List Mark) (r : Folded) (t : List ℤ) → FoldedAs (length d) room (held d 0 ++ ts) ms r t → FoldedAs (length d) room ts ms r t
-  folded-none ts ms r t g = subst (λ (us : List Trapezoid). FoldedAs (length d) room us ms r t) (ap (λ (us : List Trapezoid). us ++ ts) none-held) g
+  pub folded-none : (ts : List Trapezoid) (ms : List Stage) (r : Folded) (t : List ℤ) → FoldedAs (length d) room (leading d 0 ++ ts) ms r t → FoldedAs (length d) room ts ms r t
+  folded-none ts ms r t g = subst (λ (us : List Trapezoid). FoldedAs (length d) room us ms r t) (ap (λ (us : List Trapezoid). us ++ ts) none-leading) g
 
 -- ---- after what a success has left
-module _ (n room : ℕ) (ts : List Trapezoid) (ms : List Mark) (p c : ℕ) (t : List ℤ) (g : FoldedAs n room ts ms (Done p c) t) (long : length t ≡ n) (wide : memoryWidth * room ≤ n) where
+module _ (n room : ℕ) (ts : List Trapezoid) (ms : List Stage) (p c : ℕ) (t : List ℤ) (g : FoldedAs n room ts ms (Done p c) t) (long : length t ≡ n) (wide : memoryWidth * room ≤ n) where
   pub holding-done : Holding t p room
   holding-done =
-      let d = filled-held n room ts p t (g .1) in
+      let d = filled-leading n room ts p t (g .1) in
       record { is = g .1 .2 ∙ (λ j. image trapezoidCodec (sym long j) (sym d j)); within = omega (arith, g .1 .0, g .1 .1); wide = omega (arith, long, wide) }
 
-  -- `us` with the marks `ns p` follow
-  pub folded-after : (us : List Trapezoid) (ns : ℕ → List Mark) (r : Folded) (v : List ℤ) → FoldedAs (length t) room (held t p ++ us) (ns p) r v → FoldedAs n room (ts ++ us) (ms ++ ns (length ts)) (withOverlays c r) v
+  -- `us` with the stages `ns p` follow
+  pub folded-after : (us : List Trapezoid) (ns : ℕ → List Stage) (r : Folded) (v : List ℤ) → FoldedAs (length t) room (leading t p ++ us) (ns p) r v → FoldedAs n room (ts ++ us) (ms ++ ns (length ts)) (withOverlays c r) v
   folded-after us ns r v h =
-      let d = filled-held n room ts p t (g .1) in
+      let d = filled-leading n room ts p t (g .1) in
       let a = subst (λ (x : List Trapezoid). FoldedAs (length t) room (x ++ us) (ns p) r v) d h in
       let b = subst (λ (x : ℕ). FoldedAs (length t) room (ts ++ us) (ns x) r v) (g .1 .0) a in
       go r (subst (λ (x : ℕ). FoldedAs x room (ts ++ us) (ns (length ts)) r v) long b)
     where
       go : (r : Folded) → FoldedAs n room (ts ++ us) (ns (length ts)) r v → FoldedAs n room (ts ++ us) (ms ++ ns (length ts)) (withOverlays c r) v
-      go (Short k) x = (space-enough room c ms (ns (length ts)) (g .0) ∙ ap (plus c) (x .0), x .1)
+      go (NoRoom k) x = (space-enough room c ms (ns (length ts)) (g .0) ∙ ap (plus c) (x .0), x .1)
       go (Done q k) x = (space-enough room c ms (ns (length ts)) (g .0) ∙ ap (plus c) (x .0), x .1)
 
 -- ---- after a layer that was copied
-add-over : (room k : ℕ) (ms : List Mark) → room < k → space room (addition k ∷ ms) ≡ short 0
+add-over : (room k : ℕ) (ms : List Stage) → room < k → space room (addition k ∷ ms) ≡ no-room 0
 unfolding space
 add-over room k ms l = rw (lt-ltb room k l) refl
 
-add-next : (room k : ℕ) (ms : List Mark) → k ≤ room → space room (addition k ∷ ms) ≡ space room ms
+add-next : (room k : ℕ) (ms : List Stage) → k ≤ room → space room (addition k ∷ ms) ≡ space room ms
 unfolding space
 add-next room k ms l = rw (le-ltb room k l) (plus-none (space room ms))
 
@@ -78,9 +78,9 @@ module _ (first d : List ℤ) (room : ℕ) (h : Borrowed d room) where
   length-A : length (layerOf first) ≡ n
   length-A = length-from trapezoidCodec n first 0
 
-  pub copied-short : (ts : List Trapezoid) (ns : ℕ → List Mark) → room < count trapezoidCodec first
-      → FoldedAs (length d) room ts (addition (length (layerOf first)) ∷ ns (length (layerOf first))) (Short 0) d
-  copied-short ts ns l = (add-over room (length A) (ns (length A)) (omega (arith, l, length-A)), h .blank)
+  pub copied-no-room : (ts : List Trapezoid) (ns : ℕ → List Stage) → room < count trapezoidCodec first
+      → FoldedAs (length d) room ts (addition (length (layerOf first)) ∷ ns (length (layerOf first))) (NoRoom 0) d
+  copied-no-room ts ns l = (add-over room (length A) (ns (length A)) (omega (arith, l, length-A)), h .blank)
 
   module _ (fits : count trapezoidCodec first ≤ room) (t : List ℤ) (is : t ≡ take (memoryWidth * count trapezoidCodec first) first ++ drop (memoryWidth * count trapezoidCodec first) d) where
     in-words : memoryWidth * length A ≤ length d
@@ -98,18 +98,18 @@ module _ (first d : List ℤ) (room : ℕ) (h : Borrowed d room) where
     pub copied-long : length t ≡ length d
     copied-long = ap length laid ∙ length-image trapezoidCodec trapezoid-faithful (length d) A in-words
 
-    copied-held : held t n ≡ A
-    copied-held =
-        ap (λ (k : ℕ). held t k) (sym length-A) ∙ ap (λ (u : List ℤ). held u (length A)) laid
+    copied-leading : leading t n ≡ A
+    copied-leading =
+        ap (λ (k : ℕ). leading t k) (sym length-A) ∙ ap (λ (u : List ℤ). leading u (length A)) laid
         ∙ image-records trapezoidCodec trapezoid-faithful (length d) A (all-of (λ (t : Trapezoid). Unit {0}) (λ t. tt) A)
 
     pub copied-holding : Holding t (count trapezoidCodec first) room
-    copied-holding = record { is = laid ∙ (λ j. image trapezoidCodec (sym copied-long j) (sym copied-held j)); within = fits; wide = omega (arith, copied-long, h .wide) }
+    copied-holding = record { is = laid ∙ (λ j. image trapezoidCodec (sym copied-long j) (sym copied-leading j)); within = fits; wide = omega (arith, copied-long, h .wide) }
 
-    pub copied-folded : (us : List Trapezoid) (ns : ℕ → List Mark) (r : Folded) (v : List ℤ) → FoldedAs (length t) room (held t (count trapezoidCodec first) ++ us) (ns (count trapezoidCodec first)) r v
+    pub copied-folded : (us : List Trapezoid) (ns : ℕ → List Stage) (r : Folded) (v : List ℤ) → FoldedAs (length t) room (leading t (count trapezoidCodec first) ++ us) (ns (count trapezoidCodec first)) r v
         → FoldedAs (length d) room (layerOf first ++ us) (addition (length (layerOf first)) ∷ ns (length (layerOf first))) r v
     copied-folded us ns r v g =
-        let a = subst (λ (x : List Trapezoid). FoldedAs (length t) room (x ++ us) (ns n) r v) copied-held g in
+        let a = subst (λ (x : List Trapezoid). FoldedAs (length t) room (x ++ us) (ns n) r v) copied-leading g in
         let b = subst (λ (x : ℕ). FoldedAs (length t) room (A ++ us) (ns x) r v) (sym length-A) a in
         go r (subst (λ (x : ℕ). FoldedAs x room (A ++ us) (ns (length A)) r v) copied-long b)
       where
@@ -117,10 +117,10 @@ module _ (first d : List ℤ) (room : ℕ) (h : Borrowed d room) where
         e = add-next room (length A) (ns (length A)) (omega (arith, length-A, fits))
 
         go : (r : Folded) → FoldedAs (length d) room (A ++ us) (ns (length A)) r v → FoldedAs (length d) room (A ++ us) (addition (length A) ∷ ns (length A)) r v
-        go (Short k) x = (e ∙ x .0, x .1)
+        go (NoRoom k) x = (e ∙ x .0, x .1)
         go (Done q k) x = (e ∙ x .0, x .1)
 
 -- ---- by the code's number
-pub code-folded : (code : ℕ) (c : Code) → codeAt code ≡ c → (n room : ℕ) (A B : List Trapezoid) (r : Folded) (d : List ℤ) → FoldedAs n room (result c A B) (marks c A B) r d
-    → FoldedAs n room (result (codeAt code) A B) (marks (codeAt code) A B) r d
-code-folded code c e n room A B r d g = subst (λ (x : Code). FoldedAs n room (result x A B) (marks x A B) r d) (sym e) g
+pub code-folded : (code : ℕ) (c : Code) → codeAt code ≡ c → (n room : ℕ) (A B : List Trapezoid) (r : Folded) (d : List ℤ) → FoldedAs n room (result c A B) (stages c A B) r d
+    → FoldedAs n room (result (codeAt code) A B) (stages (codeAt code) A B) r d
+code-folded code c e n room A B r d g = subst (λ (x : Code). FoldedAs n room (result x A B) (stages x A B) r d) (sym e) g

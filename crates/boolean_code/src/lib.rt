@@ -4,23 +4,22 @@ use boolean::Folded;
 use integer::Int;
 ghost use mathlib.Core.Path.{_≡_};
 ghost use mathlib.Core.Bool.{not, _&&_, _||_};
-ghost use mathlib.Core.List.{[]};
 ghost use Prim.Native.Nat.{_<_, _≤_};
 ghost use lib.IntN.{pos};
 ghost use Rattle.lists.specs.Lists.{All};
 ghost use Rattle.records.specs.Limits.{maxRecords};
 ghost use Rattle.records.specs.Records.{Blank};
 ghost use Rattle.geometry.specs.Limit.{coordinateLimit};
-ghost use Rattle.geometry.specs.Fitness.{FitFor, Layer};
+ghost use Rattle.geometry.specs.Points.{IsPoint};
+ghost use Rattle.geometry.specs.Fitness.{FitFor, FitLayer};
 ghost use Rattle.geometry.specs.Trapezoids.{layerOf, liesInLayer};
-ghost use Rattle.boolean.specs.Operations.{union, either-not-both, codeAt, difference, says as saysOf};
-ghost use Rattle.boolean.specs.Space.{enough, space, differenceMarks};
+ghost use Rattle.boolean.specs.Operations.{union, symmetric-difference, codeAt, result, says as saysOf};
 ghost use Rattle.geometry_code.specs.Code.{pointOf, SmallPoint};
 ghost use Rattle.trapezoids_code.specs.Tails.{Borrowed};
 ghost use Rattle.remainder_code.specs.Code.{overlaysOfLayer, maxOverlays, OverlaysWithin, ScratchFor};
 ghost use Rattle.boolean_code.specs.Code.{ComparedAs, ComparedWithin, NothingLeft, ResultWritten};
 
-// The first layer, and then the second less the first.
+// The first layer, and then the second minus the first.
 fn union_into(
     first: &[i32],
     second: &[i32],
@@ -28,7 +27,7 @@ fn union_into(
     scratch: &mut [i32],
     room: usize,
 ) -> Folded
-    requires { ⌜ Layer (now first) × Layer (now second) × Borrowed (now out) room × (room ≤ maxRecords) ⌝ }
+    requires { ⌜ FitLayer (now first) × FitLayer (now second) × Borrowed (now out) room × (room ≤ maxRecords) ⌝ }
     requires { ⌜ ScratchFor (now out) (now scratch) ⌝ }
     ensures { λ r. ⌜ ResultWritten union (now (out .entry)) room (layerOf (now (first .entry))) (layerOf (now (second .entry))) r (now (out .exit)) ⌝ }
     ensures { λ r. ⌜ OverlaysWithin overlaysOfLayer r ⌝ }
@@ -36,24 +35,24 @@ fn union_into(
 {
     let n = first.len() / records::MEMORY_WIDTH;
     if room < n {
-        return Folded::Short(0);
+        return Folded::NoRoom(0);
     }
     let end = records::MEMORY_WIDTH * n;
     records_code::copy(&first[..end], &mut out[..end]);
     difference_code::difference_into(n, second, first, out, scratch, room)
 }
 
-// The first layer less the second, and then the second less the first.
-fn either_into(
+// The first layer minus the second, and then the second minus the first.
+fn symmetric_difference_into(
     first: &[i32],
     second: &[i32],
     out: &mut [i32],
     scratch: &mut [i32],
     room: usize,
 ) -> Folded
-    requires { ⌜ Layer (now first) × Layer (now second) × Borrowed (now out) room × (room ≤ maxRecords) ⌝ }
+    requires { ⌜ FitLayer (now first) × FitLayer (now second) × Borrowed (now out) room × (room ≤ maxRecords) ⌝ }
     requires { ⌜ ScratchFor (now out) (now scratch) ⌝ }
-    ensures { λ r. ⌜ ResultWritten either-not-both (now (out .entry)) room (layerOf (now (first .entry))) (layerOf (now (second .entry))) r (now (out .exit)) ⌝ }
+    ensures { λ r. ⌜ ResultWritten symmetric-difference (now (out .entry)) room (layerOf (now (first .entry))) (layerOf (now (second .entry))) r (now (out .exit)) ⌝ }
     ensures { λ r. ⌜ OverlaysWithin maxOverlays r ⌝ }
     ensures { λ _. ⌜ Blank (pos 0) (now (scratch .exit)) ⌝ }
 {
@@ -78,7 +77,7 @@ pub fn combine_into(
     scratch: &mut [i32],
     room: usize,
 ) -> Folded
-    requires { ⌜ (code < 5) × Layer (now first) × Layer (now second) ⌝ }
+    requires { ⌜ (code < 5) × FitLayer (now first) × FitLayer (now second) ⌝ }
     requires { ⌜ Borrowed (now out) room × (room ≤ maxRecords) ⌝ }
     requires { ⌜ ScratchFor (now out) (now scratch) ⌝ }
     ensures { λ r. ⌜ ResultWritten (codeAt code) (now (out .entry)) room (layerOf (now (first .entry))) (layerOf (now (second .entry))) r (now (out .exit)) ⌝ }
@@ -97,11 +96,11 @@ pub fn combine_into(
     if code == 3 {
         return difference_code::difference_into(0, second, first, out, scratch, room);
     }
-    either_into(first, second, out, scratch, room)
+    symmetric_difference_into(first, second, out, scratch, room)
 }
 
-// The equality test where nothing is left of the first layer less the second, which took `made` overlays.
-fn second_side(
+// The equality test where nothing is left of the first layer minus the second, which took `made` overlays.
+fn second_difference(
     made: usize,
     first: &[i32],
     second: &[i32],
@@ -109,7 +108,7 @@ fn second_side(
     scratch: &mut [i32],
     room: usize,
 ) -> Compared
-    requires { ⌜ Layer (now first) × Layer (now second) × Borrowed (now out) room × (room ≤ maxRecords) ⌝ }
+    requires { ⌜ FitLayer (now first) × FitLayer (now second) × Borrowed (now out) room × (room ≤ maxRecords) ⌝ }
     requires { ⌜ ScratchFor (now out) (now scratch) ⌝ }
     requires { ⌜ NothingLeft room (layerOf (now first)) (layerOf (now second)) made ⌝ }
     ensures { λ r. ⌜ ComparedAs room (layerOf (now (first .entry))) (layerOf (now (second .entry))) r ⌝ }
@@ -118,7 +117,7 @@ fn second_side(
 {
     let f = difference_code::difference_into(0, second, first, out, scratch, room);
     match f {
-        Folded::Short(overlays) => Compared::TooShort(made + overlays),
+        Folded::NoRoom(overlays) => Compared::NoRoom(made + overlays),
         Folded::Done {
             trapezoids,
             overlays,
@@ -128,7 +127,7 @@ fn second_side(
                 return Compared::Same(made + overlays);
             }
             Compared::Differs {
-                side: 1,
+                operand: 1,
                 overlays: made + overlays,
             }
         }
@@ -143,7 +142,7 @@ pub fn equal_into(
     scratch: &mut [i32],
     room: usize,
 ) -> Compared
-    requires { ⌜ Layer (now first) × Layer (now second) ⌝ }
+    requires { ⌜ FitLayer (now first) × FitLayer (now second) ⌝ }
     requires { ⌜ Borrowed (now out) room × (room ≤ maxRecords) ⌝ }
     requires { ⌜ ScratchFor (now out) (now scratch) ⌝ }
     ensures { λ r. ⌜ ComparedAs room (layerOf (now (first .entry))) (layerOf (now (second .entry))) r ⌝ }
@@ -152,16 +151,19 @@ pub fn equal_into(
 {
     let f = difference_code::difference_into(0, first, second, out, scratch, room);
     match f {
-        Folded::Short(overlays) => Compared::TooShort(overlays),
+        Folded::NoRoom(overlays) => Compared::NoRoom(overlays),
         Folded::Done {
             trapezoids,
             overlays,
         } => {
             records_code::clear(out);
             if trapezoids == 0 {
-                return second_side(overlays, first, second, out, scratch, room);
+                return second_difference(overlays, first, second, out, scratch, room);
             }
-            Compared::Differs { side: 0, overlays }
+            Compared::Differs {
+                operand: 0,
+                overlays,
+            }
         }
     }
 }
@@ -197,7 +199,7 @@ fn but_not(a: bool, b: bool) -> bool
 }
 
 // Whether the point (x/d, y/d) lies in a layer.
-pub fn lies_in(layer: &[i32], x: Int, y: Int, d: Int) -> bool
+fn lies_in(layer: &[i32], x: Int, y: Int, d: Int) -> bool
     requires { ⌜ All (FitFor coordinateLimit) (layerOf (now layer)) × SmallPoint x y d ⌝ }
     ensures { λ r. ⌜ r ≡ liesInLayer (pointOf x y d) (layerOf (now (layer .entry))) ⌝ }
 {
@@ -214,7 +216,7 @@ pub fn lies_in(layer: &[i32], x: Int, y: Int, d: Int) -> bool
 }
 
 // Whether a point lies in the result with this code, by whether it lies in the first layer and in the second.
-pub fn says(code: u32, first: bool, second: bool) -> bool
+fn says(code: u32, first: bool, second: bool) -> bool
     requires { ⌜ code < 5 ⌝ }
     ensures { λ r. ⌜ r ≡ saysOf (codeAt code) first second ⌝ }
 {
@@ -233,4 +235,14 @@ pub fn says(code: u32, first: bool, second: bool) -> bool
     let a = but_not(first, second);
     let b = but_not(second, first);
     either(a, b)
+}
+
+// Whether the point (x/d, y/d) lies in the result of the set operation with this code on two layers.
+pub fn lies_in_result(code: u32, first: &[i32], second: &[i32], x: Int, y: Int, d: Int) -> bool
+    requires { ⌜ (code < 5) × FitLayer (now first) × FitLayer (now second) × SmallPoint x y d × IsPoint (pointOf x y d) ⌝ }
+    ensures { λ r. ⌜ r ≡ liesInLayer (pointOf x y d) (result (codeAt code) (layerOf (now (first .entry))) (layerOf (now (second .entry)))) ⌝ }
+{
+    let in_first = lies_in(first, x, y, d);
+    let in_second = lies_in(second, x, y, d);
+    says(code, in_first, in_second)
 }

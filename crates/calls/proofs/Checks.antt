@@ -20,11 +20,11 @@ use Rattle.geometry.specs.declared.Checked.the-variants.{Passed}
 use Rattle.geometry.specs.Limit.{coordinateLimit}
 use Rattle.geometry.specs.Points.{Point}
 use Rattle.geometry.specs.Trapezoids.{trapezoidCodec, layerOf}
-use Rattle.geometry.specs.Fitness.{FitFor, firstRefusal, Layer}
+use Rattle.geometry.specs.Fitness.{FitFor, firstRefusal, FitLayer}
 use Rattle.geometry.proofs.Refusals.{SmallChecked, small-first}
 use Rattle.geometry.proofs.Fitness.{layer-exact, fit-more}
 use Rattle.boolean.specs.Operations.{isCode}
-use Rattle.calls.specs.Rows.{row, buffersSized, pointPasses, layersChecked, combineChecked, deoverlapChecked, equalChecked, containsChecked}
+use Rattle.calls.specs.Rows.{plateLimit, row, buffersSized, pointPasses, bothChecked, combineChecked, deoverlapChecked, equalChecked, containsChecked}
 use Rattle.calls.proofs.Rows.{sized-most, sized-whole}
 
 -- ---- passed
@@ -40,11 +40,15 @@ pub record LayerFor (L : ℕ) (a : List ℤ) : Type 0 where
 layer-ready : (L : ℕ) (a : List ℤ) → sized (length a) ≡ true → All (FitFor L) (layerOf a) → LayerFor L a
 layer-ready L a e h = record { fit = h; few = omega (arith, sized-most (length a) e) }
 
+-- the public functions' limit is one that the arithmetic carries
+pub plate-carried : plateLimit ≤ coordinateLimit
+plate-carried = omega arith
+
 -- under any limit that the arithmetic carries
 pub fit-carried : (L : ℕ) → L ≤ coordinateLimit → (ts : List Trapezoid) → All (FitFor L) ts → All (FitFor coordinateLimit) ts
 fit-carried L l ts h = all-map (λ (t : Trapezoid). fit-more L coordinateLimit t l) ts h
 
-pub layer-of : (L : ℕ) (a : List ℤ) → L ≤ coordinateLimit → LayerFor L a → Layer a
+pub layer-of : (L : ℕ) (a : List ℤ) → L ≤ coordinateLimit → LayerFor L a → FitLayer a
 layer-of L a l h = record { fit = fit-carried L l (layerOf a) (h .fit); few = h .few }
 
 -- a scratch area as long as the output, which takes so many trapezoids and no part of one
@@ -63,13 +67,13 @@ buffers-ready out scratch e =
 
 module _ (L : ℕ) (a b : List ℤ) where
   -- rows 7 to 11 of two layers
-  first-fit : layersChecked L a b ≡ Passed → All (FitFor L) (layerOf a)
+  first-fit : bothChecked L a b ≡ Passed → All (FitFor L) (layerOf a)
   first-fit e = all-left (FitFor L) (layerOf a) (layerOf b) (layer-exact L 0 (layerOf a ++ layerOf b) .0 e)
 
-  second-fit : layersChecked L a b ≡ Passed → All (FitFor L) (layerOf b)
+  second-fit : bothChecked L a b ≡ Passed → All (FitFor L) (layerOf b)
   second-fit e = all-right (FitFor L) (layerOf a) (layerOf b) (layer-exact L 0 (layerOf a ++ layerOf b) .0 e)
 
-  module _ (out scratch : ℕ) (s : sized (length a) && (sized (length b) && buffersSized out scratch) ≡ true) (e : layersChecked L a b ≡ Passed) where
+  module _ (out scratch : ℕ) (s : sized (length a) && (sized (length b) && buffersSized out scratch) ≡ true) (e : bothChecked L a b ≡ Passed) where
     first-ready : LayerFor L a
     first-ready = layer-ready L a (and-left _ _ s) (first-fit e)
 
@@ -88,8 +92,8 @@ pub record CombineReady (L code : ℕ) (a b : List ℤ) (out scratch : ℕ) : Ty
 pub combine-ready : (L code : ℕ) (a b : List ℤ) (out scratch : ℕ) → combineChecked L code a b out scratch ≡ Passed → CombineReady L code a b out scratch
 unfolding combineChecked
 combine-ready L code a b out scratch e =
-    let h = row-passed 1 (sized (length a) && (sized (length b) && buffersSized out scratch)) (row 2 (isCode code) (layersChecked L a b)) e in
-    let k = row-passed 2 (isCode code) (layersChecked L a b) (h .1) in
+    let h = row-passed 1 (sized (length a) && (sized (length b) && buffersSized out scratch)) (row 2 (isCode code) (bothChecked L a b)) e in
+    let k = row-passed 2 (isCode code) (bothChecked L a b) (h .1) in
     record {
       is-code = ltb-true code 5 (k .0);
       first = first-ready L a b out scratch (h .0) (k .1);
@@ -118,7 +122,7 @@ pub record EqualReady (L : ℕ) (a b : List ℤ) (out scratch : ℕ) : Type 0 wh
 pub equal-ready : (L : ℕ) (a b : List ℤ) (out scratch : ℕ) → equalChecked L a b out scratch ≡ Passed → EqualReady L a b out scratch
 unfolding equalChecked
 equal-ready L a b out scratch e =
-    let h = row-passed 1 (sized (length a) && (sized (length b) && buffersSized out scratch)) (layersChecked L a b) e in
+    let h = row-passed 1 (sized (length a) && (sized (length b) && buffersSized out scratch)) (bothChecked L a b) e in
     record { first = first-ready L a b out scratch (h .0) (h .1); second = second-ready L a b out scratch (h .0) (h .1); buffers = both-buffers L a b out scratch (h .0) (h .1) }
 
 pub record ContainsReady (L : ℕ) (P : Point) (a b : List ℤ) (code : ℕ) : Type 0 where
@@ -130,9 +134,9 @@ pub record ContainsReady (L : ℕ) (P : Point) (a b : List ℤ) (code : ℕ) : T
 pub contains-ready : (L : ℕ) (P : Point) (a b : List ℤ) (code : ℕ) → containsChecked L P a b code ≡ Passed → ContainsReady L P a b code
 unfolding containsChecked
 contains-ready L P a b code e =
-    let h = row-passed 1 (sized (length a) && sized (length b)) (row 2 (isCode code) (row 3 (pointPasses L P) (layersChecked L a b))) e in
-    let k = row-passed 2 (isCode code) (row 3 (pointPasses L P) (layersChecked L a b)) (h .1) in
-    let j = row-passed 3 (pointPasses L P) (layersChecked L a b) (k .1) in
+    let h = row-passed 1 (sized (length a) && sized (length b)) (row 2 (isCode code) (row 3 (pointPasses L P) (bothChecked L a b))) e in
+    let k = row-passed 2 (isCode code) (row 3 (pointPasses L P) (bothChecked L a b)) (h .1) in
+    let j = row-passed 3 (pointPasses L P) (bothChecked L a b) (k .1) in
     record {
       is-code = ltb-true code 5 (k .0);
       point = j .0;
@@ -148,7 +152,7 @@ small-row n l false c h = (l, omega arith)
 layer-length : (a : List ℤ) → sized (length a) ≡ true → length (layerOf a) ≤ maxRecords
 layer-length a e = omega (arith, length-from trapezoidCodec (count trapezoidCodec a) a 0, sized-most (length a) e)
 
-small-layers : (L : ℕ) (a b : List ℤ) → sized (length a) ≡ true → sized (length b) ≡ true → SmallChecked (layersChecked L a b)
+small-layers : (L : ℕ) (a b : List ℤ) → sized (length a) ≡ true → sized (length b) ≡ true → SmallChecked (bothChecked L a b)
 small-layers L a b e f =
     let n = length-append (layerOf a) (layerOf b) in
     small-first L 0 (layerOf a ++ layerOf b) (omega (arith, n, layer-length a e, layer-length b f))
@@ -156,8 +160,8 @@ small-layers L a b e f =
 pub combine-refused : (L code : ℕ) (a b : List ℤ) (out scratch : ℕ) → SmallChecked (combineChecked L code a b out scratch)
 unfolding combineChecked
 combine-refused L code a b out scratch =
-    small-row 1 (omega arith) (sized (length a) && (sized (length b) && buffersSized out scratch)) (row 2 (isCode code) (layersChecked L a b)) (λ s.
-    small-row 2 (omega arith) (isCode code) (layersChecked L a b) (λ e.
+    small-row 1 (omega arith) (sized (length a) && (sized (length b) && buffersSized out scratch)) (row 2 (isCode code) (bothChecked L a b)) (λ s.
+    small-row 2 (omega arith) (isCode code) (bothChecked L a b) (λ e.
     small-layers L a b (and-left (sized (length a)) _ s) (and-left (sized (length b)) _ (and-right (sized (length a)) _ s))))
 
 pub deoverlap-refused : (L : ℕ) (a : List ℤ) (out scratch : ℕ) → SmallChecked (deoverlapChecked L a out scratch)
@@ -169,13 +173,13 @@ deoverlap-refused L a out scratch =
 pub equal-refused : (L : ℕ) (a b : List ℤ) (out scratch : ℕ) → SmallChecked (equalChecked L a b out scratch)
 unfolding equalChecked
 equal-refused L a b out scratch =
-    small-row 1 (omega arith) (sized (length a) && (sized (length b) && buffersSized out scratch)) (layersChecked L a b) (λ s.
+    small-row 1 (omega arith) (sized (length a) && (sized (length b) && buffersSized out scratch)) (bothChecked L a b) (λ s.
     small-layers L a b (and-left (sized (length a)) _ s) (and-left (sized (length b)) _ (and-right (sized (length a)) _ s)))
 
 pub contains-refused : (L : ℕ) (P : Point) (a b : List ℤ) (code : ℕ) → SmallChecked (containsChecked L P a b code)
 unfolding containsChecked
 contains-refused L P a b code =
-    small-row 1 (omega arith) (sized (length a) && sized (length b)) (row 2 (isCode code) (row 3 (pointPasses L P) (layersChecked L a b))) (λ s.
-    small-row 2 (omega arith) (isCode code) (row 3 (pointPasses L P) (layersChecked L a b)) (λ e.
-    small-row 3 (omega arith) (pointPasses L P) (layersChecked L a b) (λ p.
+    small-row 1 (omega arith) (sized (length a) && sized (length b)) (row 2 (isCode code) (row 3 (pointPasses L P) (bothChecked L a b))) (λ s.
+    small-row 2 (omega arith) (isCode code) (row 3 (pointPasses L P) (bothChecked L a b)) (λ e.
+    small-row 3 (omega arith) (pointPasses L P) (bothChecked L a b) (λ p.
     small-layers L a b (and-left (sized (length a)) (sized (length b)) s) (and-right (sized (length a)) (sized (length b)) s))))

@@ -16,13 +16,12 @@ use Rattle.records.proofs.Records.{length-from}
 use Rattle.geometry.specs.declared.Checked.{Checked}
 use Rattle.geometry.specs.declared.Checked.the-variants.{Passed, Refused}
 use Rattle.geometry.specs.Trapezoids.{trapezoidCodec, layerOf}
-use Rattle.geometry.specs.Fitness.{FitFor, SmallRefusal, pass, firstRefusal}
+use Rattle.geometry.specs.Fitness.{FitFor, SmallRefusal, firstRefusal}
 use Rattle.geometry.proofs.Refusals.{SmallChecked, small-first}
 use Rattle.geometry.proofs.Fitness.{layer-exact}
 use Rattle.connectivity.specs.Components.{componentNumbers, componentCount, ComponentsOf}
 use Rattle.connectivity.proofs.Exact.{components-exact}
-use Rattle.calls.specs.Components.{listsSized, componentsChecked, refused, counted, observed, outcome, componentsOutcome, OutcomeExact}
-use Rattle.calls.specs.Rows.{row}
+use Rattle.calls.specs.Components.{listsSized, componentsChecked, refused-components, counted, observedComponents, countOutcome, componentsOutcome, OutcomeExact}
 use Rattle.calls.proofs.Rows.{sized-most}
 use Rattle.calls.proofs.Checks.{row-passed, small-row}
 
@@ -50,7 +49,7 @@ module _ (L : ℕ) (a : List ℤ) (numbers : List ℕ) (e : componentsChecked L 
   pub passed-few : length numbers ≤ maxRecords
   passed-few = omega (arith, lists-few a (length numbers) (rows .0), lists-one-each a (length numbers) (rows .0))
 
-  pub passed-outcome : {d : List ℕ} {n : ℕ} → d ≡ componentNumbers (layerOf a) → n ≡ componentCount (layerOf a) → observed (counted n) d ≡ componentsOutcome L a numbers
+  pub passed-outcome : {d : List ℕ} {n : ℕ} → d ≡ componentNumbers (layerOf a) → n ≡ componentCount (layerOf a) → observedComponents (counted n) d ≡ componentsOutcome L a numbers
   unfolding componentsOutcome
   passed-outcome {d} {n} f g = rw e (λ j. record { answer = counted (g j); numbers = f j })
 
@@ -64,7 +63,7 @@ small-checked L a n =
 pub refused-small : (L : ℕ) (a : List ℤ) (n : ℕ) {number place : ℕ} → componentsChecked L a n ≡ Refused number place → SmallRefusal number place
 refused-small L a n e = subst SmallChecked e (small-checked L a n)
 
-pub refused-outcome : (L : ℕ) (a : List ℤ) (numbers : List ℕ) {number place : ℕ} → componentsChecked L a (length numbers) ≡ Refused number place → observed (refused number place) numbers ≡ componentsOutcome L a numbers
+pub refused-outcome : (L : ℕ) (a : List ℤ) (numbers : List ℕ) {number place : ℕ} → componentsChecked L a (length numbers) ≡ Refused number place → observedComponents (refused-components number place) numbers ≡ componentsOutcome L a numbers
 unfolding componentsOutcome
 refused-outcome L a numbers e = rw e
 
@@ -74,8 +73,8 @@ unfolding componentsOutcome
 outcome-exact L a numbers n e = go (componentsChecked L a (length numbers)) refl e
   where
     go : (c : Checked) → componentsChecked L a (length numbers) ≡ c
-        → outcome c (observed (counted (componentCount (layerOf a))) (componentNumbers (layerOf a))) numbers .answer ≡ counted n
-        → ComponentsOf (layerOf a) (outcome c (observed (counted (componentCount (layerOf a))) (componentNumbers (layerOf a))) numbers .numbers) n
+        → countOutcome c (observedComponents (counted (componentCount (layerOf a))) (componentNumbers (layerOf a))) numbers .answer ≡ counted n
+        → ComponentsOf (layerOf a) (countOutcome c (observedComponents (counted (componentCount (layerOf a))) (componentNumbers (layerOf a))) numbers .numbers) n
     go Passed f g =
         let h : componentCount (layerOf a) ≡ n = cc in
         subst (ComponentsOf (layerOf a) (componentNumbers (layerOf a))) h (components-exact L (layerOf a) (passed-fit L a numbers f))

@@ -1,6 +1,6 @@
 -- The definitions compute, where no theorem can see a mistake: the order of the rows, and of the bytes of a word.
 use mathlib.Core.Path.{_≡_, refl}
-use mathlib.Core.List.{List, [], _∷_}
+use mathlib.Core.List.{List, [], _∷_, _++_}
 use Prim.Native.Nat.{ℕ}
 use lib.IntN.{ℤ, pos, negsuc}
 use Rattle.lists.specs.Lists.{cut}
@@ -15,7 +15,7 @@ use Rattle.levels.specs.Levels.{insert, levels}
 use Rattle.geometry.specs.declared.Trapezoid.{Trapezoid}
 use Rattle.geometry.specs.Limit.{onGrid}
 use Rattle.geometry.specs.Lines.{dx, dy, offset, det, numer}
-use Rattle.geometry.specs.Positions.{crosses, root, meet, heights, rightOf, below}
+use Rattle.geometry.specs.Positions.{crosses, ratio, meet, heights, rightOf, below}
 use Rattle.geometry.specs.Trapezoids.{trapezoidOf, trapezoidWords}
 use Rattle.geometry.specs.Fitness.{lineOnGrid, isLine, belowBetween, shapeVerdict, verdict, firstRefusal}
 use Rattle.geometry.specs.Polygons.{vertexOnGrid}
@@ -23,7 +23,8 @@ use Rattle.sweep.specs.Sums.{sum}
 use Rattle.sweep.specs.Segments.{spans, inside, crossInside}
 use Rattle.sweep.specs.Columns.{slabs, upTo, column}
 use Rattle.sweep.specs.Sweep.{columns, sweep}
-use Rattle.boolean.specs.Space.{space}
+use Rattle.boolean.specs.Operations.{difference}
+use Rattle.boolean.specs.Space.{space, differenceStages}
 use Rattle.fracture.specs.Polygons.{edge, edgesFrom, edges}
 use Rattle.fracture.specs.Fracture as fractures
 use Rattle.files.specs.Formats.{fileSized}
@@ -31,11 +32,12 @@ use Rattle.files.specs.Directory.{numberFrom, countOf, pairLength, endOf, pairs
 use Rattle.files.specs.Contents.{lengthsFrom, vertexOf, vertexWords}
 use Rattle.files.specs.Rows.{firstOffGrid, polygonFileChecked, layersChecked, layerFileChecked}
 use Rattle.files.specs.Outcomes as files
+use Rattle.files.specs.Outcomes.{refused, done}
 use Rattle.calls.specs.Components as connectivity
-use Rattle.calls.specs.Answers.{refused, refused-equality, refused-point}
+use Rattle.calls.specs.Answers.{refused-equality, refused-point}
 use Rattle.calls.specs.Rows.{plateLimit, pointPasses, fractureChecked, combineChecked, deoverlapChecked, equalChecked, containsChecked}
-use Rattle.calls.specs.Outcomes.{fractureOutcome, combined, deoverlapOutcome, equalOutcome, containsAnswer}
-use Rattle.calls.specs.Table.{box, Q, layer, q, vertex, fileOf, point}
+use Rattle.calls.specs.Outcomes.{observed, fractureOutcome, combined, deoverlapOutcome, equalOutcome, containsAnswer}
+use Rattle.calls.specs.Table.{box, Q, layer, q, lent, cleared, vertex, fileOf, point}
 
 -- ---- "Rows are checked downward": each input below breaks two rows or more
 -- no height (row 11), and beyond the grid (row 7)
@@ -48,6 +50,10 @@ far = box 0 0 2049 4
 -- a number of words that is no multiple of 24
 abbrev odd : List ℤ
 odd = pos 1 ∷ []
+
+-- a success: "Pieces go to the output from its first free record on; the rest is zero, and so is the work area." The union of Q and no trapezoid
+abbrev Written : Type 0
+Written = combined plateLimit 0 q [] (lent 2) (lent 2) ≡ observed (done 1 0) (q ++ cleared 1) (cleared 2)
 
 -- row 1, then 2, then 7 to 11, then 12 (Q and no room)
 abbrev Combined : Type 0
@@ -78,8 +84,8 @@ Others =
     (deoverlapOutcome plateLimit (layer (far ∷ [])) odd odd .answer ≡ refused 1 0)
     × (deoverlapOutcome plateLimit (layer (far ∷ [])) [] [] .answer ≡ refused 7 0)
     × (equalOutcome plateLimit (layer (far ∷ [])) [] odd odd .answer ≡ refused-equality 1 0)
-    × (connectivity.componentsOutcome plateLimit (layer (far ∷ [])) [] .answer ≡ connectivity.refused 1 0)
-    × (connectivity.componentsOutcome plateLimit (layer (far ∷ [])) (0 ∷ []) .answer ≡ connectivity.refused 7 0)
+    × (connectivity.componentsOutcome plateLimit (layer (far ∷ [])) [] .answer ≡ connectivity.refused-components 1 0)
+    × (connectivity.componentsOutcome plateLimit (layer (far ∷ [])) (0 ∷ []) .answer ≡ connectivity.refused-components 7 0)
 
 -- ---- files: row 1, then 4, 5, 6, 7, then 12
 abbrev bytes : List ℤ → List ℕ
@@ -116,17 +122,18 @@ Bytes =
     × (wordOf (2 ∷ 1 ∷ 0 ∷ 0 ∷ []) ≡ pos 258)
     × (wordOf (0 ∷ 248 ∷ 255 ∷ 255 ∷ []) ≡ negsuc 2047)
 
-examples : Combined × Places × Asked × Others × Polygons × Layers × Bytes
+examples : Written × Combined × Places × Asked × Others × Polygons × Layers × Bytes
 unfolding _⊕_ _⊖_ _⊗_ ⊝_ orderOf before sized recordAt recordsFrom wordsOf unsigned signed wordOf bytesOf insert levels
-    onGrid dx dy offset det numer crosses root meet heights rightOf below trapezoidOf trapezoidWords
-    lineOnGrid isLine belowBetween shapeVerdict verdict firstRefusal keep sum spans inside crossInside slabs upTo column columns sweep space
+    onGrid dx dy offset det numer crosses ratio meet heights rightOf below trapezoidOf trapezoidWords
+    lineOnGrid isLine belowBetween shapeVerdict verdict firstRefusal keep sum spans inside crossInside slabs upTo column columns sweep space difference differenceStages
     fileSized numberFrom countOf pairLength endOf pairsFrom directoryOf lengthsFrom cut vertexOf vertexWords vertexOnGrid firstOffGrid polygonFileChecked
     layersChecked layerFileChecked files.readLayers files.writeLayers
-    edge edgesFrom edges fractures.mark fractures.marks fractures.crossingsWith fractures.crossings fractures.events
+    edge edgesFrom edges fractures.mark fractures.marks fractures.edgeCrossingsWith fractures.edgeCrossings fractures.polygonEvents
     fractures.trapezoids fractures.fracture fractures.fractureAll
     connectivity.listsSized connectivity.componentsChecked connectivity.componentsOutcome
     pointPasses fractureChecked combineChecked deoverlapChecked equalChecked containsChecked fractureOutcome combined deoverlapOutcome equalOutcome containsAnswer
 examples = (
+  refl,
   (refl, refl, refl, refl),
   (refl, refl, refl),
   (refl, refl, refl, refl),

@@ -18,10 +18,10 @@ use Rattle.files.specs.Contents.{polygonsOf}
 use Rattle.files.specs.Rows.{polygonFileChecked}
 use Rattle.files.proofs.Small.{polygon-file-small}
 use Rattle.files.proofs.Grid.{checked-grid}
-use Rattle.calls.specs.Answers.{isDone}
+use Rattle.files.specs.Outcomes.{isDone}
 use Rattle.calls.specs.Rows.{buffersSized, fractureChecked}
 use Rattle.calls.specs.Outcomes.{roomOf, recordsOf, fracturedOf, fractureOutcome}
-use Rattle.calls.specs.Statements.{FitLayer}
+use Rattle.calls.specs.Statements.{FitAsInput}
 use Rattle.calls.proofs.Checks.{Buffers, row-passed, buffers-ready, small-row}
 use Rattle.calls.proofs.Room.{addition-room}
 use Rattle.calls.proofs.Success.{passed, outcome-wrote, layer-words, words-fit}
@@ -43,7 +43,7 @@ fracture-refused L file out scratch = small-row 1 (omega arith) (buffersSized ou
 -- ---- a success, with the records R
 pub record Fractures (L : ℕ) (file : List ℕ) (R : List ℤ) : Type 0 where
   pub is : layerOf R ≡ fracturedOf L file
-  pub fit : 0 < L → FitLayer L R
+  pub fit : 0 < L → FitAsInput L R
 
 pub fracture-accepted : (L : ℕ) (file : List ℕ) (out scratch : List ℤ) → T (isDone (fractureOutcome L file out scratch .answer))
     → Fractures L file (recordsOf (fractureOutcome L file out scratch .answer) (fractureOutcome L file out scratch .out))
@@ -55,4 +55,4 @@ fracture-accepted L file out scratch h =
     let r = fracture-ready L file (length out) (length scratch) (passed checked out scratch ts ms h) in
     let w = outcome-wrote checked out scratch ts ms h in
     let l : length ts ≤ maxRecords = omega (arith, addition-room (roomOf out) (length ts) (w .room), r .buffers .few) in
-    record { is = ap layerOf (w .is) ∙ layer-words ts; fit = λ p. subst (FitLayer L) (sym (w .is)) (words-fit L ts (fracture-fit L (polygonsOf (fileWords file)) p (checked-grid L file (r .rows))) l) }
+    record { is = ap layerOf (w .is) ∙ layer-words ts; fit = λ p. subst (FitAsInput L) (sym (w .is)) (words-fit L ts (fracture-fit L (polygonsOf (fileWords file)) p (checked-grid L file (r .rows))) l) }

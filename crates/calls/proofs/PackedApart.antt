@@ -2,11 +2,11 @@
 use mathlib.Core.Path.{_≡_, refl, sym, ap, ap₂}
 use Prim.Native.Nat.{ℕ, _+_, _^_, _<_}
 use native.Mathlib.Omega.{arith}
-use Rattle.files.specs.Outcomes as file
+use Rattle.files.specs.Outcomes.{refused, done}
 use Rattle.calls.specs.Components as connected
-use Rattle.calls.specs.Answers.{refused, done, refused-equality, same, differs, refused-point, yes, no}
+use Rattle.calls.specs.Answers.{refused-equality, same, differs, refused-point, yes, no}
 use Rattle.calls.specs.Packed.{refusal, success}
-use Rattle.calls.specs.PackedApart.{PackedApart, PackedEqualityApart, PackedPointApart, PackedFileApart, PackedCountApart}
+use Rattle.calls.specs.PackedApart.{PackedApart, PackedEqualityApart, PackedPointApart, PackedCountApart}
 
 -- ---- the bits, in two halves of which the low one is below 2³²
 -- equal numbers have equal halves
@@ -24,7 +24,7 @@ module _ {A : Type 0} (f : ℕ → ℕ → A) where
 kinds : {X : Type 0} (m p n q : ℕ) → n < 2 ^ 31 → q < 2 ^ 32 → refusal m p ≡ success n q → X
 kinds m p n q hn hq e = absurd (omega arith)
 
--- ---- the five packings
+-- ---- the four packings
 pub packed-apart : PackedApart
 packed-apart (refused m p) (refused n q) h k e = one-refusal refused m p n q (omega arith) (omega arith) e
 packed-apart (refused m p) (done n q) h k e = kinds m p n q (omega arith) (omega arith) e
@@ -42,8 +42,8 @@ packed-equality-apart (differs m p) (refused-equality n q) h k e = kinds n q (m 
 packed-equality-apart (differs m p) (same q) h k e = absurd (omega (arith, halves (m + 1) p 0 q (omega arith) (omega arith) e .0))
 packed-equality-apart (differs m p) (differs n q) h k e =
     let s = halves (m + 1) p (n + 1) q (omega arith) (omega arith) e in
-    let side : m ≡ n = omega (arith, s .0) in
-    ap₂ differs side (s .1)
+    let operand : m ≡ n = omega (arith, s .0) in
+    ap₂ differs operand (s .1)
 
 pub packed-point-apart : PackedPointApart
 packed-point-apart (refused-point m p) (refused-point n q) h k e = one-refusal refused-point m p n q (omega arith) (omega arith) e
@@ -56,14 +56,8 @@ packed-point-apart no (refused-point n q) h k e = kinds n q 0 0 (omega arith) (o
 packed-point-apart no yes h k e = absurd (omega arith)
 packed-point-apart no no h k e = refl
 
-pub packed-file-apart : PackedFileApart
-packed-file-apart (file.refused m p) (file.refused n q) h k e = one-refusal file.refused m p n q (omega arith) (omega arith) e
-packed-file-apart (file.refused m p) (file.done n q) h k e = kinds m p n q (omega arith) (omega arith) e
-packed-file-apart (file.done m p) (file.refused n q) h k e = kinds n q m p (omega arith) (omega arith) (sym e)
-packed-file-apart (file.done m p) (file.done n q) h k e = one-success file.done m p n q (omega arith) (omega arith) e
-
 pub packed-count-apart : PackedCountApart
-packed-count-apart (connected.refused m p) (connected.refused n q) h k e = one-refusal connected.refused m p n q (omega arith) (omega arith) e
-packed-count-apart (connected.refused m p) (connected.counted n) h k e = kinds m p n 0 (omega arith) (omega arith) e
-packed-count-apart (connected.counted m) (connected.refused n q) h k e = kinds n q m 0 (omega arith) (omega arith) (sym e)
+packed-count-apart (connected.refused-components m p) (connected.refused-components n q) h k e = one-refusal connected.refused-components m p n q (omega arith) (omega arith) e
+packed-count-apart (connected.refused-components m p) (connected.counted n) h k e = kinds m p n 0 (omega arith) (omega arith) e
+packed-count-apart (connected.counted m) (connected.refused-components n q) h k e = kinds n q m 0 (omega arith) (omega arith) (sym e)
 packed-count-apart (connected.counted m) (connected.counted n) h k e = one-success (λ components _. connected.counted components) m 0 n 0 (omega arith) (omega arith) e

@@ -11,11 +11,11 @@ use Rattle.geometry.specs.declared.Checked.{Checked}
 use Rattle.geometry.specs.declared.Checked.the-variants.{Passed, Refused}
 use Rattle.geometry.specs.Trapezoids.{layerOf}
 use Rattle.boolean.specs.Operations.{difference}
-use Rattle.boolean.specs.Space.{Space, enough, short, space, equalityMarks}
+use Rattle.boolean.specs.Space.{Space, enough, no-room, space, equalityStages}
 use Rattle.boolean.specs.Statements.{IsYes}
 use Rattle.boolean.proofs.Equality.{equality-exact, difference-some}
 use Rattle.calls.specs.Rows.{equalChecked}
-use Rattle.calls.specs.Answers.{EqualityAnswer, isRefused, isSame, isSide}
+use Rattle.calls.specs.Answers.{EqualityAnswer, isRefused, isSame, isOperand}
 use Rattle.calls.specs.Outcomes.{roomOf, compared, comparedIn, equalityOutcome, equalOutcome}
 use Rattle.calls.specs.Statements.{Compares}
 use Rattle.calls.proofs.Checks.{equal-ready}
@@ -34,32 +34,32 @@ some t ts e = subst Some e tt
 
 record ByDifferences (answer : EqualityAnswer) (ts us : List Trapezoid) : Type 0 where
   same : IsYes (isSame answer) (Empty ts × Empty us)
-  side-0 : IsYes (isSide 0 answer) (Empty ts → ⊥)
-  side-1 : IsYes (isSide 1 answer) (Empty ts × (Empty us → ⊥))
+  operand-0 : IsYes (isOperand 0 answer) (Empty ts → ⊥)
+  operand-1 : IsYes (isOperand 1 answer) (Empty ts × (Empty us → ⊥))
 
 compared-by : (ts us : List Trapezoid) (overlays : ℕ) → ByDifferences (compared ts us overlays) ts us
 compared-by [] [] overlays =
     record {
       same = ((λ h. (refl, refl)), (λ e. tt));
-      side-0 = ((λ h. absurd h), (λ n. n refl));
-      side-1 = ((λ h. absurd h), (λ n. n .1 refl));
+      operand-0 = ((λ h. absurd h), (λ n. n refl));
+      operand-1 = ((λ h. absurd h), (λ n. n .1 refl));
     }
 compared-by [] (u ∷ us) overlays =
     record {
       same = ((λ h. absurd h), (λ e. absurd (some u us (e .1))));
-      side-0 = ((λ h. absurd h), (λ n. n refl));
-      side-1 = ((λ h. (refl, some u us)), (λ n. tt));
+      operand-0 = ((λ h. absurd h), (λ n. n refl));
+      operand-1 = ((λ h. (refl, some u us)), (λ n. tt));
     }
 compared-by (t ∷ ts) us overlays =
     record {
       same = ((λ h. absurd h), (λ e. absurd (some t ts (e .0))));
-      side-0 = ((λ h. some t ts), (λ n. tt));
-      side-1 = ((λ h. absurd h), (λ n. absurd (some t ts (n .0))));
+      operand-0 = ((λ h. some t ts), (λ n. tt));
+      operand-1 = ((λ h. absurd h), (λ n. absurd (some t ts (n .0))));
     }
 
 compared-in-by : (ts us : List Trapezoid) (s : Space) → T (not (isRefused (comparedIn ts us s))) → ByDifferences (comparedIn ts us s) ts us
 compared-in-by ts us (enough overlays) h = compared-by ts us overlays
-compared-in-by ts us (short overlays) h = absurd h
+compared-in-by ts us (no-room overlays) h = absurd h
 
 -- ---- the rows
 record Passes (c : Checked) (out scratch : List ℤ) (answer : EqualityAnswer) : Type 0 where
@@ -82,10 +82,10 @@ compares L answer A B hA hB k =
     let g = difference-some L B A hB hA in
     record {
       same = ((λ x. e .0 (k .same .0 x)), (λ y. k .same .1 (e .1 y)));
-      side-0 = ((λ x. f .0 (k .side-0 .0 x)), (λ y. k .side-0 .1 (f .1 y)));
-      side-1 = (
-        (λ x. let d = k .side-1 .0 x in ((λ y. f .1 y (d .0)), g .0 (d .1))),
-        (λ y. k .side-1 .1 (decided (difference A B) (λ n. y .0 (f .0 n)), g .1 (y .1))),
+      operand-0 = ((λ x. f .0 (k .operand-0 .0 x)), (λ y. k .operand-0 .1 (f .1 y)));
+      operand-1 = (
+        (λ x. let d = k .operand-1 .0 x in ((λ y. f .1 y (d .0)), g .0 (d .1))),
+        (λ y. k .operand-1 .1 (decided (difference A B) (λ n. y .0 (f .0 n)), g .1 (y .1))),
       );
     }
 
@@ -95,7 +95,7 @@ unfolding equalOutcome
 equal-exactly L A B out scratch h =
     let ts = difference (layerOf A) (layerOf B) in
     let us = difference (layerOf B) (layerOf A) in
-    let s = space (roomOf out) (equalityMarks (layerOf A) (layerOf B)) in
+    let s = space (roomOf out) (equalityStages (layerOf A) (layerOf B)) in
     let p = passes (equalChecked L A B (length out) (length scratch)) out scratch (comparedIn ts us s) h in
     let f = equal-ready L A B (length out) (length scratch) (p .passed) in
     let k = compared-in-by ts us s (subst (λ (answer : EqualityAnswer). T (not (isRefused answer))) (p .answers) h) in

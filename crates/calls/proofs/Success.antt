@@ -22,12 +22,12 @@ use Rattle.geometry.specs.Fitness.{FitFor, firstRefusal}
 use Rattle.geometry.proofs.Fitness.{layer-exact}
 use Rattle.geometry.proofs.Trapezoids.{trapezoid-faithful}
 use Rattle.boolean.specs.Operations.{Code, codeAt, result, deoverlapped}
-use Rattle.boolean.specs.Space.{Mark, Space, enough, short, space, marks, deoverlappedMarks}
+use Rattle.boolean.specs.Space.{Stage, Space, enough, no-room, space, stages, deoverlappedStages}
 use Rattle.boolean.proofs.Kept.{result-fit, deoverlapped-fit}
+use Rattle.files.specs.Outcomes.{isDone}
 use Rattle.calls.specs.Rows.{combineChecked, deoverlapChecked}
 use Rattle.calls.specs.Outcomes.{roomOf, recordsOf, written, outcome, combined, deoverlapOutcome}
-use Rattle.calls.specs.Answers.{isDone}
-use Rattle.calls.specs.Statements.{FitLayer}
+use Rattle.calls.specs.Statements.{FitAsInput}
 use Rattle.calls.proofs.Room.{isEnough, result-room, deoverlapped-room}
 use Rattle.calls.proofs.Checks.{combine-ready, deoverlap-ready}
 
@@ -41,13 +41,13 @@ pub record Wrote (s : Space) (ts : List Trapezoid) (records : List ℤ) : Type 0
 
 wrote : (n : ℕ) (ts : List Trapezoid) (s : Space) → T (isDone (written n ts s .answer)) → Wrote s ts (recordsOf (written n ts s .answer) (written n ts s .out))
 wrote n ts (enough cuts) h = record { room = tt; is = image-take trapezoidCodec trapezoid-faithful n ts }
-wrote n ts (short cuts) h = absurd h
+wrote n ts (no-room cuts) h = absurd h
 
-pub passed : (c : Checked) (out scratch : List ℤ) (ts : List Trapezoid) (ms : List Mark) → T (isDone (outcome c out scratch ts ms .answer)) → c ≡ Passed
+pub passed : (c : Checked) (out scratch : List ℤ) (ts : List Trapezoid) (ms : List Stage) → T (isDone (outcome c out scratch ts ms .answer)) → c ≡ Passed
 passed Passed out scratch ts ms h = refl
 passed (Refused number place) out scratch ts ms h = absurd h
 
-pub outcome-wrote : (c : Checked) (out scratch : List ℤ) (ts : List Trapezoid) (ms : List Mark) → T (isDone (outcome c out scratch ts ms .answer))
+pub outcome-wrote : (c : Checked) (out scratch : List ℤ) (ts : List Trapezoid) (ms : List Stage) → T (isDone (outcome c out scratch ts ms .answer))
     → Wrote (space (roomOf out) ms) ts (recordsOf (outcome c out scratch ts ms .answer) (outcome c out scratch ts ms .out))
 outcome-wrote Passed out scratch ts ms h = wrote (length out) ts (space (roomOf out) ms) h
 outcome-wrote (Refused number place) out scratch ts ms h = absurd h
@@ -63,7 +63,7 @@ few-sized n h =
     (subst (λ (k : ℕ). T (eqb k 0)) (sym (mul-mod-right memoryWidth n)) (eqb-refl 0))
     (le→leb (memoryWidth * n) maxWords (omega arith))
 
-pub words-fit : (L : ℕ) (ts : List Trapezoid) → FitTrapezoids L ts → length ts ≤ maxRecords → FitLayer L (wordsOf trapezoidCodec ts)
+pub words-fit : (L : ℕ) (ts : List Trapezoid) → FitTrapezoids L ts → length ts ≤ maxRecords → FitAsInput L (wordsOf trapezoidCodec ts)
 words-fit L ts h l =
     record {
       size = subst (λ (n : ℕ). T (sized n)) (sym (length-words trapezoidCodec trapezoid-faithful ts)) (few-sized (length ts) l);
@@ -75,7 +75,7 @@ pub record Accepted (L : ℕ) (c : Code) (A B R : List ℤ) : Type 0 where
   pub first : FitTrapezoids L (layerOf A)
   pub second : FitTrapezoids L (layerOf B)
   pub is : layerOf R ≡ result c (layerOf A) (layerOf B)
-  pub fit : FitLayer L R
+  pub fit : FitAsInput L R
 
 pub combined-accepted : (L code : ℕ) (A B out scratch : List ℤ) → T (isDone (combined L code A B out scratch .answer))
     → Accepted L (codeAt code) A B (recordsOf (combined L code A B out scratch .answer) (combined L code A B out scratch .out))
@@ -83,7 +83,7 @@ unfolding combined
 combined-accepted L code A B out scratch h =
     let c = codeAt code in
     let ts = result c (layerOf A) (layerOf B) in
-    let ms = marks c (layerOf A) (layerOf B) in
+    let ms = stages c (layerOf A) (layerOf B) in
     let checked = combineChecked L code A B (length out) (length scratch) in
     let r = combine-ready L code A B (length out) (length scratch) (passed checked out scratch ts ms h) in
     let w = outcome-wrote checked out scratch ts ms h in
@@ -92,21 +92,21 @@ combined-accepted L code A B out scratch h =
       first = r .first .fit;
       second = r .second .fit;
       is = ap layerOf (w .is) ∙ layer-words ts;
-      fit = subst (FitLayer L) (sym (w .is)) (words-fit L ts (result-fit L (layerOf A) (layerOf B) (r .first .fit) (r .second .fit) c) l);
+      fit = subst (FitAsInput L) (sym (w .is)) (words-fit L ts (result-fit L (layerOf A) (layerOf B) (r .first .fit) (r .second .fit) c) l);
     }
 
 -- ---- a call that deoverlaps A, with the records R
 pub record Deoverlaps (L : ℕ) (A R : List ℤ) : Type 0 where
   pub layer : FitTrapezoids L (layerOf A)
   pub is : layerOf R ≡ deoverlapped (layerOf A)
-  pub fit : FitLayer L R
+  pub fit : FitAsInput L R
 
 pub deoverlap-accepted : (L : ℕ) (A out scratch : List ℤ) → T (isDone (deoverlapOutcome L A out scratch .answer))
     → Deoverlaps L A (recordsOf (deoverlapOutcome L A out scratch .answer) (deoverlapOutcome L A out scratch .out))
 unfolding deoverlapOutcome
 deoverlap-accepted L A out scratch h =
     let ts = deoverlapped (layerOf A) in
-    let ms = deoverlappedMarks [] (layerOf A) in
+    let ms = deoverlappedStages [] (layerOf A) in
     let checked = deoverlapChecked L A (length out) (length scratch) in
     let r = deoverlap-ready L A (length out) (length scratch) (passed checked out scratch ts ms h) in
     let w = outcome-wrote checked out scratch ts ms h in
@@ -114,5 +114,5 @@ deoverlap-accepted L A out scratch h =
     record {
       layer = r .layer .fit;
       is = ap layerOf (w .is) ∙ layer-words ts;
-      fit = subst (FitLayer L) (sym (w .is)) (words-fit L ts (deoverlapped-fit L (layerOf A) (r .layer .fit)) l);
+      fit = subst (FitAsInput L) (sym (w .is)) (words-fit L ts (deoverlapped-fit L (layerOf A) (r .layer .fit)) l);
     }

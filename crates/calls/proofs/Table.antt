@@ -11,8 +11,8 @@ use Rattle.records.specs.Words.{unsigned, signed, wordOf, bytesOf}
 use Rattle.levels.specs.Levels.{insert, levels}
 use Rattle.geometry.specs.Limit.{onGrid}
 use Rattle.geometry.specs.Lines.{dx, dy, offset, det, numer}
-use Rattle.geometry.specs.Positions.{crosses, root, meet, heights, rightOf, below}
-use Rattle.geometry.specs.Points.{side, under}
+use Rattle.geometry.specs.Positions.{crosses, ratio, meet, heights, rightOf, below}
+use Rattle.geometry.specs.Points.{orientation, under}
 use Rattle.geometry.specs.Trapezoids.{trapezoidOf, trapezoidWords, liesIn}
 use Rattle.geometry.specs.Fitness.{lineOnGrid, isLine, belowBetween, shapeVerdict, verdict, firstRefusal}
 use Rattle.geometry.specs.Ranges.{commonLeft, commonRight}
@@ -23,10 +23,10 @@ use Rattle.sweep.specs.Columns.{slabs, upTo, column}
 use Rattle.sweep.specs.Sweep.{columns, sweep}
 use Rattle.overlay.specs.Overlaps.{crossesInCommon, overlapRight, overlapFrom, overlaps}
 use Rattle.overlay.specs.Overlay as overlays
-use Rattle.boolean.specs.Operations.{less, lessAll, difference}
-use Rattle.boolean.specs.Space.{lessMarks, lessAllMarks, differenceMarks, space}
+use Rattle.boolean.specs.Operations.{minus, minusAll, difference}
+use Rattle.boolean.specs.Space.{minusStages, minusAllStages, differenceStages, space}
 use Rattle.connectivity.specs.Touching.{notAbove, touchesAt, crossesWithin, touchesFrom, touchesBetween, touches}
-use Rattle.connectivity.specs.Components.{ownNumbers, relabelled, joined, joinedFirst, joinedAll, owners, touchingAt, componentNumbers, componentCount}
+use Rattle.connectivity.specs.Components.{ownNumbers, relabelled, joinedNumbers, joinedFirst, joinedAll, owners, touchingAt, componentNumbers, componentCount}
 use Rattle.fracture.specs.Polygons.{edge, edgesFrom, edges}
 use Rattle.fracture.specs.Fracture as fractures
 use Rattle.files.specs.Formats.{fileSized}
@@ -40,15 +40,15 @@ use Rattle.calls.specs.Table.{Table}
 
 pub table : Table
 unfolding _⊕_ _⊖_ _⊗_ ⊝_ orderOf before sized recordAt recordsFrom wordsOf unsigned signed wordOf bytesOf insert levels
-    onGrid dx dy offset det numer crosses root meet heights rightOf below side under trapezoidOf trapezoidWords liesIn
+    onGrid dx dy offset det numer crosses ratio meet heights rightOf below orientation under trapezoidOf trapezoidWords liesIn
     lineOnGrid isLine belowBetween shapeVerdict verdict firstRefusal keep sum spans inside crossInside slabs upTo column columns sweep
-    commonLeft commonRight crossesInCommon overlapRight overlapFrom overlaps overlays.sides overlays.crossings overlays.events overlays.fills
+    commonLeft commonRight crossesInCommon overlapRight overlapFrom overlaps overlays.sides overlays.sideCrossings overlays.overlayEvents overlays.fills
     overlays.tagAbove overlays.stack overlays.parts overlays.subdivision overlays.overlay overlays.tagged
-    notAbove touchesAt crossesWithin touchesFrom touchesBetween touches ownNumbers relabelled joined joinedFirst joinedAll owners
+    notAbove touchesAt crossesWithin touchesFrom touchesBetween touches ownNumbers relabelled joinedNumbers joinedFirst joinedAll owners
     touchingAt componentNumbers componentCount listsSized componentsChecked componentsOutcome
-    less lessAll difference lessMarks lessAllMarks differenceMarks space
+    minus minusAll difference minusStages minusAllStages differenceStages space
     fileSized numberFrom countOf pairLength endOf pairsFrom directoryOf lengthsFrom cut vertexOf vertexWords vertexOnGrid firstOffGrid polygonFileChecked
-    edge edgesFrom edges fractures.mark fractures.marks fractures.crossingsWith fractures.crossings fractures.events
+    edge edgesFrom edges fractures.mark fractures.marks fractures.edgeCrossingsWith fractures.edgeCrossings fractures.polygonEvents
     fractures.trapezoids fractures.fracture fractures.fractureAll
     pointPasses fractureChecked combineChecked equalChecked containsChecked fractureOutcome combined equalOutcome containsAnswer
 table =

@@ -28,34 +28,34 @@ componentsChecked L a n = row 1 (listsSized a n) (firstRefusal L 0 (layerOf a))
 
 -- ---- the answer
 -- "A refusal answers its number and place, a success its pieces and cuts."; of components: "Each gets the lowest piece number of its component; the answer counts components."
-pub data Answer : Type 0 where
-  refused : (number place : ℕ) → Answer
-  counted : (components : ℕ) → Answer
+pub data ComponentsAnswer : Type 0 where
+  refused-components : (number place : ℕ) → ComponentsAnswer
+  counted : (components : ℕ) → ComponentsAnswer
 
-abbrev pub connectedAnswer : Connected → Answer
-connectedAnswer (connected.Refused number place) = refused number place
+abbrev pub connectedAnswer : Connected → ComponentsAnswer
+connectedAnswer (connected.Refused number place) = refused-components number place
 connectedAnswer (connected.Done components) = counted components
 
 -- the sizes of the numbers in it
-abbrev pub Small : Answer → Type 0
-Small (refused number place) = SmallRefusal number place
-Small (counted components) = components ≤ maxRecords
+abbrev pub SmallComponentsAnswer : ComponentsAnswer → Type 0
+SmallComponentsAnswer (refused-components number place) = SmallRefusal number place
+SmallComponentsAnswer (counted components) = components ≤ maxRecords
 
 -- ---- the answer, and the list of numbers
-pub record Outcome : Type 0 where
-  pub answer : Answer
+pub record ComponentsOutcome : Type 0 where
+  pub answer : ComponentsAnswer
   pub numbers : List ℕ
 
-abbrev pub observed : Answer → List ℕ → Outcome
-observed answer numbers = record { answer = answer; numbers = numbers }
+abbrev pub observedComponents : ComponentsAnswer → List ℕ → ComponentsOutcome
+observedComponents answer numbers = record { answer = answer; numbers = numbers }
 
 -- "1 to 11 change nothing."
-abbrev pub outcome : Checked → Outcome → List ℕ → Outcome
-outcome (Refused number place) done numbers = observed (refused number place) numbers
-outcome Passed done numbers = done
+abbrev pub countOutcome : Checked → ComponentsOutcome → List ℕ → ComponentsOutcome
+countOutcome (Refused number place) done numbers = observedComponents (refused-components number place) numbers
+countOutcome Passed done numbers = done
 
-unfoldable pub componentsOutcome : ℕ → List ℤ → List ℕ → Outcome
-componentsOutcome L a numbers = outcome (componentsChecked L a (length numbers)) (observed (counted (componentCount (layerOf a))) (componentNumbers (layerOf a))) numbers
+unfoldable pub componentsOutcome : ℕ → List ℤ → List ℕ → ComponentsOutcome
+componentsOutcome L a numbers = countOutcome (componentsChecked L a (length numbers)) (observedComponents (counted (componentCount (layerOf a))) (componentNumbers (layerOf a))) numbers
 
 -- ---- what a success means, for words of any number and content (proofs/Components.antt: `outcome-exact`)
 abbrev pub OutcomeExact : Type 0

@@ -15,7 +15,7 @@ use Rattle.calls.specs.declared.Deoverlapped.{Deoverlapped}
 use Rattle.calls.specs.declared.Equality.{Equality}
 use Rattle.calls.specs.declared.Containment.{Containment}
 use Rattle.calls.specs.Answers.{fracturedAnswer, combinedAnswer, deoverlappedAnswer, equalityAnswer, pointAnswer}
-use Rattle.calls.specs.Packed.{packed, packedEquality, packedPoint, packedFile, packedCount}
+use Rattle.calls.specs.Packed.{packed, packedEquality, packedPoint, packedCount}
 use Rattle.calls.specs.Rows.{pointAt}
 use Rattle.calls.specs.Outcomes.{Outcome, observed, fractureOutcome, combined, deoverlapOutcome, equalOutcome, containsAnswer}
 
@@ -38,20 +38,20 @@ ContainsKept L x y d a b code answer = pointAnswer answer ≡ containsAnswer L (
 
 -- ---- calls with one output
 abbrev pub ReadKept : ℕ → List ℕ → List ℤ → LayersRead → List ℤ → Type 0
-ReadKept L file out answer out-then = files.observed (files.readAnswer answer) out-then ≡ files.readLayers L file out
+ReadKept L file out answer out-then = files.observedFile (files.readAnswer answer) out-then ≡ files.readLayers L file out
 
 abbrev pub WriteKept : ℕ → List ℤ → List ℕ → LayersWritten → List ℕ → Type 0
-WriteKept L words out answer out-then = files.observed (files.writtenAnswer answer) out-then ≡ files.writeLayers L words out
+WriteKept L words out answer out-then = files.observedFile (files.writtenAnswer answer) out-then ≡ files.writeLayers L words out
 
 abbrev pub ComponentsKept : ℕ → List ℤ → List ℕ → Connected → List ℕ → Type 0
-ComponentsKept L a numbers answer numbers-then = connectivity.observed (connectivity.connectedAnswer answer) numbers-then ≡ connectivity.componentsOutcome L a numbers
+ComponentsKept L a numbers answer numbers-then = connectivity.observedComponents (connectivity.connectedAnswer answer) numbers-then ≡ connectivity.componentsOutcome L a numbers
 
 -- ---- the functions for C: the answer is one number. Of an outcome o, what was seen: the answer's number, and the words left
 abbrev pub SeenFromC : {A : Type 0} → (A → ℕ) → Outcome A → ℕ → List ℤ → List ℤ → Type 0
 SeenFromC pack o answer out scratch = (answer ≡ pack (o .answer)) × (out ≡ o .out) × (scratch ≡ o .scratch)
 
-abbrev pub FileSeenFromC : {W : Type 0} → files.Outcome W → ℕ → List W → Type 0
-FileSeenFromC o answer out = (answer ≡ packedFile (o .answer)) × (out ≡ o .out)
+abbrev pub FileSeenFromC : {W : Type 0} → files.FileOutcome W → ℕ → List W → Type 0
+FileSeenFromC o answer out = (answer ≡ packed (o .answer)) × (out ≡ o .out)
 
 abbrev pub FractureKeptForC : ℕ → List ℕ → List ℤ → List ℤ → ℕ → List ℤ → List ℤ → Type 0
 FractureKeptForC L file out scratch answer out-then scratch-then = SeenFromC packed (fractureOutcome L file out scratch) answer out-then scratch-then

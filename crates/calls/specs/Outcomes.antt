@@ -12,11 +12,12 @@ use Rattle.geometry.specs.declared.Checked.the-variants.{Passed, Refused}
 use Rattle.geometry.specs.Points.{Point}
 use Rattle.geometry.specs.Trapezoids.{trapezoidCodec, layerOf, liesInLayer}
 use Rattle.boolean.specs.Operations.{codeAt, result, difference, deoverlapped}
-use Rattle.boolean.specs.Space.{Mark, addition, Space, enough, short, space, marks, deoverlappedMarks, equalityMarks}
+use Rattle.boolean.specs.Space.{Stage, addition, Space, enough, no-room, space, stages, deoverlappedStages, equalityStages}
 use Rattle.fracture.specs.Fracture.{fractureAll}
 use Rattle.files.specs.Formats.{fileWords}
 use Rattle.files.specs.Contents.{polygonsOf}
-use Rattle.calls.specs.Answers.{Answer, refused, done, EqualityAnswer, refused-equality, same, differs, PointAnswer, refused-point, yes, no}
+use Rattle.files.specs.Outcomes.{Answer, refused, done}
+use Rattle.calls.specs.Answers.{EqualityAnswer, refused-equality, same, differs, PointAnswer, refused-point, yes, no}
 use Rattle.calls.specs.Rows.{fractureChecked, combineChecked, deoverlapChecked, equalChecked, containsChecked}
 
 pub record Outcome (A : Type 0) : Type 0 where
@@ -45,10 +46,10 @@ recordsOf (done pieces overlays) out = take (memoryWidth * pieces) out
 -- addition of the definition, the result so far plus the pieces in hand exceed the output; output and work area are then zero."
 abbrev pub written : ℕ → List Trapezoid → Space → Outcome Answer
 written n ts (enough overlays) = record { answer = done (length ts) overlays; out = image trapezoidCodec n ts; scratch = zeros n }
-written n ts (short overlays) = record { answer = refused 12 0; out = zeros n; scratch = zeros n }
+written n ts (no-room overlays) = record { answer = refused 12 0; out = zeros n; scratch = zeros n }
 
 -- "1 to 11 change nothing."
-abbrev pub outcome : Checked → List ℤ → List ℤ → List Trapezoid → List Mark → Outcome Answer
+abbrev pub outcome : Checked → List ℤ → List ℤ → List Trapezoid → List Stage → Outcome Answer
 outcome (Refused number place) out scratch ts ms = record { answer = refused number place; out = out; scratch = scratch }
 outcome Passed out scratch ts ms = written (length out) ts (space (roomOf out) ms)
 
@@ -62,11 +63,11 @@ fractureOutcome L file out scratch = outcome (fractureChecked L file (length out
 -- the five set operations, by the code's number
 unfoldable pub combined : ℕ → ℕ → List ℤ → List ℤ → List ℤ → List ℤ → Outcome Answer
 combined L code a b out scratch =
-    outcome (combineChecked L code a b (length out) (length scratch)) out scratch (result (codeAt code) (layerOf a) (layerOf b)) (marks (codeAt code) (layerOf a) (layerOf b))
+    outcome (combineChecked L code a b (length out) (length scratch)) out scratch (result (codeAt code) (layerOf a) (layerOf b)) (stages (codeAt code) (layerOf a) (layerOf b))
 
 -- deoverlapping (paper 01: disjointing)
 unfoldable pub deoverlapOutcome : ℕ → List ℤ → List ℤ → List ℤ → Outcome Answer
-deoverlapOutcome L a out scratch = outcome (deoverlapChecked L a (length out) (length scratch)) out scratch (deoverlapped (layerOf a)) (deoverlappedMarks [] (layerOf a))
+deoverlapOutcome L a out scratch = outcome (deoverlapChecked L a (length out) (length scratch)) out scratch (deoverlapped (layerOf a)) (deoverlappedStages [] (layerOf a))
 
 -- ---- equality (paper 01: sameness)
 -- "A−B, and B−A only if that was empty. Answers same, or differs with side 0 (A−B) or 1."
@@ -77,7 +78,7 @@ compared (t ∷ ts) us overlays = differs 0 overlays
 
 abbrev pub comparedIn : List Trapezoid → List Trapezoid → Space → EqualityAnswer
 comparedIn ts us (enough overlays) = compared ts us overlays
-comparedIn ts us (short overlays) = refused-equality 12 0
+comparedIn ts us (no-room overlays) = refused-equality 12 0
 
 -- "Sameness leaves both zero."
 abbrev pub equalityOutcome : Checked → List ℤ → List ℤ → EqualityAnswer → Outcome EqualityAnswer
@@ -87,7 +88,7 @@ equalityOutcome Passed out scratch answer = record { answer = answer; out = zero
 unfoldable pub equalOutcome : ℕ → List ℤ → List ℤ → List ℤ → List ℤ → Outcome EqualityAnswer
 equalOutcome L a b out scratch =
     equalityOutcome (equalChecked L a b (length out) (length scratch)) out scratch
-    (comparedIn (difference (layerOf a) (layerOf b)) (difference (layerOf b) (layerOf a)) (space (roomOf out) (equalityMarks (layerOf a) (layerOf b))))
+    (comparedIn (difference (layerOf a) (layerOf b)) (difference (layerOf b) (layerOf a)) (space (roomOf out) (equalityStages (layerOf a) (layerOf b))))
 
 -- ---- whether a point lies in the result (paper 01: point question)
 abbrev pub asked : Checked → Bool → PointAnswer

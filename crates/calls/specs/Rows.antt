@@ -43,21 +43,21 @@ unfoldable pub pointPasses : ℕ → Point → Bool
 pointPasses L P = (leZ (pos 1) (P .D) && leZ (P .D) (pos 1024)) && (withinTimes L (P .X) (P .D) && withinTimes L (P .Y) (P .D))
 
 -- rows 7 to 11: "A's pieces before B's, numbered on from A"
-abbrev pub layersChecked : ℕ → List ℤ → List ℤ → Checked
-layersChecked L a b = firstRefusal L 0 (layerOf a ++ layerOf b)
+abbrev pub bothChecked : ℕ → List ℤ → List ℤ → Checked
+bothChecked L a b = firstRefusal L 0 (layerOf a ++ layerOf b)
 
 -- ---- the rows of each call, under a coordinate limit, with an output and a scratch area of so many words
 unfoldable pub fractureChecked : ℕ → List ℕ → ℕ → ℕ → Checked
 fractureChecked L file out scratch = row 1 (buffersSized out scratch) (polygonFileChecked L file)
 
 unfoldable pub combineChecked : ℕ → ℕ → List ℤ → List ℤ → ℕ → ℕ → Checked
-combineChecked L code a b out scratch = row 1 (sized (length a) && (sized (length b) && buffersSized out scratch)) (row 2 (isCode code) (layersChecked L a b))
+combineChecked L code a b out scratch = row 1 (sized (length a) && (sized (length b) && buffersSized out scratch)) (row 2 (isCode code) (bothChecked L a b))
 
 unfoldable pub deoverlapChecked : ℕ → List ℤ → ℕ → ℕ → Checked
 deoverlapChecked L a out scratch = row 1 (sized (length a) && buffersSized out scratch) (firstRefusal L 0 (layerOf a))
 
 unfoldable pub equalChecked : ℕ → List ℤ → List ℤ → ℕ → ℕ → Checked
-equalChecked L a b out scratch = row 1 (sized (length a) && (sized (length b) && buffersSized out scratch)) (layersChecked L a b)
+equalChecked L a b out scratch = row 1 (sized (length a) && (sized (length b) && buffersSized out scratch)) (bothChecked L a b)
 
 unfoldable pub containsChecked : ℕ → Point → List ℤ → List ℤ → ℕ → Checked
-containsChecked L P a b code = row 1 (sized (length a) && sized (length b)) (row 2 (isCode code) (row 3 (pointPasses L P) (layersChecked L a b)))
+containsChecked L P a b code = row 1 (sized (length a) && sized (length b)) (row 2 (isCode code) (row 3 (pointPasses L P) (bothChecked L a b)))

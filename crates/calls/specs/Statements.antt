@@ -20,11 +20,12 @@ use Rattle.boolean.specs.Statements.{IsYes, SamePoints, Beyond}
 use Rattle.fracture.specs.Statements.{Wound, SidesOfOne}
 use Rattle.files.specs.Formats.{fileWords}
 use Rattle.files.specs.Contents.{polygonsOf}
-use Rattle.calls.specs.Answers.{EqualityAnswer, isDone, isRefused, isSame, isSide, isAnswered, isYes}
+use Rattle.files.specs.Outcomes.{isDone}
+use Rattle.calls.specs.Answers.{EqualityAnswer, isRefused, isSame, isOperand, isAnswered, isYes}
 use Rattle.calls.specs.Outcomes.{recordsOf, fractureOutcome, combined, deoverlapOutcome, equalOutcome, containsAnswer}
 
 -- "fit as input if row 1 accepts its length and rows 7 to 11 find nothing in its pieces", under the limit of the call that made it or takes it
-pub record FitLayer (L : ℕ) (a : List ℤ) : Type 0 where
+pub record FitAsInput (L : ℕ) (a : List ℤ) : Type 0 where
   pub size : T (sized (length a))
   pub rows : firstRefusal L 0 (layerOf a) ≡ Passed
 
@@ -37,7 +38,7 @@ fracturedLayer L file out scratch = recordsOf (fractureOutcome L file out scratc
 abbrev pub FractureFileExact : Type 0
 FractureFileExact =
     (L : ℕ) (file : List ℕ) (out scratch : List ℤ) → T (isDone (fractureOutcome L file out scratch .answer))
-    → (0 < L → FitLayer L (fracturedLayer L file out scratch))
+    → (0 < L → FitAsInput L (fracturedLayer L file out scratch))
     × ((P : Point) → IsPoint P → LiesInLayer P (layerOf (fracturedLayer L file out scratch)) ↔ Any (Wound P) (polygonsOf (fileWords file)))
     × All (SidesOfOne (polygonsOf (fileWords file))) (layerOf (fracturedLayer L file out scratch))
 
@@ -49,7 +50,7 @@ combinedLayer L code a b out scratch = recordsOf (combined L code a b out scratc
 abbrev pub CombineExact : Type 0
 CombineExact =
     (L code : ℕ) (a b out scratch : List ℤ) → T (isDone (combined L code a b out scratch .answer))
-    → FitLayer L (combinedLayer L code a b out scratch)
+    → FitAsInput L (combinedLayer L code a b out scratch)
     × ((P : Point) → IsPoint P → (x y : Bool) → IsYes x (LiesInLayer P (layerOf a)) → IsYes y (LiesInLayer P (layerOf b))
     → IsYes (says (codeAt code) x y) (LiesInLayer P (layerOf (combinedLayer L code a b out scratch))))
 
@@ -61,16 +62,16 @@ deoverlappedLayer L a out scratch = recordsOf (deoverlapOutcome L a out scratch 
 abbrev pub DeoverlapExact : Type 0
 DeoverlapExact =
     (L : ℕ) (a out scratch : List ℤ) → T (isDone (deoverlapOutcome L a out scratch .answer))
-    → FitLayer L (deoverlappedLayer L a out scratch) × Disjoint (layerOf (deoverlappedLayer L a out scratch)) × SamePoints (layerOf (deoverlappedLayer L a out scratch)) (layerOf a)
+    → FitAsInput L (deoverlappedLayer L a out scratch) × Disjoint (layerOf (deoverlappedLayer L a out scratch)) × SamePoints (layerOf (deoverlappedLayer L a out scratch)) (layerOf a)
 
 -- what an answer of the equality test says of two layers
 pub record Compares (answer : EqualityAnswer) (A B : List Trapezoid) : Type 0 where
   -- same exactly if no rational point lies in one and not in the other
   pub same : IsYes (isSame answer) (SamePoints A B)
   -- "differs with side 0 (A−B)" exactly if some rational point lies in A and not in B
-  pub side-0 : IsYes (isSide 0 answer) (Beyond A B)
+  pub operand-0 : IsYes (isOperand 0 answer) (Beyond A B)
   -- "or 1" exactly if none does, and some lies in B and not in A
-  pub side-1 : IsYes (isSide 1 answer) ((Beyond A B → ⊥) × Beyond B A)
+  pub operand-1 : IsYes (isOperand 1 answer) ((Beyond A B → ⊥) × Beyond B A)
 
 -- `equal`, where it is not refused, says that of the layers that it is lent, in this order
 abbrev pub EqualExact : Type 0

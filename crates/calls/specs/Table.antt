@@ -15,8 +15,9 @@ use Rattle.geometry.specs.Trapezoids.{trapezoidCodec}
 use Rattle.geometry.specs.declared.Vertex.{Vertex}
 use Rattle.overlay.specs.Overlay.{Part, overlay}
 use Rattle.files.specs.Contents.{vertexCodec}
+use Rattle.files.specs.Outcomes.{refused, done}
 use Rattle.calls.specs.Components as connectivity
-use Rattle.calls.specs.Answers.{refused, done, same, yes, no}
+use Rattle.calls.specs.Answers.{same, yes, no}
 use Rattle.calls.specs.Rows.{plateLimit, pointAt}
 use Rattle.calls.specs.Outcomes.{observed, zeros, fractureOutcome, combined, equalOutcome, containsAnswer}
 
@@ -100,7 +101,7 @@ pub record Table : Type 0 where
   pub d-counts : combined plateLimit 4 q r (lent 4) (lent 4) .answer ≡ done 4 2
   -- "(e) Q and [4,8)×[0,4): tags 1,2, one component." Both get the number 0, in a list that held 7 and 7.
   pub e-tags : tags (overlay Q S) ≡ 1 ∷ 2 ∷ []
-  pub e-components : connectivity.componentsOutcome plateLimit (layer (Q ∷ S ∷ [])) (7 ∷ 7 ∷ []) ≡ connectivity.observed (connectivity.counted 1) (0 ∷ 0 ∷ [])
+  pub e-components : connectivity.componentsOutcome plateLimit (layer (Q ∷ S ∷ [])) (7 ∷ 7 ∷ []) ≡ connectivity.observedComponents (connectivity.counted 1) (0 ∷ 0 ∷ [])
   -- "(f) (4,0,1) isn't in Q, (0,0,1) is." Asked of the union (code 0) of Q and the empty layer.
   pub f-outside : containsAnswer plateLimit (point 4 0 1) q [] 0 ≡ no
   pub f-inside : containsAnswer plateLimit (point 0 0 1) q [] 0 ≡ yes

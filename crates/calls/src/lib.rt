@@ -21,11 +21,11 @@ pub enum Deoverlapped {
     Done { pieces: usize, overlays: usize },
 }
 
-// What `equal` answers. Side 0: the first layer has points that the second has not; side 1: only the second has.
+// What `equal` answers. Operand 0 (paper 01: side 0): the first layer has points that the second has not; operand 1: only the second has.
 pub enum Equality {
     Refused { number: u32, place: usize },
     Same { overlays: usize },
-    Differs { side: u32, overlays: usize },
+    Differs { operand: u32, overlays: usize },
 }
 
 // What `contains` answers.

@@ -4,7 +4,8 @@ use mathlib.Core.Bool.{Bool, true, false, _&&_}
 use mathlib.Core.List.{List, [], _∷_, _++_}
 use lib.Dec.{T}
 use lib.ListN.{length, drop}
-use Rattle.calls.specs.Answers.{Answer, combinedAnswer, isDone}
+use Rattle.files.specs.Outcomes.{Answer, isDone}
+use Rattle.calls.specs.Answers.{combinedAnswer}
 use Rattle.calls.specs.Outcomes.{Outcome, recordsOf}
 use Rattle.chains.specs.Chains.{Layer, outcomeOf, called, added, resultOf, stepped, run, Call, stepsOf, Kept, KeptIfCalled, grown, held, results, Contracts}
 use Rattle.chains.specs.Statements.{Defined}

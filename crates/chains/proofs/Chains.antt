@@ -9,7 +9,7 @@ use Rattle.lists.specs.Lists.{All}
 use Rattle.geometry.specs.Points.{Point, IsPoint}
 use Rattle.geometry.specs.Trapezoids.{layerOf, LiesInLayer, liesInLayer}
 use Rattle.boolean.specs.Statements.{IsYes, SamePoints}
-use Rattle.calls.specs.Statements.{FitLayer}
+use Rattle.calls.specs.Statements.{FitAsInput}
 use Rattle.chains.specs.Chains.{Layer, layerAt, run, limits, Step, told, evaluate, Call, stepsOf, held, Contracts, entryAt, fed, evaluation, merged}
 use Rattle.chains.specs.Statements.{DisjointLayer, startingTrapezoids, Each, Agree, NeverDiffers, Promised, Joined, EveryChain}
 use Rattle.chains.proofs.Steps.{run-disjoint, found-fit}
@@ -51,7 +51,7 @@ promised start disjoint calls h =
       entries = λ ys e. evaluate-length ys start (stepsOf calls) e ∙ ap length (sym are);
       disjoint = subst (All DisjointLayer) (sym are) (run-disjoint start (stepsOf calls) disjoint);
       lines = subst (All (LayerLines (startingTrapezoids start))) (sym are) (run-lines start (stepsOf calls));
-      fit = subst (λ (now : List Layer). Each FitLayer (limits start (stepsOf calls)) (drop (length start) now)) (sym are) (found-fit start (stepsOf calls));
+      fit = subst (λ (now : List Layer). Each FitAsInput (limits start (stepsOf calls)) (drop (length start) now)) (sym are) (found-fit start (stepsOf calls));
       same = λ m n. same-exactly (layerAt (held start calls) m) (layerAt (held start calls) n);
       agreed = agreed start calls calls h h;
     }

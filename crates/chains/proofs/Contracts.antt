@@ -5,7 +5,8 @@ use mathlib.Core.List.{List, [], _∷_, _++_, map, append-nil}
 use Prim.Native.Nat.{ℕ}
 use lib.Dec.{T}
 use lib.ListN.{length, drop}
-use Rattle.calls.specs.Answers.{combinedAnswer, isDone}
+use Rattle.files.specs.Outcomes.{isDone}
+use Rattle.calls.specs.Answers.{combinedAnswer}
 use Rattle.calls.specs.Outcomes.{recordsOf}
 use Rattle.chains.specs.Chains.{Layer, Step, outcomeOf, called, added, Call, stepsOf, KeptIfCalled, grown, held, results, Contracts, renumberedStep, renumbered, merged}
 use Rattle.chains.proofs.Success.{called-exact, kept-called}

@@ -17,16 +17,16 @@ use Rattle.geometry.specs.declared.Line.{Line}
 use Rattle.geometry.specs.declared.Trapezoid.{Trapezoid}
 use Rattle.geometry.specs.Limit.{onGrid}
 use Rattle.geometry.specs.Lines.{dx, dy, offset, det, numer}
-use Rattle.geometry.specs.Positions.{crosses, root, meet, heights, rightOf, below}
+use Rattle.geometry.specs.Positions.{crosses, ratio, meet, heights, rightOf, below}
 use Rattle.geometry.specs.Trapezoids.{trapezoidOf, trapezoidWords}
 use Rattle.geometry.specs.Fitness.{lineOnGrid, isLine, belowBetween, shapeVerdict, verdict, firstRefusal}
 use Rattle.geometry.specs.Ranges.{commonLeft, commonRight}
 use Rattle.sweep.specs.Segments.{spans}
 use Rattle.sweep.specs.Sweep.{columns, sweep}
 use Rattle.overlay.specs.Overlaps.{crossesInCommon, overlapRight, overlapFrom, overlaps}
-use Rattle.overlay.specs.Overlay.{sides, crossings, events, fills, tagAbove, stack, parts, subdivision, overlay, tagged}
-use Rattle.boolean.specs.Operations.{less, lessAll, difference, common, intersection}
-use Rattle.boolean.specs.Space.{lessMarks, lessAllMarks, differenceMarks, commonMarks, intersectionMarks, space}
+use Rattle.overlay.specs.Overlay.{sides, sideCrossings, overlayEvents, fills, tagAbove, stack, parts, subdivision, overlay, tagged}
+use Rattle.boolean.specs.Operations.{minus, minusAll, difference, common, intersection}
+use Rattle.boolean.specs.Space.{minusStages, minusAllStages, differenceStages, commonStages, intersectionStages, space}
 use Rattle.calls.specs.declared.Combined.{Combined}
 use Rattle.calls.specs.declared.Combined.the-variants.{Refused, Done}
 use Rattle.calls.specs.Rows.{plateLimit, combineChecked}
@@ -62,7 +62,7 @@ no-code = call 5 0 1 2 (Refused 2 0) (lent 2) (lent 2)
 abbrev one : List Call
 one = no-code ∷ call 2 0 1 1 (Refused 12 0) (cleared 1) (cleared 1) ∷ call 2 0 1 2 (Done 2 1) q-r (cleared 2) ∷ call 0 0 3 2 (Done 2 1) q-r (lent 2) ∷ []
 
--- two equal numbers, "which may be equal": Q less itself is called, and adds a layer of no trapezoids
+-- two equal numbers, "which may be equal": Q minus itself is called, and adds a layer of no trapezoids
 abbrev itself : Call
 itself = call 2 0 0 1 (Done 0 1) (cleared 1) (cleared 1)
 
@@ -73,7 +73,7 @@ no-first = call 0 2 0 2 (Done 2 1) q-r (lent 2)
 abbrev no-second : Call
 no-second = call 0 0 2 2 (Done 2 1) q-r (lent 2)
 
--- Q∩R is layer 2, and Q less layer 2 is layer 3
+-- Q∩R is layer 2, and Q minus layer 2 is layer 3
 abbrev two : List Call
 two = call 1 0 1 1 (Done 1 1) q∩r (cleared 1) ∷ call 2 0 2 2 (Done 2 1) q-r (cleared 2) ∷ []
 
@@ -95,7 +95,7 @@ Holds calls results = (held start calls ≡ q ∷ r ∷ results) × (run start (
 abbrev Made : Type 0
 Made = Contracts start one × Contracts start two
 
--- the limits of the steps that add a result: those of `one`, and then Q less itself under the limit 5, which Q's coordinates reach
+-- the limits of the steps that add a result: those of `one`, and then Q minus itself under the limit 5, which Q's coordinates reach
 abbrev Limits : Type 0
 Limits = limits start (stepsOf one ++ (record { limit = 5; code = 2; first = 0; second = 0; out = lent 1; scratch = lent 1 } ∷ [])) ≡ plateLimit ∷ 5 ∷ []
 
@@ -113,10 +113,10 @@ Numbers =
 
 chains : Made × Holds one (q-r ∷ []) × Holds two (q∩r ∷ q-r ∷ []) × Holds both (q-r ∷ q∩r ∷ q-r ∷ []) × (told start (stepsOf both) ≡ tells) × Limits × Numbers
 unfolding _⊕_ _⊖_ _⊗_ ⊝_ orderOf before sized recordAt recordsFrom wordsOf insert levels
-    onGrid dx dy offset det numer crosses root meet heights rightOf below trapezoidOf trapezoidWords
+    onGrid dx dy offset det numer crosses ratio meet heights rightOf below trapezoidOf trapezoidWords
     lineOnGrid isLine belowBetween shapeVerdict verdict firstRefusal keep spans columns sweep
-    commonLeft commonRight crossesInCommon overlapRight overlapFrom overlaps sides crossings events fills tagAbove stack parts subdivision overlay tagged
-    less lessAll difference common intersection lessMarks lessAllMarks differenceMarks commonMarks intersectionMarks space
+    commonLeft commonRight crossesInCommon overlapRight overlapFrom overlaps sides sideCrossings overlayEvents fills tagAbove stack parts subdivision overlay tagged
+    minus minusAll difference common intersection minusStages minusAllStages differenceStages commonStages intersectionStages space
     combineChecked combined outcomeOf called run limits held Contracts told
 chains = (
   ((λ f g. refl, (λ f g. refl, (λ f g. refl, (λ f g. absurd (absent 3 g), tt)))), (λ f g. refl, (λ f g. refl, tt))),

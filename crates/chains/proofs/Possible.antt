@@ -1,9 +1,10 @@
 -- For every list of steps there are calls that keep the contract: those that answer and write what the definition says.
 use mathlib.Core.Path.{_≡_, refl, sym, ap, subst}
 use mathlib.Core.List.{List, [], _∷_}
+use Rattle.files.specs.Outcomes.{Answer, refused, done}
 use Rattle.calls.specs.declared.Combined.{Combined}
 use Rattle.calls.specs.declared.Combined.the-variants as combined
-use Rattle.calls.specs.Answers.{Answer, refused, done, combinedAnswer}
+use Rattle.calls.specs.Answers.{combinedAnswer}
 use Rattle.calls.specs.Outcomes.{observed}
 use Rattle.chains.specs.Chains.{Layer, Step, outcomeOf, stepped, run, Call, stepsOf, Kept, KeptIfCalled, held, Contracts}
 use Rattle.chains.specs.Statements.{ChainsPossible}

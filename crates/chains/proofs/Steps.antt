@@ -11,7 +11,7 @@ use Rattle.lists.proofs.Lists.{all-append, all-at}
 use Rattle.geometry.specs.Trapezoids.{Disjoint, layerOf}
 use Rattle.boolean.specs.Operations.{Code, codeAt}
 use Rattle.boolean.proofs.Results.{result-disjoint}
-use Rattle.calls.specs.Statements.{FitLayer}
+use Rattle.calls.specs.Statements.{FitAsInput}
 use Rattle.calls.proofs.Success.{Accepted}
 use Rattle.chains.specs.Chains.{Layer, layerAt, Step, succeeds, added, resultOf, stepped, run, limits}
 use Rattle.chains.specs.Statements.{DisjointLayer, Each}
@@ -50,14 +50,14 @@ found start steps = drop (length start) (run start steps)
 record Grown (layers now : List Layer) (under : List ℕ) : Type 0 where
   more : List Layer
   is : now ≡ layers ++ more
-  fit : Each FitLayer under more
+  fit : Each FitAsInput under more
 
 run-grows : (layers : List Layer) (steps : List Step) → Grown layers (run layers steps) (limits layers steps)
 unfolding run limits
 run-grows layers [] = record { more = []; is = sym (append-nil layers); fit = tt }
 run-grows layers (s ∷ steps) = go (succeeds layers s) (λ t. success-gives layers s t .call .fit) (λ b. run-grows (added b layers (resultOf layers s)) steps)
   where
-    go : (b : Bool) → (T b → FitLayer (s .limit) (resultOf layers s)) → ((d : Bool) → Grown (added d layers (resultOf layers s)) (run (added d layers (resultOf layers s)) steps) (limits (added d layers (resultOf layers s)) steps))
+    go : (b : Bool) → (T b → FitAsInput (s .limit) (resultOf layers s)) → ((d : Bool) → Grown (added d layers (resultOf layers s)) (run (added d layers (resultOf layers s)) steps) (limits (added d layers (resultOf layers s)) steps))
         → Grown layers (run (added b layers (resultOf layers s)) steps) (added b [] (s .limit) ++ limits (added b layers (resultOf layers s)) steps)
     go true f g =
         record {
@@ -73,5 +73,5 @@ found-are start steps = ap (drop (length start)) (run-grows start steps .is) ∙
 pub run-kept : (start : List Layer) (steps : List Step) → run start steps ≡ start ++ found start steps
 run-kept start steps = run-grows start steps .is ∙ ap (λ (more : List Layer). start ++ more) (sym (found-are start steps))
 
-pub found-fit : (start : List Layer) (steps : List Step) → Each FitLayer (limits start steps) (found start steps)
-found-fit start steps = subst (Each FitLayer (limits start steps)) (sym (found-are start steps)) (run-grows start steps .fit)
+pub found-fit : (start : List Layer) (steps : List Step) → Each FitAsInput (limits start steps) (found start steps)
+found-fit start steps = subst (Each FitAsInput (limits start steps)) (sym (found-are start steps)) (run-grows start steps .fit)

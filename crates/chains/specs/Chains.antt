@@ -10,9 +10,10 @@ use lib.IntN.{ℤ}
 use Rattle.geometry.specs.Points.{Point}
 use Rattle.geometry.specs.Trapezoids.{layerOf, liesInLayer}
 use Rattle.boolean.specs.Operations.{codeAt, says}
+use Rattle.files.specs.Outcomes.{Answer, isDone}
 use Rattle.calls.specs.declared.Combined.{Combined}
 use Rattle.calls.specs.declared.Equality.{Equality}
-use Rattle.calls.specs.Answers.{Answer, combinedAnswer, isDone}
+use Rattle.calls.specs.Answers.{combinedAnswer}
 use Rattle.calls.specs.Outcomes.{Outcome, recordsOf, combined}
 use Rattle.calls.specs.Contracts.{CombineKept, EqualKept}
 

@@ -11,7 +11,7 @@ use Rattle.geometry.specs.Points.{Point, IsPoint}
 use Rattle.geometry.specs.Trapezoids.{layerOf, LiesInLayer, Disjoint}
 use Rattle.boolean.specs.Statements.{IsYes, LinesFrom}
 use Rattle.calls.specs.Answers.{equalityAnswer, isRefused, isSame}
-use Rattle.calls.specs.Statements.{FitLayer, Compares}
+use Rattle.calls.specs.Statements.{FitAsInput, Compares}
 use Rattle.chains.specs.Chains.{Layer, layerAt, Step, stepped, run, limits, Call, stepsOf, KeptIfCalled, held, results, Contracts, entryAt, fed, evaluation, raised, merged, Test, Tested}
 
 -- of a layer's words: no rational point lies in two of its trapezoids
@@ -33,7 +33,7 @@ Defined layers (c ∷ calls) = KeptIfCalled layers c × Defined (stepped layers 
 abbrev pub Agree : List Layer → List Call → List Call → ℕ → ℕ → Type 0
 Agree start one two m n = (entries : List Bool) → length entries ≡ length start → entryAt (evaluation entries start one) m ≡ entryAt (evaluation entries start two) n
 
--- of any equality test of two layers: where it is not refused it says same exactly if no rational point lies in one and not in the other, and a side exactly as
+-- of any equality test of two layers: where it is not refused it says same exactly if no rational point lies in one and not in the other, and an operand exactly as
 -- `Compares` has it
 abbrev pub SameExactly : Layer → Layer → Type 0
 SameExactly A B = (t : Test) → Tested A B t → T (not (isRefused (equalityAnswer (t .answer)))) → Compares (equalityAnswer (t .answer)) (layerOf A) (layerOf B)
@@ -64,7 +64,7 @@ pub record Promised (start : List Layer) (calls : List Call) : Type 0 where
   -- every line in a held layer is a line of a starting trapezoid, word for word
   pub lines : All (λ (A : Layer). LinesFrom (startingTrapezoids start) (layerOf A)) (held start calls)
   -- no result is unfit as input, under the limit of the call that made it
-  pub fit : Each FitLayer (limits start (stepsOf calls)) (results start calls)
+  pub fit : Each FitAsInput (limits start (stepsOf calls)) (results start calls)
   -- the equality test between any two held layers
   pub same : (m n : ℕ) → SameExactly (layerAt (held start calls) m) (layerAt (held start calls) n)
   pub agreed : (m n : ℕ) → Agree start calls calls m n → NeverDiffers (layerAt (held start calls) m) (layerAt (held start calls) n)

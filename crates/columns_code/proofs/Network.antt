@@ -11,7 +11,7 @@ use Rattle.lists.specs.Tests.{bit}
 use Rattle.lists.proofs.Tests.{true-is, false-is, yes-or-no}
 use Rattle.lists.proofs.Lists.{all-map}
 use Rattle.integer.specs.Fraction.{Fraction}
-use Rattle.levels.specs.Levels.{AtMost, Ordered}
+use Rattle.levels.specs.Levels.{AtMost, StrictWeakOrder}
 use Rattle.levels.proofs.Order.{less-trans}
 use Rattle.geometry.specs.declared.Trapezoid.{Trapezoid}
 use Rattle.geometry.specs.Fitness.{FitFor}
@@ -198,7 +198,7 @@ module _ (less : ℕ → ℕ → Bool) where
     pub second-third : AtMost less (x .second) (x .third)
     pub third-fourth : AtMost less (x .third) (x .fourth)
 
-  module _ (o : Ordered less (λ (i : ℕ). Unit {0})) where
+  module _ (o : StrictWeakOrder less (λ (i : ℕ). Unit {0})) where
     trans : (i j k : ℕ) → AtMost less i j → AtMost less j k → AtMost less i k
     trans i j k h l = o .transitive i j k tt tt tt h l
 

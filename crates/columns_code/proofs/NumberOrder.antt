@@ -18,7 +18,7 @@ use Rattle.integer.specs.Fraction.{Fraction, Proper, before, mediant}
 use Rattle.integer.proofs.Linear.{zarith, neg-gt, neg-zero}
 use Rattle.integer.proofs.Tests.{says-order}
 use Rattle.integer.proofs.Fraction.{at-most-before-trans, mediant-proper, mediant-after, mediant-before}
-use Rattle.levels.specs.Levels.{AtMost, Level, Ordered, Rising, FirstOfLevel}
+use Rattle.levels.specs.Levels.{AtMost, Level, StrictWeakOrder, Rising, FirstOfLevel}
 use Rattle.levels.proofs.Order.{level-refl}
 use Rattle.levels.proofs.Laws.{levels-all, levels-rising, levels-cover}
 use Rattle.levels.proofs.Unique.{levels-exact}
@@ -120,11 +120,11 @@ module _ (first : ℕ → ℕ → Bool) where
   abbrev tied : ℕ → ℕ → Bool
   tied i j = tieBy (first i j) (first j i) (ltb i j)
 
-  module _ (o : Ordered first (λ (i : ℕ). Unit {0})) where
+  module _ (o : StrictWeakOrder first (λ (i : ℕ). Unit {0})) where
     at-most : (i j : ℕ) → AtMost tied i j → AtMost first i j × (AtMost first j i → i ≤ j)
     at-most i j h = let k = tie-no (first j i) (first i j) (ltb j i) h in (k .0, (λ l. nltb→le j i (k .1 l)))
 
-    tied-ordered : Ordered tied (λ (i : ℕ). Unit {0})
+    tied-ordered : StrictWeakOrder tied (λ (i : ℕ). Unit {0})
     tied-ordered = record { asymmetric = asymmetric; transitive = transitive }
       where
         asymmetric : (i j : ℕ) → T (tied i j) → AtMost tied i j
@@ -282,7 +282,7 @@ module _ {L : ℕ} {A B : Trapezoid} (ha : FitFor L A) (hb : FitFor L B) where
       cond-cases IsLine (eqb i 2) (B .bottom) (B .top) (λ t. bottom-line hb) (λ t. top-line hb)))
 
   module _ (p : Fraction) (fa fb : Bool) where
-    line-ordered : Ordered (lineLess A B p fa fb) (λ (i : ℕ). Unit {0})
+    line-ordered : StrictWeakOrder (lineLess A B p fa fb) (λ (i : ℕ). Unit {0})
     unfolding lineLess
     line-ordered =
         record {
@@ -291,7 +291,7 @@ module _ {L : ℕ} {A B : Trapezoid} (ha : FitFor L A) (hb : FitFor L B) where
         }
 
     -- a strict order of all numbers
-    pub number-ordered : Ordered (numberLess A B p fa fb) (λ (i : ℕ). Unit {0})
+    pub number-ordered : StrictWeakOrder (numberLess A B p fa fb) (λ (i : ℕ). Unit {0})
     number-ordered =
         let o = tied-ordered (lineLess A B p fa fb) line-ordered in
         record {

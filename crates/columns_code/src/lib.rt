@@ -11,12 +11,12 @@ ghost use lib.ListN.{length};
 ghost use Rattle.geometry.specs.Limit.{coordinateLimit};
 ghost use Rattle.geometry.specs.Fitness.{FitFor};
 ghost use Rattle.overlay.specs.Overlay.{inRange};
-ghost use Rattle.geometry_code.specs.Code.{fractionOf, Small};
+ghost use Rattle.geometry_code.specs.Code.{fractionOf, SmallPosition};
 ghost use Rattle.trapezoids_code.specs.Placed.{PlacedAs, Pair};
 ghost use Rattle.columns_code.specs.Order.{lineOfSide, presentBy, lessBy, numberLess};
 ghost use Rattle.columns_code.specs.Code.{FourSides, ColumnAt, Exchanged};
 
-pub fn side(a: Trapezoid, b: Trapezoid, i: usize) -> Line
+pub fn line_of_side(a: Trapezoid, b: Trapezoid, i: usize) -> Line
     ensures { λ r. ⌜ r ≡ lineOfSide a b i ⌝ }
 {
     if i == 0 {
@@ -62,13 +62,13 @@ fn side_less(
     i: usize,
     j: usize,
 ) -> bool
-    requires { ⌜ FitFor coordinateLimit a × FitFor coordinateLimit b × Small at ⌝ }
+    requires { ⌜ FitFor coordinateLimit a × FitFor coordinateLimit b × SmallPosition at ⌝ }
     ensures { λ r. ⌜ r ≡ numberLess a b (fractionOf at) in_a in_b i j ⌝ }
 {
     if present(in_a, in_b, i) {
         if present(in_a, in_b, j) {
-            let l = side(a, b, i);
-            let m = side(a, b, j);
+            let l = line_of_side(a, b, i);
+            let m = line_of_side(a, b, j);
             let o = geometry_code::right_order(l, m, at);
             return less_by(o, i < j);
         }
@@ -82,7 +82,7 @@ fn side_less(
 
 // Two entries of the order, the lesser side in front.
 fn exchange(a: Trapezoid, b: Trapezoid, at: Position, c: Column, i: usize, j: usize) -> Column
-    requires { ⌜ FitFor coordinateLimit a × FitFor coordinateLimit b × Small at ⌝ }
+    requires { ⌜ FitFor coordinateLimit a × FitFor coordinateLimit b × SmallPosition at ⌝ }
     requires { ⌜ (length (c .order) ≡ 4) × (i < 4) × (j < 4) ⌝ }
     ensures { λ r. ⌜ Exchanged a b (fractionOf at) i j c r ⌝ }
 {
@@ -101,7 +101,7 @@ fn exchange(a: Trapezoid, b: Trapezoid, at: Position, c: Column, i: usize, j: us
 
 // Whether a position is in the range of a trapezoid.
 fn in_range(a: Placed, at: Position) -> bool
-    requires { ⌜ PlacedAs (a .shape) a × Small at ⌝ }
+    requires { ⌜ PlacedAs (a .shape) a × SmallPosition at ⌝ }
     ensures { λ r. ⌜ r ≡ inRange (fractionOf at) (a .shape) ⌝ }
 {
     if geometry_code::is_before(at, a.left) {
@@ -112,7 +112,7 @@ fn in_range(a: Placed, at: Position) -> bool
 
 // The column right of a position, from the column before it, however many sides meet there.
 pub fn column_at(a: Placed, b: Placed, at: Position, c: Column) -> Column
-    requires { ⌜ Pair a b × Small at × FourSides (c .order) ⌝ }
+    requires { ⌜ Pair a b × SmallPosition at × FourSides (c .order) ⌝ }
     ensures { λ r. ⌜ ColumnAt (a .shape) (b .shape) (fractionOf at) r ⌝ }
 {
     let in_a = in_range(a, at);

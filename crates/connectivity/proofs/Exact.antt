@@ -13,7 +13,7 @@ use Rattle.lists.proofs.Members.{at-range, at-map, at-swap, test-exact}
 use Rattle.geometry.specs.declared.Trapezoid.{Trapezoid}
 use Rattle.geometry.specs.Fitness.{FitFor}
 use Rattle.connectivity.specs.Touching.{Touch, touches}
-use Rattle.connectivity.specs.Chains.{TouchAt}
+use Rattle.connectivity.specs.Paths.{TouchAt}
 use Rattle.connectivity.specs.Components.{numberAt, touchingAt, componentNumbers, componentCount, Different, ComponentsOf, ComponentsExact}
 use Rattle.connectivity.proofs.Touches.{touches-exact, touch-turn}
 use Rattle.connectivity.proofs.Joining.{Components, components}

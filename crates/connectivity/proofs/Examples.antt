@@ -10,10 +10,10 @@ use Rattle.geometry.specs.declared.Line.{Line}
 use Rattle.geometry.specs.declared.Base.{Base}
 use Rattle.geometry.specs.declared.Trapezoid.{Trapezoid}
 use Rattle.geometry.specs.Lines.{dx, dy, offset, det, numer}
-use Rattle.geometry.specs.Positions.{crosses, root, meet, heights}
+use Rattle.geometry.specs.Positions.{crosses, ratio, meet, heights}
 use Rattle.geometry.specs.Ranges.{commonLeft, commonRight}
 use Rattle.connectivity.specs.Touching.{notAbove, touchesAt, crossesWithin, touchesFrom, touchesBetween, touches}
-use Rattle.connectivity.specs.Components.{ownNumbers, relabelled, joined, joinedFirst, joinedAll, owners, touchingAt, componentNumbers, componentCount}
+use Rattle.connectivity.specs.Components.{ownNumbers, relabelled, joinedNumbers, joinedFirst, joinedAll, owners, touchingAt, componentNumbers, componentCount}
 
 abbrev line : ℕ → ℕ → ℕ → ℕ → Line
 line a b c d = record { x1 = pos a; y1 = pos b; x2 = pos c; y2 = pos d }
@@ -50,6 +50,6 @@ abbrev Bridge : Type 0
 Bridge = Numbers (box 0 0 4 4 ∷ box 12 0 16 4 ∷ box 8 0 12 4 ∷ box 4 0 8 4 ∷ box 0 8 4 9 ∷ []) (0 ∷ 0 ∷ 0 ∷ 0 ∷ 4 ∷ []) 2
 
 examples : CaseE × Corner × Tip × Away × Bridge
-unfolding _⊖_ _⊗_ orderOf before dx dy offset det numer crosses root meet heights commonLeft commonRight
-    notAbove touchesAt crossesWithin touchesFrom touchesBetween touches ownNumbers relabelled joined joinedFirst joinedAll owners touchingAt componentNumbers componentCount
+unfolding _⊖_ _⊗_ orderOf before dx dy offset det numer crosses ratio meet heights commonLeft commonRight
+    notAbove touchesAt crossesWithin touchesFrom touchesBetween touches ownNumbers relabelled joinedNumbers joinedFirst joinedAll owners touchingAt componentNumbers componentCount
 examples = ((refl, refl), (refl, refl), (refl, refl), (refl, refl), (refl, refl))

@@ -9,9 +9,9 @@ use lib.Dec.{T, T-not, eqb, ltb, eqb→eq, eqb-refl, ltb→lt, nltb→le}
 use lib.ListN.{length, length-append, List·getD-append}
 use lib.Seq.{getD-at}
 use Rattle.lists.proofs.Tests.{yes-or-no, cond-cases}
-use Rattle.connectivity.specs.Chains.{Chained}
-use Rattle.connectivity.specs.Components.{numberAt, ownNumbers, relabelled, joined, joinedIf, joinedFirst, joinedAll}
-use Rattle.connectivity.proofs.Chains.{chain-here, chain-one, chain-on, chain-back, chain-same, chain-keeps}
+use Rattle.connectivity.specs.Paths.{Reachable}
+use Rattle.connectivity.specs.Components.{numberAt, ownNumbers, relabelled, joinedNumbers, joinedIf, joinedFirst, joinedAll}
+use Rattle.connectivity.proofs.Paths.{chain-here, chain-one, chain-on, chain-back, chain-same, chain-keeps}
 
 -- ---- each its own
 pub length-own : (n : ℕ) → length (ownNumbers n) ≡ n
@@ -63,26 +63,26 @@ relabelled-at from to [] i h = absurd (omega arith)
 relabelled-at from to (n ∷ ns) zero h = refl
 relabelled-at from to (n ∷ ns) (suc i) h = relabelled-at from to ns i (omega arith)
 
-pub length-joined : (i j : ℕ) (ns : List ℕ) → length (joined i j ns) ≡ length ns
-unfolding joined
+pub length-joined : (i j : ℕ) (ns : List ℕ) → length (joinedNumbers i j ns) ≡ length ns
+unfolding joinedNumbers
 length-joined i j ns = length-relabelled _ _ ns
 
-joined-at : (i j : ℕ) (ns : List ℕ) (k : ℕ) → k < length ns → numberAt (joined i j ns) k ≡ merged (numberAt ns i) (numberAt ns j) (numberAt ns k)
-unfolding joined
+joined-at : (i j : ℕ) (ns : List ℕ) (k : ℕ) → k < length ns → numberAt (joinedNumbers i j ns) k ≡ merged (numberAt ns i) (numberAt ns j) (numberAt ns k)
+unfolding joinedNumbers
 joined-at i j ns k h = relabelled-at (max (numberAt ns i) (numberAt ns j)) (min (numberAt ns i) (numberAt ns j)) ns k h
 
 -- ---- numbers of a relation
 -- one for each of n; each leads to its number, which is no greater
 pub record Numbered (R : ℕ → ℕ → Type 0) (n : ℕ) (ns : List ℕ) : Type 0 where
   pub long : length ns ≡ n
-  pub reach : (i : ℕ) → i < n → Chained R i (numberAt ns i)
+  pub reach : (i : ℕ) → i < n → Reachable R i (numberAt ns i)
   pub low : (i : ℕ) → i < n → numberAt ns i ≤ i
 
 pub own-numbered : (R : ℕ → ℕ → Type 0) (n : ℕ) → Numbered R n (ownNumbers n)
 own-numbered R n =
     record {
       long = length-own n;
-      reach = λ i h. subst (Chained R i) (sym (own-at n i h)) (chain-here R i);
+      reach = λ i h. subst (Reachable R i) (sym (own-at n i h)) (chain-here R i);
       low = λ i h. omega (arith, own-at n i h);
     }
 
@@ -92,31 +92,31 @@ Keeps n ns ms = (k l : ℕ) → k < n → l < n → numberAt ns k ≡ numberAt n
 
 module _ (R : ℕ → ℕ → Type 0) (n : ℕ) (turn : (i j : ℕ) → R i j → R j i) where
   module _ (ns : List ℕ) (h : Numbered R n ns) (i j : ℕ) (hi : i < n) (hj : j < n) where
-    -- where a chain leads from the one number to the other
-    between : Chained R i j → Chained R (max (numberAt ns i) (numberAt ns j)) (min (numberAt ns i) (numberAt ns j))
+    -- where a path leads from the one number to the other
+    between : Reachable R i j → Reachable R (max (numberAt ns i) (numberAt ns j)) (min (numberAt ns i) (numberAt ns j))
     between c =
         let a = numberAt ns i in
         let b = numberAt ns j in
         let d = chain-on (chain-back turn (h .reach i hi)) (chain-on c (h .reach j hj)) in
         elim (yes-or-no (ltb a b)) [
-          | inl k ↦ (let l = ltb→lt a b k in let e : b ≡ max a b = omega arith in let f : a ≡ min a b = omega arith in subst (λ (x : ℕ). Chained R x (min a b)) e (subst (Chained R b) f (chain-back turn d)))
-          | inr k ↦ (let l = nltb→le a b k in let e : a ≡ max a b = omega arith in let f : b ≡ min a b = omega arith in subst (λ (x : ℕ). Chained R x (min a b)) e (subst (Chained R a) f d))
+          | inl k ↦ (let l = ltb→lt a b k in let e : b ≡ max a b = omega arith in let f : a ≡ min a b = omega arith in subst (λ (x : ℕ). Reachable R x (min a b)) e (subst (Reachable R b) f (chain-back turn d)))
+          | inr k ↦ (let l = nltb→le a b k in let e : a ≡ max a b = omega arith in let f : b ≡ min a b = omega arith in subst (λ (x : ℕ). Reachable R x (min a b)) e (subst (Reachable R a) f d))
         ]
 
-    pub join-numbered : R i j → Numbered R n (joined i j ns)
+    pub join-numbered : R i j → Numbered R n (joinedNumbers i j ns)
     join-numbered r =
         let a = numberAt ns i in
         let b = numberAt ns j in
         record {
           long = length-joined i j ns ∙ h .long;
-          reach = λ k l. subst (Chained R k) (sym (joined-at i j ns k (omega (arith, h .long)))) (merged-cases (Chained R k) a b (numberAt ns k) (λ e. chain-on (subst (Chained R k) e (h .reach k l)) (between (chain-one R i j r))) (λ d. h .reach k l));
+          reach = λ k l. subst (Reachable R k) (sym (joined-at i j ns k (omega (arith, h .long)))) (merged-cases (Reachable R k) a b (numberAt ns k) (λ e. chain-on (subst (Reachable R k) e (h .reach k l)) (between (chain-one R i j r))) (λ d. h .reach k l));
           low = λ k l. omega (arith, joined-at i j ns k (omega (arith, h .long)), merged-most a b (numberAt ns k), h .low k l);
         }
 
-    pub join-keeps : Keeps n ns (joined i j ns)
+    pub join-keeps : Keeps n ns (joinedNumbers i j ns)
     join-keeps k l hk hl e = joined-at i j ns k (omega (arith, h .long)) ∙ ap (merged (numberAt ns i) (numberAt ns j)) e ∙ sym (joined-at i j ns l (omega (arith, h .long)))
 
-    pub join-joins : numberAt (joined i j ns) i ≡ numberAt (joined i j ns) j
+    pub join-joins : numberAt (joinedNumbers i j ns) i ≡ numberAt (joinedNumbers i j ns) j
     join-joins =
         let a = numberAt ns i in
         let b = numberAt ns j in
@@ -137,7 +137,7 @@ module _ (R : ℕ → ℕ → Type 0) (n : ℕ) (turn : (i j : ℕ) → R i j �
           keeps = λ k o hk ho f. join-keeps ms (h .numbered) i j m (omega arith) k o hk ho (h .keeps k o hk ho f);
           same = λ k o t.
               elim (same-or-not k j) [
-                | inl f ↦ subst (λ (x : ℕ). numberAt (joined i j ms) i ≡ numberAt (joined i j ms) x) (sym f) (join-joins ms (h .numbered) i j m (omega arith))
+                | inl f ↦ subst (λ (x : ℕ). numberAt (joinedNumbers i j ms) i ≡ numberAt (joinedNumbers i j ms) x) (sym f) (join-joins ms (h .numbered) i j m (omega arith))
                 | inr d ↦ join-keeps ms (h .numbered) i j m (omega arith) i k m (omega arith) (h .same k (less-than k j o d) t)
               ];
         }
@@ -172,11 +172,11 @@ module _ (R : ℕ → ℕ → Type 0) (n : ℕ) (turn : (i j : ℕ) → R i j �
               ];
         }
 
-    -- ---- all joined: the numbers are those of the chains, and the lowest of them
+    -- ---- all joined: the numbers are those of the paths, and the lowest of them
     pub record Components (ms : List ℕ) : Type 0 where
       pub numbered : Numbered R n ms
-      pub exact : (i j : ℕ) → i < n → j < n → (numberAt ms i ≡ numberAt ms j) ↔ Chained R i j
-      pub lowest : (i j : ℕ) → i < n → Chained R i j → numberAt ms i ≤ j
+      pub exact : (i j : ℕ) → i < n → j < n → (numberAt ms i ≡ numberAt ms j) ↔ Reachable R i j
+      pub lowest : (i j : ℕ) → i < n → Reachable R i j → numberAt ms i ≤ j
 
     module _ (within : (i j : ℕ) → R i j → (i < n) × (j < n)) (no : (i j : ℕ) → j < i → R i j → T (test i j)) where
       done : Until n (joinedAll test n (ownNumbers n))
@@ -200,7 +200,7 @@ module _ (R : ℕ → ℕ → Type 0) (n : ℕ) (turn : (i j : ℕ) → R i j �
           record {
             numbered = done .numbered;
             exact = λ i j hi hj. (
-              (λ e. chain-on (done .numbered .reach i hi) (subst (λ (x : ℕ). Chained R x j) (sym e) (chain-back turn (done .numbered .reach j hj)))),
+              (λ e. chain-on (done .numbered .reach i hi) (subst (λ (x : ℕ). Reachable R x j) (sym e) (chain-back turn (done .numbered .reach j hj)))),
               (λ c. chain-same number related-same c),
             );
             lowest = λ i j hi c. (

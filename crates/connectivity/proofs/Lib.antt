@@ -1,5 +1,5 @@
 pub mod Touches
-pub mod Chains
+pub mod Paths
 pub mod Joining
 pub mod Owners
 pub mod Exact

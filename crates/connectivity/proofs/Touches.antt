@@ -21,13 +21,13 @@ use Rattle.geometry.specs.declared.Line.{Line}
 use Rattle.geometry.specs.declared.Base.{Base}
 use Rattle.geometry.specs.declared.Trapezoid.{Trapezoid}
 use Rattle.geometry.specs.Lines.{IsLine, det}
-use Rattle.geometry.specs.Positions.{gap, crosses, root, meet, position, heights, isLess}
-use Rattle.geometry.specs.Points.{Point, at, side, under}
+use Rattle.geometry.specs.Positions.{gap, crosses, ratio, meet, position, heights, isLess}
+use Rattle.geometry.specs.Points.{Point, at, orientation, under}
 use Rattle.geometry.specs.Orders.{Uncrossed}
 use Rattle.geometry.specs.Trapezoids.{based, liesInClosed}
 use Rattle.geometry.specs.Fitness.{FitFor}
 use Rattle.geometry.specs.Ranges.{crossing, commonLeft, commonRight}
-use Rattle.geometry.proofs.Identities.{gap-moves, gap-turn, det-turn, root-cross, gap-between, height-refl}
+use Rattle.geometry.proofs.Identities.{gap-moves, gap-turn, det-turn, ratio-cross, gap-between, height-refl}
 use Rattle.geometry.proofs.Heights.{heights-gap, height-total}
 use Rattle.geometry.proofs.Between.{ahead, stays-closed, order-from}
 use Rattle.geometry.proofs.Meet.{det→crosses, meet-cases, meet-proper, meet-gap}
@@ -67,17 +67,17 @@ module _ (p x : Fraction) (l m : Line) (hp : Proper p) (hx : Proper x) (h : T (n
             (neg-ge (gap-turn l m x) b))
       ]
 
-  there-root : meet l m ≡ root m l
-  there-root = meet-cases (λ (r : Fraction). r ≡ root m l) l m (λ k. absurd (clashℤ k (lt→le falls))) (λ k. refl)
+  there-ratio : meet l m ≡ ratio m l
+  there-ratio = meet-cases (λ (r : Fraction). r ≡ ratio m l) l m (λ k. absurd (clashℤ k (lt→le falls))) (λ k. refl)
 
   pub falls-crosses : T (crosses l m)
   falls-crosses = det→crosses l m (λ z. let k = falls in omega (zarith, z))
 
   pub falls-after : T (before p (meet l m))
-  falls-after = rw there-root (cross→before p (root m l) (rw root-cross (neg-lt (gap-turn l m p) a)))
+  falls-after = rw there-ratio (cross→before p (ratio m l) (rw ratio-cross (neg-lt (gap-turn l m p) a)))
 
   pub falls-by : T (not (before x (meet l m)))
-  falls-by = rw there-root (cross→at-most (root m l) x (neg-le (cross-turn x (root m l)) (rw root-cross (neg-ge (gap-turn l m x) b))))
+  falls-by = rw there-ratio (cross→at-most (ratio m l) x (neg-le (cross-turn x (ratio m l)) (rw ratio-cross (neg-ge (gap-turn l m x) b))))
 
 -- l is at or below m at p and at x: also between
 pub stays-between : (p r x : Fraction) (l m : Line) → Proper p → Proper r → Proper x → gap l m p ≤ℤ pos 0 → gap l m x ≤ℤ pos 0 → T (before p r) → T (not (before x r)) → gap l m r ≤ℤ pos 0
@@ -104,22 +104,22 @@ module _ {L : ℕ} {t : Trapezoid} (h : FitFor L t) where
         yes-and (based t) _ (fit-based h)
         (yes-and (not (before (at P) (position (t .left)))) _ (on-from l x (position (t .left)) hl u)
         (yes-and (not (before (position (t .right)) (at P))) _ (on-to l x (position (t .right)) hl v)
-        (yes-and (leZ (pos 0) (side (t .bottom) P)) (leZ (side (t .top) P) (pos 0)) (rw (on-other l (t .bottom) x) (k .le)) (rw (on-other l (t .top) x) (c .le)))))
+        (yes-and (leZ (pos 0) (orientation (t .bottom) P)) (leZ (orientation (t .top) P) (pos 0)) (rw (on-other l (t .bottom) x) (k .le)) (rw (on-other l (t .top) x) (c .le)))))
 
 -- where a point of a closed trapezoid stands
 pub record Closed (P : Point) (t : Trapezoid) : Type 0 where
   pub from : T (not (before (at P) (position (t .left))))
   pub to : T (not (before (position (t .right)) (at P)))
-  pub bottom : pos 0 ≤ℤ side (t .bottom) P
-  pub top : side (t .top) P ≤ℤ pos 0
+  pub bottom : pos 0 ≤ℤ orientation (t .bottom) P
+  pub top : orientation (t .top) P ≤ℤ pos 0
 
 pub from-closed : (P : Point) (t : Trapezoid) → T (liesInClosed P t) → Closed P t
 unfolding liesInClosed under
 from-closed P t h =
-    let a = and-yes (based t) (not (before (at P) (position (t .left))) && (not (before (position (t .right)) (at P)) && (leZ (pos 0) (side (t .bottom) P) && leZ (side (t .top) P) (pos 0)))) h in
-    let b = and-yes (not (before (at P) (position (t .left)))) (not (before (position (t .right)) (at P)) && (leZ (pos 0) (side (t .bottom) P) && leZ (side (t .top) P) (pos 0))) (a .1) in
-    let c = and-yes (not (before (position (t .right)) (at P))) (leZ (pos 0) (side (t .bottom) P) && leZ (side (t .top) P) (pos 0)) (b .1) in
-    let d = and-yes (leZ (pos 0) (side (t .bottom) P)) (leZ (side (t .top) P) (pos 0)) (c .1) in
+    let a = and-yes (based t) (not (before (at P) (position (t .left))) && (not (before (position (t .right)) (at P)) && (leZ (pos 0) (orientation (t .bottom) P) && leZ (orientation (t .top) P) (pos 0)))) h in
+    let b = and-yes (not (before (at P) (position (t .left)))) (not (before (position (t .right)) (at P)) && (leZ (pos 0) (orientation (t .bottom) P) && leZ (orientation (t .top) P) (pos 0))) (a .1) in
+    let c = and-yes (not (before (position (t .right)) (at P))) (leZ (pos 0) (orientation (t .bottom) P) && leZ (orientation (t .top) P) (pos 0)) (b .1) in
+    let d = and-yes (leZ (pos 0) (orientation (t .bottom) P)) (leZ (orientation (t .top) P) (pos 0)) (c .1) in
     record { from = b .0; to = c .0; bottom = leZ-yes (d .0); top = leZ-yes (d .1) }
 
 module _ (L : ℕ) (A B : Trapezoid) (ha : FitFor L A) (hb : FitFor L B) where

@@ -11,7 +11,7 @@ use Rattle.lists.specs.Tests.{testAt}
 use Rattle.geometry.specs.declared.Trapezoid.{Trapezoid}
 use Rattle.geometry.specs.Fitness.{FitFor}
 use Rattle.connectivity.specs.Touching.{touches}
-use Rattle.connectivity.specs.Chains.{Chained, TouchAt}
+use Rattle.connectivity.specs.Paths.{Reachable, TouchAt}
 
 -- ---- numbers, one for each trapezoid
 abbrev pub numberAt : List ℕ → ℕ → ℕ
@@ -28,11 +28,11 @@ relabelled from to [] = []
 relabelled from to (n ∷ ns) = cond (eqb n from) to n ∷ relabelled from to ns
 
 -- the numbers of i and j become one: whoever has the greater gets the lesser
-unfoldable pub joined : ℕ → ℕ → List ℕ → List ℕ
-joined i j ns = relabelled (max (numberAt ns i) (numberAt ns j)) (min (numberAt ns i) (numberAt ns j)) ns
+unfoldable pub joinedNumbers : ℕ → ℕ → List ℕ → List ℕ
+joinedNumbers i j ns = relabelled (max (numberAt ns i) (numberAt ns j)) (min (numberAt ns i) (numberAt ns j)) ns
 
 abbrev pub joinedIf : Bool → ℕ → ℕ → List ℕ → List ℕ
-joinedIf true i j ns = joined i j ns
+joinedIf true i j ns = joinedNumbers i j ns
 joinedIf false i j ns = ns
 
 -- of a test of two numbers: i is joined with each of 0 to j − 1 for which it says yes, in order
@@ -78,10 +78,10 @@ pub record Different (ns : List ℕ) (n : ℕ) : Type 0 where
 pub record ComponentsOf (ts : List Trapezoid) (ns : List ℕ) (n : ℕ) : Type 0 where
   pub one-each : length ns ≡ length ts
   -- demand 2: two trapezoids get one component number exactly if a chain of touching ones joins them
-  pub exact : (i j : ℕ) → i < length ts → j < length ts → (numberAt ns i ≡ numberAt ns j) ↔ Chained (TouchAt ts) i j
+  pub exact : (i j : ℕ) → i < length ts → j < length ts → (numberAt ns i ≡ numberAt ns j) ↔ Reachable (TouchAt ts) i j
   -- "Each gets the lowest piece number of its component"
-  pub own : (i : ℕ) → i < length ts → Chained (TouchAt ts) i (numberAt ns i)
-  pub lowest : (i j : ℕ) → i < length ts → Chained (TouchAt ts) i j → numberAt ns i ≤ j
+  pub own : (i : ℕ) → i < length ts → Reachable (TouchAt ts) i (numberAt ns i)
+  pub lowest : (i j : ℕ) → i < length ts → Reachable (TouchAt ts) i j → numberAt ns i ≤ j
   -- "the answer counts components"
   pub count : Different ns n
 

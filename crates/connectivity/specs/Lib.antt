@@ -1,4 +1,4 @@
 -- Trapezoids that touch, and the connected components of a layer (paper 01: components).
 pub mod Touching
-pub mod Chains
+pub mod Paths
 pub mod Components

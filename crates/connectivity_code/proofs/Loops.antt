@@ -8,7 +8,7 @@ use native.Mathlib.Omega.{arith}
 use lib.Dec.{T, eqb, eqb→eq}
 use lib.ListN.{length, set, take, drop, length-set}
 use lib.Seq.{take-length, drop-length, drop-cons, set-at}
-use Rattle.connectivity.specs.Components.{numberAt, ownNumbers, relabelled, joined, joinedIf, joinedFirst, joinedAll, consIf, owners}
+use Rattle.connectivity.specs.Components.{numberAt, ownNumbers, relabelled, joinedNumbers, joinedIf, joinedFirst, joinedAll, consIf, owners}
 use Rattle.connectivity.proofs.Joining.{length-own, length-joined}
 
 -- ---- each its own number
@@ -76,22 +76,22 @@ relabelled-same a [] = refl
 relabelled-same a (n ∷ ns) = rw (same-label (eqb n a) n a (eqb→eq n a), relabelled-same a ns)
 
 module _ (i j : ℕ) (ns : List ℕ) where
-  pub join-less : numberAt ns i < numberAt ns j → {d : List ℕ} → d ≡ relabelled (numberAt ns j) (numberAt ns i) ns → d ≡ joined i j ns
-  unfolding joined
+  pub join-less : numberAt ns i < numberAt ns j → {d : List ℕ} → d ≡ relabelled (numberAt ns j) (numberAt ns i) ns → d ≡ joinedNumbers i j ns
+  unfolding joinedNumbers
   join-less l e =
       let m : max (numberAt ns i) (numberAt ns j) ≡ numberAt ns j = omega arith in
       let o : min (numberAt ns i) (numberAt ns j) ≡ numberAt ns i = omega arith in
       e ∙ sym (rw (m, o))
 
-  pub join-more : numberAt ns j < numberAt ns i → {d : List ℕ} → d ≡ relabelled (numberAt ns i) (numberAt ns j) ns → d ≡ joined i j ns
-  unfolding joined
+  pub join-more : numberAt ns j < numberAt ns i → {d : List ℕ} → d ≡ relabelled (numberAt ns i) (numberAt ns j) ns → d ≡ joinedNumbers i j ns
+  unfolding joinedNumbers
   join-more l e =
       let m : max (numberAt ns i) (numberAt ns j) ≡ numberAt ns i = omega arith in
       let o : min (numberAt ns i) (numberAt ns j) ≡ numberAt ns j = omega arith in
       e ∙ sym (rw (m, o))
 
-  pub join-same : numberAt ns j ≤ numberAt ns i → numberAt ns i ≤ numberAt ns j → ns ≡ joined i j ns
-  unfolding joined
+  pub join-same : numberAt ns j ≤ numberAt ns i → numberAt ns i ≤ numberAt ns j → ns ≡ joinedNumbers i j ns
+  unfolding joinedNumbers
   join-same k l =
       let m : max (numberAt ns i) (numberAt ns j) ≡ numberAt ns i = omega arith in
       let o : min (numberAt ns i) (numberAt ns j) ≡ numberAt ns i = omega arith in

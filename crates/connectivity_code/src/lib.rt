@@ -17,14 +17,14 @@ ghost use Rattle.geometry.specs.Fitness.{FitFor};
 ghost use Rattle.geometry.specs.Trapezoids.{trapezoidCodec, layerOf};
 ghost use Rattle.geometry.specs.Ranges.{crossing};
 ghost use Rattle.connectivity.specs.Touching.{notAbove, touchesAt, touchesFrom, touches};
-ghost use Rattle.connectivity.specs.Components.{ownNumbers, relabelled, joined, joinedIf, joinedFirst, joinedAll, owners, touchingAt, componentNumbers, componentCount};
-ghost use Rattle.geometry_code.specs.Code.{fractionOf, Small};
+ghost use Rattle.connectivity.specs.Components.{ownNumbers, relabelled, joinedNumbers, joinedIf, joinedFirst, joinedAll, owners, touchingAt, componentNumbers, componentCount};
+ghost use Rattle.geometry_code.specs.Code.{fractionOf, SmallPosition};
 ghost use Rattle.trapezoids_code.specs.Placed.{Pair, PlacedAs};
 ghost use Rattle.connectivity_code.specs.Code.{Numbering};
 
 // Whether a line is at or below another at a position.
 fn not_above(l: Line, m: Line, x: Position) -> bool
-    requires { ⌜ OnGrid coordinateLimit l × OnGrid coordinateLimit m × Small x ⌝ }
+    requires { ⌜ OnGrid coordinateLimit l × OnGrid coordinateLimit m × SmallPosition x ⌝ }
     ensures { λ r. ⌜ r ≡ notAbove (fractionOf x) l m ⌝ }
 {
     let o = geometry_code::heights_at(m, l, x);
@@ -33,7 +33,7 @@ fn not_above(l: Line, m: Line, x: Position) -> bool
 
 // At a position each bottom is at or below the other's top.
 fn touches_at(a: Trapezoid, b: Trapezoid, x: Position) -> bool
-    requires { ⌜ FitFor coordinateLimit a × FitFor coordinateLimit b × Small x ⌝ }
+    requires { ⌜ FitFor coordinateLimit a × FitFor coordinateLimit b × SmallPosition x ⌝ }
     ensures { λ r. ⌜ r ≡ touchesAt a b (fractionOf x) ⌝ }
 {
     if not_above(a.bottom, b.top, x) {
@@ -44,7 +44,7 @@ fn touches_at(a: Trapezoid, b: Trapezoid, x: Position) -> bool
 
 // The two lines cross at lo, at hi or between, and the trapezoids touch there.
 fn touches_from(a: Trapezoid, b: Trapezoid, l: Line, m: Line, lo: Position, hi: Position) -> bool
-    requires { ⌜ FitFor coordinateLimit a × FitFor coordinateLimit b × OnGrid coordinateLimit l × OnGrid coordinateLimit m × Small lo × Small hi ⌝ }
+    requires { ⌜ FitFor coordinateLimit a × FitFor coordinateLimit b × OnGrid coordinateLimit l × OnGrid coordinateLimit m × SmallPosition lo × SmallPosition hi ⌝ }
     ensures { λ r. ⌜ r ≡ touchesFrom a b (fractionOf lo) (fractionOf hi) (crossing l m) ⌝ }
 {
     let c = geometry_code::crossing_of(l, m);
@@ -126,7 +126,7 @@ fn relabel(numbers: &mut [u32], from: u32, to: u32)
 // The numbers of i and j become one: whoever has the greater gets the lesser.
 fn join(numbers: &mut [u32], i: usize, j: usize)
     requires { ⌜ (i < length (now numbers)) × (j < length (now numbers)) ⌝ }
-    ensures { λ _. ⌜ now (numbers .exit) ≡ joined i j (now (numbers .entry)) ⌝ }
+    ensures { λ _. ⌜ now (numbers .exit) ≡ joinedNumbers i j (now (numbers .entry)) ⌝ }
 {
     let a = numbers[i];
     let b = numbers[j];

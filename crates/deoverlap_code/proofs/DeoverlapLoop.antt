@@ -1,4 +1,4 @@
--- A layer deoverlapped: a fold that adds each trapezoid less what stands.
+-- A layer deoverlapped: a fold that adds each trapezoid minus what stands.
 use mathlib.Core.Path.{_≡_, refl, sym, _∙_, ap, subst}
 use mathlib.Core.List.{List, [], _∷_, _++_}
 use Prim.Native.Nat.{ℕ, _+_, _*_, _-_, _<_, _≤_}
@@ -15,50 +15,50 @@ use Rattle.geometry.specs.Fitness.{FitFor}
 use Rattle.geometry.specs.Trapezoids.{trapezoidCodec, layerOf}
 use Rattle.geometry.specs.declared.Fill.the-variants.{Written}
 use Rattle.boolean.specs.declared.Folded.{Folded}
-use Rattle.boolean.specs.declared.Folded.the-variants.{Short, Done}
-use Rattle.boolean.specs.Operations.{lessAll, deoverlapped, deoverlappedFrom}
-use Rattle.boolean.specs.Space.{enough, short, space, oneMarks, deoverlappedMarks}
-use Rattle.boolean.proofs.Kept.{lessAll-fit}
+use Rattle.boolean.specs.declared.Folded.the-variants.{NoRoom, Done}
+use Rattle.boolean.specs.Operations.{minusAll, deoverlapped, deoverlappedFrom}
+use Rattle.boolean.specs.Space.{enough, no-room, space, oneStages, deoverlappedStages}
+use Rattle.boolean.proofs.Kept.{minusAll-fit}
 use Rattle.boolean.proofs.Shifting.{one-shift}
 use Rattle.trapezoids_code.specs.Tails.{Borrowed, FilledAs}
 use Rattle.trapezoids_code.proofs.Writing.{tail, fill-nothing}
-use Rattle.remainder_code.specs.Code.{front, rest, held, overlaysOfOne, maxOverlays, OverlaysWithin, Remaining, FoldedAs, ScratchFor}
-use Rattle.remainder_code.proofs.Answers.{within-short, within-done, filled-remaining}
-use Rattle.remainder_code.proofs.Held.{rest-is, back-whole}
-use Rattle.remainder_code.proofs.Folding.{Fold, Steps, Folding, blank-start, fold-held, fold-words, fold-added, fold-fit, fold-short, fold-next}
+use Rattle.remainder_code.specs.Code.{front, rest, leading, overlaysOfOne, maxOverlays, OverlaysWithin, Remaining, FoldedAs, ScratchFor}
+use Rattle.remainder_code.proofs.Answers.{within-no-room, within-done, filled-remaining}
+use Rattle.remainder_code.proofs.Leading.{rest-is, back-whole}
+use Rattle.remainder_code.proofs.Folding.{Fold, Steps, Folding, blank-start, fold-leading, fold-words, fold-added, fold-fit, fold-no-room, fold-next}
 
 -- ---- the definitions, step by step
 from-nothing : (done : List Trapezoid) → deoverlappedFrom done [] ≡ done
 unfolding deoverlappedFrom
 from-nothing done = refl
 
-from-one : (done A : List Trapezoid) (a : Trapezoid) → deoverlappedFrom done (a ∷ A) ≡ deoverlappedFrom (done ++ lessAll (a ∷ []) done) A
+from-one : (done A : List Trapezoid) (a : Trapezoid) → deoverlappedFrom done (a ∷ A) ≡ deoverlappedFrom (done ++ minusAll (a ∷ []) done) A
 unfolding deoverlappedFrom
 from-one done A a = refl
 
-marks-nothing : (room : ℕ) (done : List Trapezoid) → space room (deoverlappedMarks done []) ≡ enough 0
-unfolding space deoverlappedMarks
-marks-nothing room done = refl
+stages-nothing : (room : ℕ) (done : List Trapezoid) → space room (deoverlappedStages done []) ≡ enough 0
+unfolding space deoverlappedStages
+stages-nothing room done = refl
 
-marks-one : (done A : List Trapezoid) (a : Trapezoid) → deoverlappedMarks done (a ∷ A) ≡ oneMarks (length done) a done ++ deoverlappedMarks (done ++ lessAll (a ∷ []) done) A
-unfolding deoverlappedMarks
-marks-one done A a = refl
+stages-one : (done A : List Trapezoid) (a : Trapezoid) → deoverlappedStages done (a ∷ A) ≡ oneStages (length done) a done ++ deoverlappedStages (done ++ minusAll (a ∷ []) done) A
+unfolding deoverlappedStages
+stages-one done A a = refl
 
 abbrev pub deoverlapFold : Fold
 deoverlapFold =
     record {
       result = deoverlappedFrom;
-      marks = deoverlappedMarks;
-      next = λ done a. done ++ lessAll (a ∷ []) done;
-      turn = λ done a left. oneMarks (length done) a done;
+      stages = deoverlappedStages;
+      next = λ done a. done ++ minusAll (a ∷ []) done;
+      turn = λ done a left. oneStages (length done) a done;
     }
 
 deoverlap-steps : Steps deoverlapFold
-deoverlap-steps = record { none = from-nothing; one = from-one; no-marks = marks-nothing; one-marks = marks-one }
+deoverlap-steps = record { none = from-nothing; one = from-one; no-stages = stages-nothing; one-stages = stages-one }
 
 -- ---- the loop
 pub record Deoverlapping (W room : ℕ) (layer out scratch : List ℤ) (k sum i : ℕ) : Type 0 where
-  pub folding : Folding deoverlapFold W room (deoverlapped (layerOf layer)) (deoverlappedMarks [] (layerOf layer)) layer out k sum i
+  pub folding : Folding deoverlapFold W room (deoverlapped (layerOf layer)) (deoverlappedStages [] (layerOf layer)) layer out k sum i
   pub buffer : Remaining out k room
   pub few : sum ≤ overlaysOfOne * i
   pub scratch-for : ScratchFor out scratch
@@ -73,7 +73,7 @@ deoverlap-start room layer out scratch h f z =
     }
 
 module _ {W room : ℕ} {layer out scratch : List ℤ} {k sum i : ℕ} (h : Deoverlapping W room layer out scratch k sum i) where
-  abbrev F : Folding deoverlapFold W room (deoverlapped (layerOf layer)) (deoverlappedMarks [] (layerOf layer)) layer out k sum i
+  abbrev F : Folding deoverlapFold W room (deoverlapped (layerOf layer)) (deoverlappedStages [] (layerOf layer)) layer out k sum i
   F = h .folding
 
   pub deoverlap-few : count trapezoidCodec layer ≤ maxRecords → sum ≤ maxOverlays
@@ -81,33 +81,33 @@ module _ {W room : ℕ} {layer out scratch : List ℤ} {k sum i : ℕ} (h : Deov
 
   -- what an answer says of the loop, when the buffer comes back as t and the scratch area as w
   pub record Deoverlapped (f : Folded) (t w : List ℤ) : Type 0 where
-    pub full : (c : ℕ) → f ≡ Short c → space room (deoverlappedMarks [] (layerOf layer)) ≡ short (sum + c)
-    pub full-few : (c : ℕ) → f ≡ Short c → sum + c ≤ overlaysOfOne * (i + 1)
+    pub full : (c : ℕ) → f ≡ NoRoom c → space room (deoverlappedStages [] (layerOf layer)) ≡ no-room (sum + c)
+    pub full-few : (c : ℕ) → f ≡ NoRoom c → sum + c ≤ overlaysOfOne * (i + 1)
     pub fits : (m c : ℕ) → f ≡ Done m c → k + m ≤ room
     pub keeps : (m c : ℕ) → f ≡ Done m c → Deoverlapping W room layer t w (k + m) (sum + c) (i + 1)
 
-  -- x is number i of the layer, and f answers it less what the result holds, past k records of t that stand
+  -- x is number i of the layer, and f answers it minus what the result holds, past k records of t that stand
   pub deoverlap-turn : (l : i < count trapezoidCodec layer) (x : Trapezoid) → x ≡ recordAt trapezoidCodec layer i → (f : Folded) (t w : List ℤ)
-      → FoldedAs (length (rest out k)) (room - k) (lessAll (x ∷ []) (held out k)) (oneMarks 0 x (held out k)) f (rest t k) → OverlaysWithin overlaysOfOne f → front t k ≡ front out k
+      → FoldedAs (length (rest out k)) (room - k) (minusAll (x ∷ []) (leading out k)) (oneStages 0 x (leading out k)) f (rest t k) → OverlaysWithin overlaysOfOne f → front t k ≡ front out k
       → Blank (pos 0) w → length w ≡ length scratch → Deoverlapped f t w
   deoverlap-turn l x is f t w g u stands z n = record { full = full; full-few = full-few; fits = fits; keeps = keeps }
     where
-      known : (r : Folded) → f ≡ r → FoldedAs (length (tail out k)) (room - k) (lessAll (x ∷ []) (F .done)) (oneMarks 0 x (F .done)) r (rest t k)
-      known r e = rw (rest-is out k) (rw (fold-held F, e) at g)
+      known : (r : Folded) → f ≡ r → FoldedAs (length (tail out k)) (room - k) (minusAll (x ∷ []) (F .done)) (oneStages 0 x (F .done)) r (rest t k)
+      known r e = rw (rest-is out k) (rw (fold-leading F, e) at g)
 
-      same : space room (oneMarks (length (F .done)) x (F .done)) ≡ space (room - k) (oneMarks 0 x (F .done))
-      same = ap (λ (y : ℕ). space room (oneMarks y x (F .done))) (sym (F .size)) ∙ one-shift room k (room - k) x (F .done) (omega (arith, F .within))
+      same : space room (oneStages (length (F .done)) x (F .done)) ≡ space (room - k) (oneStages 0 x (F .done))
+      same = ap (λ (y : ℕ). space room (oneStages y x (F .done))) (sym (F .size)) ∙ one-shift room k (room - k) x (F .done) (omega (arith, F .within))
 
-      added : (m c : ℕ) → f ≡ Done m c → FilledAs W room (F .done ++ lessAll (x ∷ []) (F .done)) (Written (k + m)) t
+      added : (m c : ℕ) → f ≡ Done m c → FilledAs W room (F .done ++ minusAll (x ∷ []) (F .done)) (Written (k + m)) t
       added m c e =
-          subst (FilledAs W room (F .done ++ lessAll (x ∷ []) (F .done)) (Written (k + m))) (back-whole out k (fold-words F) t stands)
-          (fold-added F (room - k) (lessAll (x ∷ []) (F .done)) m (rest t k) (omega (arith, F .within)) (known (Done m c) e .1))
+          subst (FilledAs W room (F .done ++ minusAll (x ∷ []) (F .done)) (Written (k + m))) (back-whole out k (fold-words F) t stands)
+          (fold-added F (room - k) (minusAll (x ∷ []) (F .done)) m (rest t k) (omega (arith, F .within)) (known (Done m c) e .1))
 
-      full : (c : ℕ) → f ≡ Short c → space room (deoverlappedMarks [] (layerOf layer)) ≡ short (sum + c)
-      full c e = fold-short F l x is c (same ∙ known (Short c) e .0)
+      full : (c : ℕ) → f ≡ NoRoom c → space room (deoverlappedStages [] (layerOf layer)) ≡ no-room (sum + c)
+      full c e = fold-no-room F l x is c (same ∙ known (NoRoom c) e .0)
 
-      full-few : (c : ℕ) → f ≡ Short c → sum + c ≤ overlaysOfOne * (i + 1)
-      full-few c e = omega (arith, h .few, within-short overlaysOfOne c f e u)
+      full-few : (c : ℕ) → f ≡ NoRoom c → sum + c ≤ overlaysOfOne * (i + 1)
+      full-few c e = omega (arith, h .few, within-no-room overlaysOfOne c f e u)
 
       fits : (m c : ℕ) → f ≡ Done m c → k + m ≤ room
       fits m c e = let a = added m c e in omega (arith, a .0, a .1)
@@ -116,11 +116,11 @@ module _ {W room : ℕ} {layer out scratch : List ℤ} {k sum i : ℕ} (h : Deov
       keeps m c e =
           let a = added m c e in
           let s = fold-next F l x is (k + m) c t (same ∙ known (Done m c) e .0) a in
-          let y = subst (All (FitFor coordinateLimit)) (fold-held F) (h .buffer .fit) in
+          let y = subst (All (FitFor coordinateLimit)) (fold-leading F) (h .buffer .fit) in
           record {
             folding = s;
-            buffer = filled-remaining W room (F .done ++ lessAll (x ∷ []) (F .done)) (k + m) t a (s .long) (s .wide)
-                (all-append (FitFor coordinateLimit) (F .done) (lessAll (x ∷ []) (F .done)) y (lessAll-fit coordinateLimit (x ∷ []) (F .done) (fold-fit F l x is, tt) y));
+            buffer = filled-remaining W room (F .done ++ minusAll (x ∷ []) (F .done)) (k + m) t a (s .long) (s .wide)
+                (all-append (FitFor coordinateLimit) (F .done) (minusAll (x ∷ []) (F .done)) y (minusAll-fit coordinateLimit (x ∷ []) (F .done) (fold-fit F l x is, tt) y));
             few = omega (arith, h .few, within-done overlaysOfOne m c f e u);
             scratch-for = (z, n ∙ h .scratch-for .1 ∙ F .long ∙ sym (s .long));
           }

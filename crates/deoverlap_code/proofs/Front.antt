@@ -1,4 +1,4 @@
--- A buffer whose first records stand while what is past them is replaced: the remainder past them less those records.
+-- A buffer whose first records stand while what is past them is replaced: the remainder past them minus those records.
 use mathlib.Core.Path.{_≡_, refl, sym, _∙_, ap, subst}
 use mathlib.Core.List.{List}
 use Prim.Native.Nat.{ℕ, _+_, _*_, _-_, _<_, _≤_}
@@ -11,32 +11,32 @@ use Rattle.records.specs.Limits.{memoryWidth, maxRecords}
 use Rattle.records.specs.Records.{recordAt, count, Blank}
 use Rattle.geometry.specs.declared.Trapezoid.{Trapezoid}
 use Rattle.geometry.specs.Limit.{coordinateLimit}
-use Rattle.geometry.specs.Fitness.{FitFor, Layer}
+use Rattle.geometry.specs.Fitness.{FitFor, FitLayer}
 use Rattle.geometry.specs.Trapezoids.{trapezoidCodec, layerOf}
 use Rattle.boolean.specs.declared.Folded.{Folded}
-use Rattle.boolean.specs.declared.Folded.the-variants.{Short, Done}
-use Rattle.boolean.specs.Operations.{less, lessAll}
-use Rattle.boolean.specs.Space.{lessMarks, lessAllMarks}
+use Rattle.boolean.specs.declared.Folded.the-variants.{NoRoom, Done}
+use Rattle.boolean.specs.Operations.{minus, minusAll}
+use Rattle.boolean.specs.Space.{minusStages, minusAllStages}
 use Rattle.trapezoids_code.proofs.Writing.{tail}
-use Rattle.remainder_code.specs.Code.{front, rest, from, held, Remaining, FoldedAs, ScratchFor}
-use Rattle.remainder_code.proofs.Held.{rest-is, front-count, back-front, back-rest, back-blank, scratch-rest}
+use Rattle.remainder_code.specs.Code.{front, rest, from, leading, Remaining, FoldedAs, ScratchFor}
+use Rattle.remainder_code.proofs.Leading.{rest-is, front-count, back-front, back-rest, back-blank, scratch-rest}
 use Rattle.remainder_code.proofs.Folding.{fold-stop}
 use Rattle.remainder_code.proofs.Reducing.{Reducing, reduce-start, reduce-none, Reduced, reduce-turn}
 
--- the remainder past k records, less those from number `start` on:
+-- the remainder past k records, minus those from number `start` on:
 -- `Reducing` of the rest, and the first k records as they were
 pub record FrontReducing (room k start n : ℕ) (out₀ out scratch : List ℤ) (m sum i : ℕ) : Type 0 where
-  pub layer : Layer (front out₀ k)
+  pub layer : FitLayer (front out₀ k)
   pub within : k ≤ room
   pub small : room ≤ maxRecords
   pub wide : memoryWidth * room ≤ length out₀
-  pub reducing : Reducing (length (rest out₀ k)) (room - k) (front out₀ k) (held (rest out₀ k) n) start (rest out k) (rest scratch k) m sum i
+  pub reducing : Reducing (length (rest out₀ k)) (room - k) (front out₀ k) (leading (rest out₀ k) n) start (rest out k) (rest scratch k) m sum i
   pub same : front out k ≡ front out₀ k
   pub long : length out ≡ length out₀
   pub blank : Blank (pos 0) scratch
   pub scratch-long : length scratch ≡ length out₀
 
-pub front-start : (room k start n : ℕ) (out scratch : List ℤ) → Layer (front out k) → start ≤ k → k ≤ room → room ≤ maxRecords → memoryWidth * room ≤ length out → Remaining (rest out k) n (room - k) → ScratchFor out scratch
+pub front-start : (room k start n : ℕ) (out scratch : List ℤ) → FitLayer (front out k) → start ≤ k → k ≤ room → room ≤ maxRecords → memoryWidth * room ≤ length out → Remaining (rest out k) n (room - k) → ScratchFor out scratch
     → FrontReducing room k start n out out scratch n 0 start
 front-start room k start n out scratch y o l m w h z =
     record {
@@ -65,11 +65,11 @@ module _ {room k start n : ℕ} {out₀ out scratch : List ℤ} {m sum i : ℕ} 
   front-few = omega (arith, h .reducing .few, h .reducing .folding .upto, h .layer .few)
 
   pub front-stop : k ≤ i
-      → FoldedAs (length (rest out₀ k)) (room - k) (lessAll (held (rest out₀ k) n) (from (front out₀ k) start)) (lessAllMarks 0 (held (rest out₀ k) n) (from (front out₀ k) start)) (Done m sum) (rest out k)
+      → FoldedAs (length (rest out₀ k)) (room - k) (minusAll (leading (rest out₀ k) n) (from (front out₀ k) start)) (minusAllStages 0 (leading (rest out₀ k) n) (from (front out₀ k) start)) (Done m sum) (rest out k)
   front-stop l = fold-stop (h .reducing .folding) (omega (arith, front-count out₀ k fits, l)) sum refl
 
   pub front-none : m ≡ 0
-      → FoldedAs (length (rest out₀ k)) (room - k) (lessAll (held (rest out₀ k) n) (from (front out₀ k) start)) (lessAllMarks 0 (held (rest out₀ k) n) (from (front out₀ k) start)) (Done m sum) (rest out k)
+      → FoldedAs (length (rest out₀ k)) (room - k) (minusAll (leading (rest out₀ k) n) (from (front out₀ k) start)) (minusAllStages 0 (leading (rest out₀ k) n) (from (front out₀ k) start)) (Done m sum) (rest out k)
   front-none z = reduce-none (h .reducing) z
 
   pub front-fit : All (FitFor coordinateLimit) (layerOf (front out k))
@@ -93,14 +93,14 @@ module _ {room k start n : ℕ} {out₀ out scratch : List ℤ} {m sum i : ℕ} 
 
   -- what an answer says of the loop, when the tails come back as t and w
   pub record FrontReduced (f : Folded) (t w : List ℤ) : Type 0 where
-    pub full : (c : ℕ) → f ≡ Short c
-        → FoldedAs (length (rest out₀ k)) (room - k) (lessAll (held (rest out₀ k) n) (from (front out₀ k) start)) (lessAllMarks 0 (held (rest out₀ k) n) (from (front out₀ k) start)) (Short (sum + c)) (rest (putMid (memoryWidth * k) (length out - memoryWidth * k) out t) k)
-    pub full-few : (c : ℕ) → f ≡ Short c → sum + c ≤ maxRecords * (maxRecords - start)
+    pub full : (c : ℕ) → f ≡ NoRoom c
+        → FoldedAs (length (rest out₀ k)) (room - k) (minusAll (leading (rest out₀ k) n) (from (front out₀ k) start)) (minusAllStages 0 (leading (rest out₀ k) n) (from (front out₀ k) start)) (NoRoom (sum + c)) (rest (putMid (memoryWidth * k) (length out - memoryWidth * k) out t) k)
+    pub full-few : (c : ℕ) → f ≡ NoRoom c → sum + c ≤ maxRecords * (maxRecords - start)
     pub keeps : (p c : ℕ) → f ≡ Done p c
         → FrontReducing room k start n out₀ (putMid (memoryWidth * k) (length out - memoryWidth * k) out t) (putMid (memoryWidth * k) (length scratch - memoryWidth * k) scratch w) p (sum + c) (i + 1)
 
-  -- x is number i of the first k, and f answers the remainder less it
-  module _ (l : i < k) (x : Trapezoid) (is : x ≡ recordAt trapezoidCodec (front out k) i) (f : Folded) (t w : List ℤ) (g : FoldedAs (length (tail out k)) (room - k) (less (held (tail out k) m) x) (lessMarks 0 (held (tail out k) m) x) f t)
+  -- x is number i of the first k, and f answers the remainder minus it
+  module _ (l : i < k) (x : Trapezoid) (is : x ≡ recordAt trapezoidCodec (front out k) i) (f : Folded) (t w : List ℤ) (g : FoldedAs (length (tail out k)) (room - k) (minus (leading (tail out k) m) x) (minusStages 0 (leading (tail out k) m) x) f t)
       (z : Blank (pos 0) w) (kept : length t ≡ length (tail out k)) (scratch-kept : length w ≡ length (tail scratch k)) where
     next : i < count trapezoidCodec (front out₀ k)
     next = omega (arith, front-count out₀ k fits, l)
@@ -108,7 +108,7 @@ module _ {room k start n : ℕ} {out₀ out scratch : List ℤ} {m sum i : ℕ} 
     turned : Reduced (h .reducing) f t w
     turned =
         reduce-turn (h .reducing) (omega (arith, h .small)) next x (is ∙ ap (λ (s : List ℤ). recordAt trapezoidCodec s i) (h .same)) f t w
-        (subst (λ (d : List ℤ). FoldedAs (length d) (room - k) (less (held d m) x) (lessMarks 0 (held d m) x) f t) (rest-is out k) g) z (scratch-kept ∙ ap length (rest-is scratch k))
+        (subst (λ (d : List ℤ). FoldedAs (length d) (room - k) (minus (leading d m) x) (minusStages 0 (leading d m) x) f t) (rest-is out k) g) z (scratch-kept ∙ ap length (rest-is scratch k))
 
     pub front-turn : FrontReduced f t w
     front-turn =

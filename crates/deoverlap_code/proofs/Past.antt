@@ -1,4 +1,4 @@
--- One trapezoid in hand less those that a buffer holds, and what remains of it past them.
+-- One trapezoid in hand minus those that a buffer holds, and what remains of it past them.
 use mathlib.Core.Path.{_≡_, sym, subst}
 use mathlib.Core.List.{List, [], _∷_}
 use Prim.Native.Nat.{ℕ, _+_, _*_, _-_, _<_, _≤_}
@@ -12,91 +12,91 @@ use Rattle.records.specs.Records.{recordAt, count}
 use Rattle.records.proofs.Buffer.{blank-of}
 use Rattle.geometry.specs.declared.Trapezoid.{Trapezoid}
 use Rattle.geometry.specs.Limit.{coordinateLimit}
-use Rattle.geometry.specs.Fitness.{FitFor, Layer}
+use Rattle.geometry.specs.Fitness.{FitFor, FitLayer}
 use Rattle.geometry.specs.Trapezoids.{trapezoidCodec, layerOf}
 use Rattle.boolean.specs.declared.Folded.{Folded}
-use Rattle.boolean.specs.declared.Folded.the-variants.{Short, Done}
-use Rattle.boolean.specs.Operations.{less, lessAll}
-use Rattle.boolean.specs.Space.{addition, lessMarks, lessAllMarks, oneMarks}
+use Rattle.boolean.specs.declared.Folded.the-variants.{NoRoom, Done}
+use Rattle.boolean.specs.Operations.{minus, minusAll}
+use Rattle.boolean.specs.Space.{addition, minusStages, minusAllStages, oneStages}
 use Rattle.trapezoids_code.specs.Tails.{Borrowed}
 use Rattle.trapezoids_code.proofs.Writing.{tail}
-use Rattle.remainder_code.specs.Code.{front, rest, from, held, withOverlays, OverlaysWithin, Remaining, FoldedAs, apartBefore}
+use Rattle.remainder_code.specs.Code.{front, rest, from, leading, withOverlays, OverlaysWithin, Remaining, FoldedAs, apartBefore}
 use Rattle.remainder_code.proofs.One.{one-whole, first-few, one-refused, one-remaining, one-folded, one-start, skip-upto, one-skip}
-use Rattle.remainder_code.proofs.Held.{front-held, held-fits, rest-blanks, rest-is, rest-length, front-count, back-front, back-rest}
+use Rattle.remainder_code.proofs.Leading.{front-leading, leading-fits, rest-blanks, rest-is, rest-length, front-count, back-front, back-rest}
 
 module _ (d : List ℤ) (k room : ℕ) (h : Remaining d k room) where
-  pub front-layer : room ≤ maxRecords → Layer (front d k)
-  front-layer l = record { fit = subst (All (FitFor coordinateLimit)) (sym (front-held d k room h)) (h .fit); few = omega (arith, front-count d k (held-fits d k room h), h .within, l) }
+  pub front-layer : room ≤ maxRecords → FitLayer (front d k)
+  front-layer l = record { fit = subst (All (FitFor coordinateLimit)) (sym (front-leading d k room h)) (h .fit); few = omega (arith, front-count d k (leading-fits d k room h), h .within, l) }
 
   pub past-borrowed : Borrowed (tail d k) (room - k)
   past-borrowed =
       subst (λ (t : List ℤ). Borrowed t (room - k)) (sym (rest-is d k)) (record { blank = blank-of (pos 0) (rest d k) (length d - memoryWidth * k) (rest-blanks d k room h); wide = omega (arith, rest-length d k, h .within, h .wide) })
 
   pub past-front : (t : List ℤ) → front (putMid (memoryWidth * k) (length d - memoryWidth * k) d t) k ≡ front d k
-  past-front t = back-front d k (held-fits d k room h) t
+  past-front t = back-front d k (leading-fits d k room h) t
 
-  -- ---- a less those from number j on
+  -- ---- a minus those from number j on
   module _ (a : Trapezoid) (j : ℕ) where
-    at-rest : (r : Folded) (u : List ℤ) → FoldedAs (length (tail d k)) (room - k) (lessAll (a ∷ []) (from (front d k) j)) (oneMarks 0 a (from (front d k) j)) r u
-        → FoldedAs (length (rest d k)) (room - k) (lessAll (a ∷ []) (from (front d k) j)) (oneMarks 0 a (from (front d k) j)) r u
-    at-rest r u x = subst (λ (s : List ℤ). FoldedAs (length s) (room - k) (lessAll (a ∷ []) (from (front d k) j)) (oneMarks 0 a (from (front d k) j)) r u) (rest-is d k) x
+    at-rest : (r : Folded) (u : List ℤ) → FoldedAs (length (tail d k)) (room - k) (minusAll (a ∷ []) (from (front d k) j)) (oneStages 0 a (from (front d k) j)) r u
+        → FoldedAs (length (rest d k)) (room - k) (minusAll (a ∷ []) (from (front d k) j)) (oneStages 0 a (from (front d k) j)) r u
+    at-rest r u x = subst (λ (s : List ℤ). FoldedAs (length s) (room - k) (minusAll (a ∷ []) (from (front d k) j)) (oneStages 0 a (from (front d k) j)) r u) (rest-is d k) x
 
     -- the same of the buffer with u back
-    at-back : (r : Folded) (u : List ℤ) → FoldedAs (length (tail d k)) (room - k) (lessAll (a ∷ []) (from (front d k) j)) (oneMarks 0 a (from (front d k) j)) r u
-        → FoldedAs (length (rest d k)) (room - k) (lessAll (a ∷ []) (from (front d k) j)) (oneMarks 0 a (from (front d k) j)) r (rest (putMid (memoryWidth * k) (length d - memoryWidth * k) d u) k)
+    at-back : (r : Folded) (u : List ℤ) → FoldedAs (length (tail d k)) (room - k) (minusAll (a ∷ []) (from (front d k) j)) (oneStages 0 a (from (front d k) j)) r u
+        → FoldedAs (length (rest d k)) (room - k) (minusAll (a ∷ []) (from (front d k) j)) (oneStages 0 a (from (front d k) j)) r (rest (putMid (memoryWidth * k) (length d - memoryWidth * k) d u) k)
     at-back r u x =
-        subst (λ (v : List ℤ). FoldedAs (length (rest d k)) (room - k) (lessAll (a ∷ []) (from (front d k) j)) (oneMarks 0 a (from (front d k) j)) r v) (sym (back-rest d k (held-fits d k room h) u)) (at-rest r u x)
+        subst (λ (v : List ℤ). FoldedAs (length (rest d k)) (room - k) (minusAll (a ∷ []) (from (front d k) j)) (oneStages 0 a (from (front d k) j)) r v) (sym (back-rest d k (leading-fits d k room h) u)) (at-rest r u x)
 
     pub past-whole : k ≤ j → (r : Folded) (t : List ℤ) → FoldedAs (length (tail d k)) (room - k) (a ∷ []) (addition 1 ∷ []) r t
-        → FoldedAs (length (rest d k)) (room - k) (lessAll (a ∷ []) (from (front d k) j)) (oneMarks 0 a (from (front d k) j)) r (rest (putMid (memoryWidth * k) (length d - memoryWidth * k) d t) k)
-    past-whole l r t g = at-back r t (one-whole (length (tail d k)) (room - k) a (front d k) j r t (omega (arith, front-count d k (held-fits d k room h), l)) g)
+        → FoldedAs (length (rest d k)) (room - k) (minusAll (a ∷ []) (from (front d k) j)) (oneStages 0 a (from (front d k) j)) r (rest (putMid (memoryWidth * k) (length d - memoryWidth * k) d t) k)
+    past-whole l r t g = at-back r t (one-whole (length (tail d k)) (room - k) a (front d k) j r t (omega (arith, front-count d k (leading-fits d k room h), l)) g)
 
-    -- b is number j, and f answers a less b
+    -- b is number j, and f answers a minus b
     module _ (some : j < k) (b : Trapezoid) (is : b ≡ recordAt trapezoidCodec (front d k) j) (f : Folded) (t : List ℤ)
-        (g : FoldedAs (length (tail d k)) (room - k) (less (a ∷ []) b) (lessMarks 0 (a ∷ []) b) f t) where
+        (g : FoldedAs (length (tail d k)) (room - k) (minus (a ∷ []) b) (minusStages 0 (a ∷ []) b) f t) where
       -- the buffer with t back
       abbrev back : List ℤ
       back = putMid (memoryWidth * k) (length d - memoryWidth * k) d t
 
       next : j < count trapezoidCodec (front d k)
-      next = omega (arith, front-count d k (held-fits d k room h), some)
+      next = omega (arith, front-count d k (leading-fits d k room h), some)
 
       pub past-few : OverlaysWithin 1 f
       past-few = first-few (length (tail d k)) (room - k) a b (front d k) j next is f t g
 
-      pub past-refused : (c : ℕ) → f ≡ Short c
-          → FoldedAs (length (rest d k)) (room - k) (lessAll (a ∷ []) (from (front d k) j)) (oneMarks 0 a (from (front d k) j)) f (rest (putMid (memoryWidth * k) (length d - memoryWidth * k) d t) k)
+      pub past-refused : (c : ℕ) → f ≡ NoRoom c
+          → FoldedAs (length (rest d k)) (room - k) (minusAll (a ∷ []) (from (front d k) j)) (oneStages 0 a (from (front d k) j)) f (rest (putMid (memoryWidth * k) (length d - memoryWidth * k) d t) k)
       past-refused c e = at-back f t (one-refused (length (tail d k)) (room - k) a b (front d k) j next is f t g c e)
 
       module _ (kept : length t ≡ length (tail d k)) (m c : ℕ) (e : f ≡ Done m c) where
         pub past-remaining : FitFor coordinateLimit a → FitFor coordinateLimit b → Remaining (rest (putMid (memoryWidth * k) (length d - memoryWidth * k) d t) k) m (room - k)
         past-remaining ha hb =
-            subst (λ (u : List ℤ). Remaining u m (room - k)) (sym (back-rest d k (held-fits d k room h) t))
+            subst (λ (u : List ℤ). Remaining u m (room - k)) (sym (back-rest d k (leading-fits d k room h) t))
             (one-remaining (length (tail d k)) (room - k) a b (front d k) j next is f t g m c e kept (past-borrowed .wide) ha hb)
 
         pub past-folded : (r : Folded) (u : List ℤ)
-            → FoldedAs (length (rest (putMid (memoryWidth * k) (length d - memoryWidth * k) d t) k)) (room - k) (lessAll (held (rest (putMid (memoryWidth * k) (length d - memoryWidth * k) d t) k) m) (from (front (putMid (memoryWidth * k) (length d - memoryWidth * k) d t) k) (j + 1))) (lessAllMarks 0 (held (rest (putMid (memoryWidth * k) (length d - memoryWidth * k) d t) k) m) (from (front (putMid (memoryWidth * k) (length d - memoryWidth * k) d t) k) (j + 1))) r u
-            → FoldedAs (length (rest d k)) (room - k) (lessAll (a ∷ []) (from (front d k) j)) (oneMarks 0 a (from (front d k) j)) (withOverlays c r) u
+            → FoldedAs (length (rest (putMid (memoryWidth * k) (length d - memoryWidth * k) d t) k)) (room - k) (minusAll (leading (rest (putMid (memoryWidth * k) (length d - memoryWidth * k) d t) k) m) (from (front (putMid (memoryWidth * k) (length d - memoryWidth * k) d t) k) (j + 1))) (minusAllStages 0 (leading (rest (putMid (memoryWidth * k) (length d - memoryWidth * k) d t) k) m) (from (front (putMid (memoryWidth * k) (length d - memoryWidth * k) d t) k) (j + 1))) r u
+            → FoldedAs (length (rest d k)) (room - k) (minusAll (a ∷ []) (from (front d k) j)) (oneStages 0 a (from (front d k) j)) (withOverlays c r) u
         past-folded r u x =
-            let y = subst (λ (s : List ℤ). FoldedAs (length (rest back k)) (room - k) (lessAll (held (rest back k) m) (from s (j + 1))) (lessAllMarks 0 (held (rest back k) m) (from s (j + 1))) r u) (past-front t) x in
-            let z = subst (λ (s : List ℤ). FoldedAs (length s) (room - k) (lessAll (held s m) (from (front d k) (j + 1))) (lessAllMarks 0 (held s m) (from (front d k) (j + 1))) r u) (back-rest d k (held-fits d k room h) t) y in
+            let y = subst (λ (s : List ℤ). FoldedAs (length (rest back k)) (room - k) (minusAll (leading (rest back k) m) (from s (j + 1))) (minusAllStages 0 (leading (rest back k) m) (from s (j + 1))) r u) (past-front t) x in
+            let z = subst (λ (s : List ℤ). FoldedAs (length s) (room - k) (minusAll (leading s m) (from (front d k) (j + 1))) (minusAllStages 0 (leading s m) (from (front d k) (j + 1))) r u) (back-rest d k (leading-fits d k room h) t) y in
             at-rest (withOverlays c r) u (one-folded (length (tail d k)) (room - k) a b (front d k) j next is f t g m c e r u kept z)
 
-  -- ---- a less all that is held
+  -- ---- a minus all that is held
   module _ (a : Trapezoid) (r : Folded) (u : List ℤ) where
-    at-held : FoldedAs (length (rest d k)) (room - k) (lessAll (a ∷ []) (layerOf (front d k))) (oneMarks 0 a (layerOf (front d k))) r u
-        → FoldedAs (length (rest d k)) (room - k) (lessAll (a ∷ []) (held d k)) (oneMarks 0 a (held d k)) r u
-    at-held x = subst (λ (B : List Trapezoid). FoldedAs (length (rest d k)) (room - k) (lessAll (a ∷ []) B) (oneMarks 0 a B) r u) (front-held d k room h) x
+    at-leading : FoldedAs (length (rest d k)) (room - k) (minusAll (a ∷ []) (layerOf (front d k))) (oneStages 0 a (layerOf (front d k))) r u
+        → FoldedAs (length (rest d k)) (room - k) (minusAll (a ∷ []) (leading d k)) (oneStages 0 a (leading d k)) r u
+    at-leading x = subst (λ (B : List Trapezoid). FoldedAs (length (rest d k)) (room - k) (minusAll (a ∷ []) B) (oneStages 0 a B) r u) (front-leading d k room h) x
 
-    pub past-start : FoldedAs (length (rest d k)) (room - k) (lessAll (a ∷ []) (from (front d k) 0)) (oneMarks 0 a (from (front d k) 0)) r u
-        → FoldedAs (length (rest d k)) (room - k) (lessAll (a ∷ []) (held d k)) (oneMarks 0 a (held d k)) r u
-    past-start x = at-held (one-start (length (rest d k)) (room - k) a (front d k) r u x)
+    pub past-start : FoldedAs (length (rest d k)) (room - k) (minusAll (a ∷ []) (from (front d k) 0)) (oneStages 0 a (from (front d k) 0)) r u
+        → FoldedAs (length (rest d k)) (room - k) (minusAll (a ∷ []) (leading d k)) (oneStages 0 a (leading d k)) r u
+    past-start x = at-leading (one-start (length (rest d k)) (room - k) a (front d k) r u x)
 
   -- j of them come before the first that overlaps a
   module _ (a : Trapezoid) (j : ℕ) (is : j ≡ apartBefore a (layerOf (front d k))) where
     pub past-upto : j ≤ k
-    past-upto = omega (arith, front-count d k (held-fits d k room h), skip-upto (length (rest d k)) (room - k) a (front d k) j is)
+    past-upto = omega (arith, front-count d k (leading-fits d k room h), skip-upto (length (rest d k)) (room - k) a (front d k) j is)
 
-    pub past-skip : k < room → (r : Folded) (u : List ℤ) → FoldedAs (length (rest d k)) (room - k) (lessAll (a ∷ []) (from (front d k) j)) (oneMarks 0 a (from (front d k) j)) r u
-        → FoldedAs (length (rest d k)) (room - k) (lessAll (a ∷ []) (held d k)) (oneMarks 0 a (held d k)) (withOverlays j r) u
-    past-skip l r u x = at-held a (withOverlays j r) u (one-skip (length (rest d k)) (room - k) a (front d k) j is (omega (arith, l)) r u x)
+    pub past-skip : k < room → (r : Folded) (u : List ℤ) → FoldedAs (length (rest d k)) (room - k) (minusAll (a ∷ []) (from (front d k) j)) (oneStages 0 a (from (front d k) j)) r u
+        → FoldedAs (length (rest d k)) (room - k) (minusAll (a ∷ []) (leading d k)) (oneStages 0 a (leading d k)) (withOverlays j r) u
+    past-skip l r u x = at-leading a (withOverlays j r) u (one-skip (length (rest d k)) (room - k) a (front d k) j is (omega (arith, l)) r u x)

@@ -8,15 +8,15 @@ ghost use lib.IntN.{pos};
 ghost use Rattle.records.specs.Limits.{memoryWidth, maxRecords};
 ghost use Rattle.records.specs.Records.{Blank};
 ghost use Rattle.geometry.specs.Trapezoids.{layerOf};
-ghost use Rattle.geometry.specs.Fitness.{Layer};
+ghost use Rattle.geometry.specs.Fitness.{FitLayer};
 ghost use Rattle.trapezoids_code.specs.Placed.{PlacedAs};
 ghost use Rattle.trapezoids_code.specs.Tails.{Borrowed};
-ghost use Rattle.remainder_code.specs.Code.{front, rest, from, overlaysOfOne, maxOverlays, OverlaysWithin, held, Remaining, LessAllWritten, OneWritten, ScratchFor};
+ghost use Rattle.remainder_code.specs.Code.{front, rest, from, overlaysOfOne, maxOverlays, OverlaysWithin, leading, Remaining, OneWritten, ScratchFor};
 ghost use Rattle.deoverlap_code.specs.Code.{DeoverlappedWritten, RestWritten};
 
-// `out` holds k trapezoids and, past them, n more, the remainder: each of those less the first k from number `start` on,
+// `out` holds k trapezoids and, past them, n more, the remainder: each of those minus the first k from number `start` on,
 // until none remains.
-fn lessen_by_front(
+fn reduce_by_front(
     k: usize,
     start: usize,
     n: usize,
@@ -24,7 +24,7 @@ fn lessen_by_front(
     scratch: &mut [i32],
     room: usize,
 ) -> Folded
-    requires { ⌜ Layer (front (now out) k) × (start ≤ k) × (k ≤ room) × (room ≤ maxRecords) ⌝ }
+    requires { ⌜ FitLayer (front (now out) k) × (start ≤ k) × (k ≤ room) × (room ≤ maxRecords) ⌝ }
     requires { ⌜ (memoryWidth * room ≤ length (now out)) × Remaining (rest (now out) k) n (room - k) ⌝ }
     requires { ⌜ ScratchFor (now out) (now scratch) ⌝ }
     ensures { λ r. ⌜ RestWritten (now (out .entry)) room k start n r (now (out .exit)) ⌝ }
@@ -44,10 +44,10 @@ fn lessen_by_front(
             };
         }
         let b = trapezoids_code::placed_at(&out[..end], i);
-        let f = remainder_code::lessen(b, m, &mut out[end..], &mut scratch[end..], room - k);
+        let f = remainder_code::reduce(b, m, &mut out[end..], &mut scratch[end..], room - k);
         match f {
-            Folded::Short(overlays) => {
-                return Folded::Short(sum + overlays);
+            Folded::NoRoom(overlays) => {
+                return Folded::NoRoom(sum + overlays);
             }
             Folded::Done {
                 trapezoids,
@@ -65,7 +65,7 @@ fn lessen_by_front(
     }
 }
 
-// One trapezoid less the k trapezoids that `out` holds from number j on, and what remains of it added past them.
+// One trapezoid minus the k trapezoids that `out` holds from number j on, and what remains of it added past them.
 fn one_past(
     a: Placed,
     j: usize,
@@ -94,16 +94,16 @@ fn one_past(
     else {
         return f;
     };
-    let g = lessen_by_front(k, j + 1, n, out, scratch, room);
+    let g = reduce_by_front(k, j + 1, n, out, scratch, room);
     remainder_code::more_overlays(first, g)
 }
 
-// One trapezoid less the k trapezoids that `out` holds, and what remains of it added past them. With
+// One trapezoid minus the k trapezoids that `out` holds, and what remains of it added past them. With
 // any room, those before the first that overlaps it are passed over, as in `one_into`.
 fn one_by_front(a: Placed, k: usize, out: &mut [i32], scratch: &mut [i32], room: usize) -> Folded
     requires { ⌜ PlacedAs (a .shape) a × Remaining (now out) k room × (room ≤ maxRecords) ⌝ }
     requires { ⌜ ScratchFor (now out) (now scratch) ⌝ }
-    ensures { λ r. ⌜ OneWritten (rest (now (out .entry)) k) (room - k) (a .shape) (held (now (out .entry)) k) r (rest (now (out .exit)) k) ⌝ }
+    ensures { λ r. ⌜ OneWritten (rest (now (out .entry)) k) (room - k) (a .shape) (leading (now (out .entry)) k) r (rest (now (out .exit)) k) ⌝ }
     ensures { λ _. ⌜ front (now (out .exit)) k ≡ front (now (out .entry)) k ⌝ }
     ensures { λ r. ⌜ OverlaysWithin overlaysOfOne r ⌝ }
     ensures { λ _. ⌜ Blank (pos 0) (now (scratch .exit)) ⌝ }
@@ -117,9 +117,9 @@ fn one_by_front(a: Placed, k: usize, out: &mut [i32], scratch: &mut [i32], room:
     remainder_code::more_overlays(j, f)
 }
 
-// Each trapezoid of a layer in turn, less all that the result already holds, is added.
+// Each trapezoid of a layer in turn, minus all that the result already holds, is added.
 pub fn deoverlap_into(layer: &[i32], out: &mut [i32], scratch: &mut [i32], room: usize) -> Folded
-    requires { ⌜ Layer (now layer) ⌝ }
+    requires { ⌜ FitLayer (now layer) ⌝ }
     requires { ⌜ Borrowed (now out) room × (room ≤ maxRecords) ⌝ }
     requires { ⌜ ScratchFor (now out) (now scratch) ⌝ }
     ensures { λ r. ⌜ DeoverlappedWritten (now (out .entry)) room (layerOf (now (layer .entry))) r (now (out .exit)) ⌝ }
@@ -134,9 +134,9 @@ pub fn deoverlap_into(layer: &[i32], out: &mut [i32], scratch: &mut [i32], room:
         let a = trapezoids_code::placed_at(layer, i);
         let f = one_by_front(a, k, out, scratch, room);
         match f {
-            Folded::Short(c) => {
+            Folded::NoRoom(c) => {
                 records_code::clear(out);
-                return Folded::Short(sum + c);
+                return Folded::NoRoom(sum + c);
             }
             Folded::Done {
                 trapezoids: m,

@@ -5,8 +5,8 @@ use Prim.Native.Nat.{ℕ, _+_, _-_, _≤_}
 use native.Mathlib.Omega.{arith}
 use lib.ListN.{length}
 use Rattle.geometry.specs.declared.Trapezoid.{Trapezoid}
-use Rattle.boolean.specs.Operations.{lessAll, difference}
-use Rattle.boolean.specs.Space.{enough, space, oneMarks, differenceMarks}
+use Rattle.boolean.specs.Operations.{minusAll, difference}
+use Rattle.boolean.specs.Space.{enough, space, oneStages, differenceStages}
 use Rattle.boolean.proofs.Shifting.{one-shift}
 use Rattle.remainder_code.proofs.Folding.{Fold, Steps, Part, appending, appending-steps}
 
@@ -15,26 +15,26 @@ module _ (B : List Trapezoid) where
   unfolding difference
   difference-none = refl
 
-  difference-one : (a : Trapezoid) (A : List Trapezoid) → difference (a ∷ A) B ≡ lessAll (a ∷ []) B ++ difference A B
+  difference-one : (a : Trapezoid) (A : List Trapezoid) → difference (a ∷ A) B ≡ minusAll (a ∷ []) B ++ difference A B
   unfolding difference
   difference-one a A = refl
 
-  no-marks : (room k : ℕ) → space room (differenceMarks k [] B) ≡ enough 0
-  unfolding space differenceMarks
-  no-marks room k = refl
+  no-stages : (room k : ℕ) → space room (differenceStages k [] B) ≡ enough 0
+  unfolding space differenceStages
+  no-stages room k = refl
 
-  one-marks : (k : ℕ) (a : Trapezoid) (A : List Trapezoid) → differenceMarks k (a ∷ A) B ≡ oneMarks k a B ++ differenceMarks (k + length (lessAll (a ∷ []) B)) A B
-  unfolding differenceMarks
-  one-marks k a A = refl
+  one-stages : (k : ℕ) (a : Trapezoid) (A : List Trapezoid) → differenceStages k (a ∷ A) B ≡ oneStages k a B ++ differenceStages (k + length (minusAll (a ∷ []) B)) A B
+  unfolding differenceStages
+  one-stages k a A = refl
 
   abbrev pub differenceFold : Fold
-  differenceFold = appending (λ A. difference A B) (λ k A. differenceMarks k A B) (λ a. lessAll (a ∷ []) B) (λ k a left. oneMarks k a B)
+  differenceFold = appending (λ A. difference A B) (λ k A. differenceStages k A B) (λ a. minusAll (a ∷ []) B) (λ k a left. oneStages k a B)
 
   pub difference-steps : Steps differenceFold
   difference-steps =
-      appending-steps (λ A. difference A B) (λ k A. differenceMarks k A B) (λ a. lessAll (a ∷ []) B) (λ k a left. oneMarks k a B)
-      difference-none difference-one no-marks one-marks
+      appending-steps (λ A. difference A B) (λ k A. differenceStages k A B) (λ a. minusAll (a ∷ []) B) (λ k a left. oneStages k a B)
+      difference-none difference-one no-stages one-stages
 
-  pub difference-part : {room k left : ℕ} {done : List Trapezoid} (a : Trapezoid) → k ≡ length done → k ≤ room → Part differenceFold room done a left (room - k) (lessAll (a ∷ []) B) (oneMarks 0 a B)
+  pub difference-part : {room k left : ℕ} {done : List Trapezoid} (a : Trapezoid) → k ≡ length done → k ≤ room → Part differenceFold room done a left (room - k) (minusAll (a ∷ []) B) (oneStages 0 a B)
   difference-part {room} {k} {left} {done} a n l =
-      record { next = refl; same = ap (λ (x : ℕ). space room (oneMarks x a B)) (sym n) ∙ one-shift room k (room - k) a B (omega (arith, l)); within = omega (arith, n, l) }
+      record { next = refl; same = ap (λ (x : ℕ). space room (oneStages x a B)) (sym n) ∙ one-shift room k (room - k) a B (omega (arith, l)); within = omega (arith, n, l) }

@@ -6,13 +6,13 @@ ghost use lib.IntN.{pos};
 ghost use Rattle.records.specs.Limits.{maxRecords};
 ghost use Rattle.records.specs.Records.{Blank};
 ghost use Rattle.geometry.specs.Trapezoids.{layerOf};
-ghost use Rattle.geometry.specs.Fitness.{Layer};
+ghost use Rattle.geometry.specs.Fitness.{FitLayer};
 ghost use Rattle.trapezoids_code.specs.Placed.{PlacedAs};
 ghost use Rattle.trapezoids_code.specs.Tails.{Borrowed};
 ghost use Rattle.remainder_code.specs.Code.{from, overlaysOfOne, overlaysOfLayer, OverlaysWithin, Holding, OneWritten, ScratchFor};
 ghost use Rattle.difference_code.specs.Code.{DifferenceAdded};
 
-// One trapezoid less the trapezoids of a layer from number j on, and what remains of it added.
+// One trapezoid minus the trapezoids of a layer from number j on, and what remains of it added.
 fn one_from(
     a: Placed,
     j: usize,
@@ -21,7 +21,7 @@ fn one_from(
     scratch: &mut [i32],
     room: usize,
 ) -> Folded
-    requires { ⌜ PlacedAs (a .shape) a × Layer (now layer) × Borrowed (now out) room × (room ≤ maxRecords) ⌝ }
+    requires { ⌜ PlacedAs (a .shape) a × FitLayer (now layer) × Borrowed (now out) room × (room ≤ maxRecords) ⌝ }
     requires { ⌜ ScratchFor (now out) (now scratch) ⌝ }
     ensures { λ r. ⌜ OneWritten (now (out .entry)) room (a .shape) (from (now (layer .entry)) j) r (now (out .exit)) ⌝ }
     ensures { λ r. ⌜ OverlaysWithin (maxRecords * (maxRecords - j) + 1) r ⌝ }
@@ -40,14 +40,14 @@ fn one_from(
     else {
         return f;
     };
-    let g = remainder_code::lessen_by_rest(layer, j + 1, n, out, scratch, room);
+    let g = remainder_code::reduce_by_rest(layer, j + 1, n, out, scratch, room);
     remainder_code::more_overlays(made, g)
 }
 
-// One trapezoid less a layer, and what remains of it added. Trapezoids that do not overlap it leave
+// One trapezoid minus a layer, and what remains of it added. Trapezoids that do not overlap it leave
 // it whole: with any room, those before the first that does are counted and passed over.
 fn one_into(a: Placed, layer: &[i32], out: &mut [i32], scratch: &mut [i32], room: usize) -> Folded
-    requires { ⌜ PlacedAs (a .shape) a × Layer (now layer) × Borrowed (now out) room × (room ≤ maxRecords) ⌝ }
+    requires { ⌜ PlacedAs (a .shape) a × FitLayer (now layer) × Borrowed (now out) room × (room ≤ maxRecords) ⌝ }
     requires { ⌜ ScratchFor (now out) (now scratch) ⌝ }
     ensures { λ r. ⌜ OneWritten (now (out .entry)) room (a .shape) (layerOf (now (layer .entry))) r (now (out .exit)) ⌝ }
     ensures { λ r. ⌜ OverlaysWithin overlaysOfOne r ⌝ }
@@ -61,7 +61,7 @@ fn one_into(a: Placed, layer: &[i32], out: &mut [i32], scratch: &mut [i32], room
     remainder_code::more_overlays(j, f)
 }
 
-// The trapezoids of the first layer, each less the second layer, added past the `start` trapezoids that `out` holds.
+// The trapezoids of the first layer, each minus the second layer, added past the `start` trapezoids that `out` holds.
 pub fn difference_into(
     start: usize,
     first: &[i32],
@@ -70,7 +70,7 @@ pub fn difference_into(
     scratch: &mut [i32],
     room: usize,
 ) -> Folded
-    requires { ⌜ Layer (now first) × Layer (now second) × Holding (now out) start room × (room ≤ maxRecords) ⌝ }
+    requires { ⌜ FitLayer (now first) × FitLayer (now second) × Holding (now out) start room × (room ≤ maxRecords) ⌝ }
     requires { ⌜ ScratchFor (now out) (now scratch) ⌝ }
     ensures { λ r. ⌜ DifferenceAdded (now (out .entry)) room start (layerOf (now (first .entry))) (layerOf (now (second .entry))) r (now (out .exit)) ⌝ }
     ensures { λ r. ⌜ OverlaysWithin overlaysOfLayer r ⌝ }
@@ -85,9 +85,9 @@ pub fn difference_into(
         let free = records::MEMORY_WIDTH * k;
         let f = one_into(a, second, &mut out[free..], &mut scratch[free..], room - k);
         match f {
-            Folded::Short(overlays) => {
+            Folded::NoRoom(overlays) => {
                 records_code::clear(out);
-                return Folded::Short(made + overlays);
+                return Folded::NoRoom(made + overlays);
             }
             Folded::Done {
                 trapezoids,

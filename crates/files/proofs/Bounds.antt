@@ -13,7 +13,7 @@ use Rattle.records.specs.Records.{Codec, count}
 use Rattle.records.proofs.Records.{length-from}
 use Rattle.geometry.specs.declared.Trapezoid.{Trapezoid}
 use Rattle.geometry.specs.declared.Checked.the-variants.{Passed}
-use Rattle.geometry.specs.Fitness.{pass, firstRefusal}
+use Rattle.geometry.specs.Fitness.{firstRefusal}
 use Rattle.geometry.proofs.Fitness.{layer-exact, fit-more}
 use Rattle.files.specs.declared.Format.{Format}
 use Rattle.files.specs.declared.Number.{Number}

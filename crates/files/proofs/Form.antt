@@ -19,7 +19,7 @@ use Rattle.files.specs.declared.Directory.the-variants.{Wrong, Right}
 use Rattle.files.specs.Formats.{wordAt}
 use Rattle.files.specs.Directory.{naturalOf, countOf, pairLength, atEnd, afterPair, endOf, pairsFrom, directoryBy, directoryOf, HasPairs}
 use Rattle.files.specs.Contents.{amountOf, offsetAt, lengthAt}
-use Rattle.files.specs.Form.{CountRight, endBefore, PairRight, EndMet, HasForm, WrongAt, DirectoryExact, CountRefused, PlaceExact, OnlyFiveAndSix}
+use Rattle.files.specs.Form.{CountRight, endBefore, PairRight, EndMet, HasForm, WrongAt, DirectoryExact, CountRefused, PairPlaceExact, OnlyFiveAndSix}
 use Rattle.files.proofs.Numbers.{in-range, completed, right-pair}
 use Rattle.files.proofs.Walk.{IsPair, pair, count-read, count-is}
 
@@ -154,8 +154,8 @@ count-refused f ws = (there (answered f ws), back (answered f ws))
     back (wrong i e w) h = absurd (h (w .pairs) (w .count))
     back (formed m e g) h = absurd (h m (g .count))
 
-pub place-exact : PlaceExact
-place-exact f ws i = (there (answered f ws), back (answered f ws))
+pub pair-place-exact : PairPlaceExact
+pair-place-exact f ws i = (there (answered f ws), back (answered f ws))
   where
     there : Answered f ws (directoryOf f ws) → directoryOf f ws ≡ Wrong 6 i → WrongAt f ws i
     there (no-count e g) p = let z : _≡_ {A = ℕ} 5 6 = cc in absurd (omega arith)

@@ -19,7 +19,7 @@ use Rattle.geometry.specs.Trapezoids.{trapezoidCodec}
 use Rattle.files.specs.Formats.{fileSized, fileWords, layerFile, layerWords}
 use Rattle.files.specs.Contents.{unitsOf, fileCodec, layersOf, fileLayersOf}
 use Rattle.files.specs.Rows.{layerFileChecked, layerWordsChecked}
-use Rattle.files.specs.Outcomes.{Outcome, done, isDone, observed, placed, outcome, readLayers, writeLayers}
+use Rattle.files.specs.Outcomes.{FileOutcome, done, isDone, observedFile, placed, fileOutcome, readLayers, writeLayers}
 use Rattle.files.specs.Statements.{bytesWritten, wordsRead, WordsHold, WrittenReads, ReadWrites}
 use Rattle.files.proofs.Reading.{length-file}
 use Rattle.files.proofs.Right.{right}
@@ -29,7 +29,7 @@ use Rattle.files.proofs.Calls.{file-passes, length-bytes}
 use Rattle.files.proofs.WordSizes.{words-passed}
 
 -- ---- a success
-outcome-done : {W : Type 0} (c : Checked) (z : W) (pieces : ℕ) (content out : List W) → T (isDone (outcome c z pieces content out .answer)) → (c ≡ Passed) × (length content ≤ length out)
+outcome-done : {W : Type 0} (c : Checked) (z : W) (pieces : ℕ) (content out : List W) → T (isDone (fileOutcome c z pieces content out .answer)) → (c ≡ Passed) × (length content ≤ length out)
 outcome-done (Refused number place) z pieces content out h = absurd h
 outcome-done Passed z pieces content out h = (refl, go (leb (length content) (length out)) refl h)
   where
@@ -39,23 +39,23 @@ outcome-done Passed z pieces content out h = (refl, go (leb (length content) (le
 
 -- what a success of the reader and of the writer is
 module _ (L : ℕ) (bs : List ℕ) (out : List ℤ) (e : layerFileChecked L bs ≡ Passed) (h : length (fileWords bs) ≤ length out) where
-  read-is : observed (done (length (unitsOf fileCodec (fileWords bs))) 0) (fileWords bs ++ replicate (length out - length (fileWords bs)) (pos 0)) ≡ readLayers L bs out
+  read-is : observedFile (done (length (unitsOf fileCodec (fileWords bs))) 0) (fileWords bs ++ replicate (length out - length (fileWords bs)) (pos 0)) ≡ readLayers L bs out
   unfolding readLayers
   read-is = done-is (pos 0) (length (unitsOf fileCodec (fileWords bs))) (fileWords bs) out e h
 
   pub read-words : wordsRead L bs out ≡ fileWords bs
   read-words =
-      ap (λ (o : Outcome ℤ). take (length bs / 4) (o .out)) (sym read-is)
+      ap (λ (o : FileOutcome ℤ). take (length bs / 4) (o .out)) (sym read-is)
       ∙ take-at (fileWords bs) (replicate (length out - length (fileWords bs)) (pos 0)) (length bs / 4) (length-file bs)
 
 module _ (L : ℕ) (ws : List ℤ) (out : List ℕ) (e : layerWordsChecked L ws ≡ Passed) (h : length (wordsOf wordCodec ws) ≤ length out) where
-  pub write-is : observed (done (length (unitsOf trapezoidCodec ws)) 0) (wordsOf wordCodec ws ++ replicate (length out - length (wordsOf wordCodec ws)) 0) ≡ writeLayers L ws out
+  pub write-is : observedFile (done (length (unitsOf trapezoidCodec ws)) 0) (wordsOf wordCodec ws ++ replicate (length out - length (wordsOf wordCodec ws)) 0) ≡ writeLayers L ws out
   unfolding writeLayers
   write-is = done-is 0 (length (unitsOf trapezoidCodec ws)) (wordsOf wordCodec ws) out e h
 
   write-bytes : bytesWritten L ws out ≡ wordsOf wordCodec ws
   write-bytes =
-      ap (λ (o : Outcome ℕ). take (4 * length ws) (o .out)) (sym write-is)
+      ap (λ (o : FileOutcome ℕ). take (4 * length ws) (o .out)) (sym write-is)
       ∙ take-at (wordsOf wordCodec ws) (replicate (length out - length (wordsOf wordCodec ws)) 0) (4 * length ws) (length-bytes ws)
 
 pub read-passed : (L : ℕ) (bs : List ℕ) (out : List ℤ) → T (isDone (readLayers L bs out .answer)) → (layerFileChecked L bs ≡ Passed) × (length (fileWords bs) ≤ length out)
@@ -94,9 +94,9 @@ written-reads L M hold m ws out into d l =
     let c = written-passes L hold ws (p .0) M m in
     let h : length (fileWords (wordsOf wordCodec ws)) ≤ length into = omega (arith, ap length w) in
     let answers : readLayers M (wordsOf wordCodec ws) into .answer ≡ writeLayers L ws out .answer
-    = ap (λ (o : Outcome ℤ). o .answer) (sym (read-is M (wordsOf wordCodec ws) into c h))
+    = ap (λ (o : FileOutcome ℤ). o .answer) (sym (read-is M (wordsOf wordCodec ws) into c h))
     ∙ ap (λ (t : List ℤ). done (length (unitsOf fileCodec t)) 0) w
-    ∙ ap (λ (o : Outcome ℕ). o .answer) (write-is L ws out (p .0) (p .1)) in (
+    ∙ ap (λ (o : FileOutcome ℕ). o .answer) (write-is L ws out (p .0) (p .1)) in (
       ap (λ (t : List ℕ). readLayers M t into .answer) b ∙ answers,
       ap (λ (t : List ℕ). wordsRead M t into) b ∙ read-words M (wordsOf wordCodec ws) into c h ∙ w,
       ap (λ (t : List ℕ). fileLayersOf (fileWords t)) b ∙ ap fileLayersOf w,
@@ -120,7 +120,7 @@ read-writes L M m bs out into g d l =
     let b = words-records wordCodec words-faithful bs (length bs / 4) (whole bs (q .0)) g in
     let h : length (wordsOf wordCodec (fileWords bs)) ≤ length into = omega (arith, ap length b) in
     let answers : writeLayers M (fileWords bs) into .answer ≡ readLayers L bs out .answer
-    = ap (λ (o : Outcome ℕ). o .answer) (sym (write-is M (fileWords bs) into c h)) ∙ ap (λ (o : Outcome ℤ). o .answer) (read-is L bs out (p .0) (p .1)) in (
+    = ap (λ (o : FileOutcome ℕ). o .answer) (sym (write-is M (fileWords bs) into c h)) ∙ ap (λ (o : FileOutcome ℤ). o .answer) (read-is L bs out (p .0) (p .1)) in (
       ap (λ (t : List ℤ). writeLayers M t into .answer) w ∙ answers,
       ap (λ (t : List ℤ). bytesWritten M t into) w ∙ write-bytes M (fileWords bs) into c h ∙ b,
       ap layersOf w,

@@ -28,7 +28,7 @@ use Rattle.files.specs.Formats.{wordAt, fileWords, layerFile, layerWords
 use Rattle.files.specs.Directory.{naturalOf, countOf, pairLength, endOf, pairsFrom, directoryOf, HasPairs}
 use Rattle.files.specs.Contents.{amountOf, countIn, offsetAt, lengthAt, lengthsFrom, bodyOf, unitsOf, listsFrom, fileCodec, pairsOf, layerFileWords, layerWordsAt}
 use Rattle.files.specs.Rows.{layerWordsChecked}
-use Rattle.files.specs.Outcomes.{Outcome, isDone, writeLayers}
+use Rattle.files.specs.Outcomes.{FileOutcome, isDone, writeLayers}
 use Rattle.files.specs.Statements.{LayersBack, Writable, WriterAccepts, LayerAt, ReadPairs}
 use Rattle.files.proofs.Numbers.{in-range, completed, right-pair}
 use Rattle.files.proofs.Walk.{count-read, directory-some}
@@ -173,7 +173,7 @@ module _ (L : ℕ) (layers : List (List Trapezoid)) where
       )
       ∙ ap (firstRefusal L 0) (units-is layers) ∙ layer-exact L 0 (joined layers) .1 (h .fit) in
       let l : length (wordsOf wordCodec (layerFileWords layers)) ≤ length out = omega (arith, h .room, length-bytes (layerFileWords layers), words-long layers) in
-      subst (λ (o : Outcome ℕ). T (isDone (o .answer))) (write-is L (layerFileWords layers) out e l) tt
+      subst (λ (o : FileOutcome ℕ). T (isDone (o .answer))) (write-is L (layerFileWords layers) out e l) tt
 
 pub writer-accepts : WriterAccepts
 writer-accepts L layers out = (taken-only L layers out, taken L layers out)

@@ -68,8 +68,8 @@ abbrev pub CountRefused : Type 0
 CountRefused = (f : Format) (ws : List ℤ) → (directoryOf f ws ≡ Wrong 5 0) ↔ ((n : ℕ) → CountRight f ws n → ⊥)
 
 -- 6 is answered with the lowest place that is wrong
-abbrev pub PlaceExact : Type 0
-PlaceExact = (f : Format) (ws : List ℤ) (i : ℕ) → (directoryOf f ws ≡ Wrong 6 i) ↔ WrongAt f ws i
+abbrev pub PairPlaceExact : Type 0
+PairPlaceExact = (f : Format) (ws : List ℤ) (i : ℕ) → (directoryOf f ws ≡ Wrong 6 i) ↔ WrongAt f ws i
 
 -- and there is no other refusal
 abbrev pub OnlyFiveAndSix : Type 0

@@ -14,7 +14,7 @@ ghost use Rattle.lists.specs.Tests.{all};
 ghost use Rattle.geometry.specs.Limit.{coordinateLimit, onGrid, OnGrid};
 ghost use Rattle.geometry.specs.Trapezoids.{linesOf, layerOf};
 ghost use Rattle.geometry.specs.Fitness.{lineOnGrid, isLine, apartBy, belowBetween, shapeVerdict, verdict, firstRefusal};
-ghost use Rattle.geometry_code.specs.Code.{fractionOf, Small};
+ghost use Rattle.geometry_code.specs.Code.{fractionOf, SmallPosition};
 
 // Whether a coordinate is from -limit to limit.
 pub fn within(x: Int, limit: u32) -> bool
@@ -91,7 +91,7 @@ fn has_lines(t: Trapezoid) -> bool
 
 // Row 11: the bottom is above the top at neither base, and below it at one.
 fn below_between(l: Line, m: Line, p: Position, q: Position) -> bool
-    requires { ⌜ OnGrid coordinateLimit l × OnGrid coordinateLimit m × Small p × Small q ⌝ }
+    requires { ⌜ OnGrid coordinateLimit l × OnGrid coordinateLimit m × SmallPosition p × SmallPosition q ⌝ }
     ensures { λ r. ⌜ r ≡ belowBetween (fractionOf p) (fractionOf q) l m ⌝ }
 {
     let a = geometry_code::heights_at(l, m, p);

@@ -7,7 +7,7 @@ use Prim.Native.Nat.{ℕ, _+_}
 use lib.Dec.{T}
 use lib.IntN.{ℤ, pos}
 use Rattle.lists.specs.Lists.{All}
-use Rattle.lists.specs.Tests.{always, bit, count}
+use Rattle.lists.specs.Tests.{always, bit, countIf}
 use Rattle.lists.proofs.Tests.{true-is, false-is}
 use Rattle.lists.proofs.Lists.{all-of, all-map}
 use Rattle.integer.specs.Fraction.{Fraction, Proper, before}
@@ -25,14 +25,14 @@ use Rattle.sweep.proofs.Sums.{sum-same, sum-none, sum-keep}
 use Rattle.sweep.proofs.Column.{column-winding}
 use Rattle.sweep.proofs.Sweep.{sweep-count}
 use Rattle.fracture.specs.Polygons.{Edge, lineOf, directionOf, edges, segment, passesUnder, windingNumber}
-use Rattle.fracture.specs.Fracture.{events, trapezoid, trapezoids, fracture}
+use Rattle.fracture.specs.Fracture.{polygonEvents, trapezoid, trapezoids, fracture}
 use Rattle.fracture.specs.Statements.{FractureCount}
 use Rattle.fracture.proofs.Edges.{directions-sum}
 use Rattle.fracture.proofs.Events.{complete}
 
 -- what is known of the column from p to q of a polygon
 abbrev pub Cell : ℕ → Polygon → Base → Base → Type 0
-Cell L polygon p q = Column segment position (edges polygon) (events L polygon) p q
+Cell L polygon p q = Column segment position (edges polygon) (polygonEvents L polygon) p q
 
 -- the edges that span the position of p
 abbrev pub spanningEdges : Polygon → Base → List Edge
@@ -45,8 +45,8 @@ module _ (P : Point) (p q : Base) where
 
   -- those of the column that the point is in
   slabs-in : T (crosses (p .first) (p .second)) → T (crosses (q .first) (q .second)) → T (not (before (at P) (position p))) → T (before (at P) (position q)) → (ss : List (Slab Edge))
-      → count (liesIn P) (map (trapezoid p q) ss) ≡ count (holds atOrBelow) ss
-  unfolding count liesIn
+      → countIf (liesIn P) (map (trapezoid p q) ss) ≡ countIf (holds atOrBelow) ss
+  unfolding countIf liesIn
   slabs-in cp cq l r [] = refl
   slabs-in cp cq l r (s ∷ ss) =
       let a : crosses (p .first) (p .second) ≡ true = true-is cp in
@@ -57,8 +57,8 @@ module _ (P : Point) (p q : Base) where
       ap₂ (λ (t : Bool) (n : ℕ). bit t + n) e (slabs-in cp cq l r ss)
 
   -- those of any other column
-  slabs-out : T (before (at P) (position p)) ⊎ T (not (before (at P) (position q))) → (ss : List (Slab Edge)) → count (liesIn P) (map (trapezoid p q) ss) ≡ 0
-  unfolding count liesIn
+  slabs-out : T (before (at P) (position p)) ⊎ T (not (before (at P) (position q))) → (ss : List (Slab Edge)) → countIf (liesIn P) (map (trapezoid p q) ss) ≡ 0
+  unfolding countIf liesIn
   slabs-out o [] = refl
   slabs-out o (s ∷ ss) =
       let t = trapezoid p q s in
@@ -99,7 +99,7 @@ module _ (polygon : Polygon) where
 pub fracture-count : FractureCount
 unfolding fracture trapezoids
 fracture-count L polygon P hP =
-    sweep-count segment position (edges polygon) (events L polygon) trapezoids (at P) (liesIn P) wound (complete L polygon) hP
+    sweep-count segment position (edges polygon) (polygonEvents L polygon) trapezoids (at P) (liesIn P) wound (complete L polygon) hP
     (λ p q es o. slabs-out P p q o (column lineOf directionOf (position p) es))
     (λ a. ap (λ (z : ℤ). bit (not (isZero z))) (nothing-wound polygon P a))
     inner
@@ -108,7 +108,7 @@ fracture-count L polygon P hP =
     wound = bit (not (isZero (windingNumber P polygon)))
 
     inner : (p q : Base) → Cell L polygon p q → T (not (before (at P) (position p))) → T (before (at P) (position q))
-        → count (liesIn P) (map (trapezoid p q) (column lineOf directionOf (position p) (spanningEdges polygon p))) ≡ wound
+        → countIf (liesIn P) (map (trapezoid p q) (column lineOf directionOf (position p) (spanningEdges polygon p))) ≡ wound
     inner p q c l r =
         let es = spanningEdges polygon p in
         slabs-in P p q (proper-crosses (p .first) (p .second) (c .clear .left)) (proper-crosses (q .first) (q .second) (c .clear .right)) l r (column lineOf directionOf (position p) es)

@@ -19,44 +19,44 @@ use Rattle.geometry.proofs.Meet.{meet-proper}
 use Rattle.sweep.specs.Segments.{inside, crossInside}
 use Rattle.sweep.specs.Sweep.{Complete}
 use Rattle.fracture.specs.Polygons.{Edge, edges, whole, segment}
-use Rattle.fracture.specs.Fracture.{mark, marks, crossing, edgesCross, crossingsWith, crossings, events}
+use Rattle.fracture.specs.Fracture.{mark, marks, edgeCrossing, edgesCross, edgeCrossingsWith, edgeCrossings, polygonEvents}
 use Rattle.fracture.specs.Statements.{CrossAt, EventsExact}
 use Rattle.fracture.proofs.Edges.{Ends, edges-ends}
 use Rattle.fracture.proofs.Marks.{mark-position, mark-proper}
 
 -- ---- crossings
 -- what holds where two edges with M cross strictly inside both spans holds of each crossing of edges with M
-module _ (M : Edge → Type 0) (N : Base → Type 0) (f : (d e : Edge) → M d → M e → T (edgesCross d e) → N (crossing d e)) where
-  with-all : (d : Edge) (es : List Edge) → M d → All M es → All N (crossingsWith d es)
-  unfolding crossingsWith
+module _ (M : Edge → Type 0) (N : Base → Type 0) (f : (d e : Edge) → M d → M e → T (edgesCross d e) → N (edgeCrossing d e)) where
+  with-all : (d : Edge) (es : List Edge) → M d → All M es → All N (edgeCrossingsWith d es)
+  unfolding edgeCrossingsWith
   with-all d [] m h = tt
   with-all d (e ∷ es) m h =
       let k = with-all d es m (h .1) in
-      cond-cases (All N) (edgesCross d e) (crossing d e ∷ crossingsWith d es) (crossingsWith d es) (λ t. (f d e m (h .0) t, k)) (λ t. k)
+      cond-cases (All N) (edgesCross d e) (edgeCrossing d e ∷ edgeCrossingsWith d es) (edgeCrossingsWith d es) (λ t. (f d e m (h .0) t, k)) (λ t. k)
 
-  pub crossings-all : (es : List Edge) → All M es → All N (crossings es)
-  unfolding crossings
+  pub crossings-all : (es : List Edge) → All M es → All N (edgeCrossings es)
+  unfolding edgeCrossings
   crossings-all [] h = tt
-  crossings-all (e ∷ es) h = all-append N (crossingsWith e es) (crossings es) (with-all e es (h .0) (h .1)) (crossings-all es (h .1))
+  crossings-all (e ∷ es) h = all-append N (edgeCrossingsWith e es) (edgeCrossings es) (with-all e es (h .0) (h .1)) (crossings-all es (h .1))
 
 -- and what holds of each crossing holds of each two edges that cross so
 module _ (N : Base → Type 0) where
-  with-each : (d : Edge) (es : List Edge) → All N (crossingsWith d es) → All (λ (e : Edge). T (edgesCross d e) → N (crossing d e)) es
-  unfolding crossingsWith
+  with-each : (d : Edge) (es : List Edge) → All N (edgeCrossingsWith d es) → All (λ (e : Edge). T (edgesCross d e) → N (edgeCrossing d e)) es
+  unfolding edgeCrossingsWith
   with-each d [] h = tt
   with-each d (e ∷ es) h = go (edgesCross d e) h (with-each d es)
     where
       Each : Type 0
-      Each = All (λ (e : Edge). T (edgesCross d e) → N (crossing d e)) es
+      Each = All (λ (e : Edge). T (edgesCross d e) → N (edgeCrossing d e)) es
 
-      go : (t : Bool) → All N (cond t (crossing d e ∷ crossingsWith d es) (crossingsWith d es)) → (All N (crossingsWith d es) → Each) → (T t → N (crossing d e)) × Each
+      go : (t : Bool) → All N (cond t (edgeCrossing d e ∷ edgeCrossingsWith d es) (edgeCrossingsWith d es)) → (All N (edgeCrossingsWith d es) → Each) → (T t → N (edgeCrossing d e)) × Each
       go true h k = ((λ c. h .0), k (h .1))
       go false h k = ((λ c. absurd c), k h)
 
-  pub crossings-pairs : (es : List Edge) → All N (crossings es) → Pairs (λ (d e : Edge). T (edgesCross d e) → N (crossing d e)) es
-  unfolding crossings
+  pub crossings-pairs : (es : List Edge) → All N (edgeCrossings es) → Pairs (λ (d e : Edge). T (edgesCross d e) → N (edgeCrossing d e)) es
+  unfolding edgeCrossings
   crossings-pairs [] h = tt
-  crossings-pairs (e ∷ es) h = (with-each e es (all-left N (crossingsWith e es) (crossings es) h), crossings-pairs es (all-right N (crossingsWith e es) (crossings es) h))
+  crossings-pairs (e ∷ es) h = (with-each e es (all-left N (edgeCrossingsWith e es) (edgeCrossings es) h), crossings-pairs es (all-right N (edgeCrossingsWith e es) (edgeCrossings es) h))
 
 -- ---- the events are enough
 inside-crosses : (d e : Edge) → T (edgesCross d e) → T (crosses (d .line) (e .line))
@@ -81,37 +81,37 @@ module _ (L : ℕ) where
 
   module _ (polygon : Polygon) where
     -- what holds of each mark and of each crossing
-    pub events-all : (N : Base → Type 0) → All (λ (v : Vertex). N (mark L (v .x))) polygon → All N (crossings (edges polygon)) → All N (events L polygon)
-    unfolding events
-    events-all N h k = all-append N (marks L polygon) (crossings (edges polygon)) (marks-all N polygon h) k
+    pub events-all : (N : Base → Type 0) → All (λ (v : Vertex). N (mark L (v .x))) polygon → All N (edgeCrossings (edges polygon)) → All N (polygonEvents L polygon)
+    unfolding polygonEvents
+    events-all N h k = all-append N (marks L polygon) (edgeCrossings (edges polygon)) (marks-all N polygon h) k
 
-    vertices-stand : All (λ (v : Vertex). Stands (events L polygon) (whole (v .x))) polygon
-    unfolding events
-    vertices-stand = all-map (λ v h. any-left (λ (k : Base). whole (v .x) ≡ position k) (marks L polygon) (crossings (edges polygon)) h) polygon (marks-stand polygon)
+    vertices-stand : All (λ (v : Vertex). Stands (polygonEvents L polygon) (whole (v .x))) polygon
+    unfolding polygonEvents
+    vertices-stand = all-map (λ v h. any-left (λ (k : Base). whole (v .x) ≡ position k) (marks L polygon) (edgeCrossings (edges polygon)) h) polygon (marks-stand polygon)
 
-    crossings-stand : All (λ (c : Base). Stands (events L polygon) (position c)) (crossings (edges polygon))
-    unfolding events
+    crossings-stand : All (λ (c : Base). Stands (polygonEvents L polygon) (position c)) (edgeCrossings (edges polygon))
+    unfolding polygonEvents
     crossings-stand =
-        let es = crossings (edges polygon) in
+        let es = edgeCrossings (edges polygon) in
         all-map (λ c m. any-right (λ (k : Base). position c ≡ position k) (marks L polygon) es (any-map (λ k e. ap position e) es m)) es (members es)
 
-    events-proper : All (λ (k : Base). Proper (position k)) (events L polygon)
+    events-proper : All (λ (k : Base). Proper (position k)) (polygonEvents L polygon)
     events-proper =
         events-all (λ (k : Base). Proper (position k))
         (all-of (λ (v : Vertex). Proper (position (mark L (v .x)))) (λ v. mark-proper L (v .x)) polygon)
         (crossings-all (λ (e : Edge). Member e (edges polygon)) (λ (k : Base). Proper (position k)) (λ d e m n c. meet-proper (d .line) (e .line) (inside-crosses d e c)) (edges polygon) (members (edges polygon)))
 
-    edges-stand : All (Ends (λ (v : Vertex). Stands (events L polygon) (whole (v .x)))) (edges polygon)
-    edges-stand = edges-ends (λ (v : Vertex). Stands (events L polygon) (whole (v .x))) polygon vertices-stand
+    edges-stand : All (Ends (λ (v : Vertex). Stands (polygonEvents L polygon) (whole (v .x)))) (edges polygon)
+    edges-stand = edges-ends (λ (v : Vertex). Stands (polygonEvents L polygon) (whole (v .x))) polygon vertices-stand
 
-    pub complete : Complete segment position (edges polygon) (events L polygon)
+    pub complete : Complete segment position (edges polygon) (polygonEvents L polygon)
     complete =
         record {
           proper = events-proper;
           lines = all-map (λ e h. h .proper) (edges polygon) edges-stand;
           from = all-map (λ e h. h .low) (edges polygon) edges-stand;
           to = all-map (λ e h. h .high) (edges polygon) edges-stand;
-          meets = crossings-pairs (λ (k : Base). Stands (events L polygon) (position k)) (edges polygon) crossings-stand;
+          meets = crossings-pairs (λ (k : Base). Stands (polygonEvents L polygon) (position k)) (edges polygon) crossings-stand;
         }
 
 -- ---- and no more than the vertices and the crossings
@@ -123,32 +123,32 @@ module _ (x : Fraction) where
   marks-vertex L (v ∷ vs) (inl h) = inl (h ∙ mark-position L (v .x))
   marks-vertex L (v ∷ vs) (inr h) = inr (marks-vertex L vs h)
 
-  with-some : (d : Edge) (es : List Edge) → Any (λ (k : Base). x ≡ position k) (crossingsWith d es) → Any (CrossAt x d) es
-  unfolding crossingsWith
+  with-some : (d : Edge) (es : List Edge) → Any (λ (k : Base). x ≡ position k) (edgeCrossingsWith d es) → Any (CrossAt x d) es
+  unfolding edgeCrossingsWith
   with-some d [] h = h
   with-some d (e ∷ es) h = go (edgesCross d e) (λ t. t) h (with-some d es)
     where
       At : List Base → Type 0
       At ks = Any (λ (k : Base). x ≡ position k) ks
 
-      go : (t : Bool) → (T t → T (crossInside (segment d) (segment e))) → At (cond t (crossing d e ∷ crossingsWith d es) (crossingsWith d es)) → (At (crossingsWith d es) → Any (CrossAt x d) es)
+      go : (t : Bool) → (T t → T (crossInside (segment d) (segment e))) → At (cond t (edgeCrossing d e ∷ edgeCrossingsWith d es) (edgeCrossingsWith d es)) → (At (edgeCrossingsWith d es) → Any (CrossAt x d) es)
           → CrossAt x d e ⊎ Any (CrossAt x d) es
       go true f (inl h) k = inl (f tt, h)
       go true f (inr h) k = inr (k h)
       go false f h k = inr (k h)
 
-  crossings-some : (es : List Edge) → Any (λ (k : Base). x ≡ position k) (crossings es) → SomePair (CrossAt x) es
-  unfolding crossings
+  crossings-some : (es : List Edge) → Any (λ (k : Base). x ≡ position k) (edgeCrossings es) → SomePair (CrossAt x) es
+  unfolding edgeCrossings
   crossings-some [] h = h
-  crossings-some (e ∷ es) h = elim (any-split (λ (k : Base). x ≡ position k) (crossingsWith e es) (crossings es) h) [ inl k ↦ inl (with-some e es k) | inr k ↦ inr (crossings-some es k) ]
+  crossings-some (e ∷ es) h = elim (any-split (λ (k : Base). x ≡ position k) (edgeCrossingsWith e es) (edgeCrossings es) h) [ inl k ↦ inl (with-some e es k) | inr k ↦ inr (crossings-some es k) ]
 
 pub events-exact : EventsExact
-unfolding events
+unfolding polygonEvents
 events-exact L polygon x = (there, back)
   where
-    there : Any (λ (k : Base). x ≡ position k) (marks L polygon ++ crossings (edges polygon)) → Any (λ (v : Vertex). x ≡ whole (v .x)) polygon ⊎ SomePair (CrossAt x) (edges polygon)
-    there h = elim (any-split (λ (k : Base). x ≡ position k) (marks L polygon) (crossings (edges polygon)) h) [ inl k ↦ inl (marks-vertex x L polygon k) | inr k ↦ inr (crossings-some x (edges polygon) k) ]
+    there : Any (λ (k : Base). x ≡ position k) (marks L polygon ++ edgeCrossings (edges polygon)) → Any (λ (v : Vertex). x ≡ whole (v .x)) polygon ⊎ SomePair (CrossAt x) (edges polygon)
+    there h = elim (any-split (λ (k : Base). x ≡ position k) (marks L polygon) (edgeCrossings (edges polygon)) h) [ inl k ↦ inl (marks-vertex x L polygon k) | inr k ↦ inr (crossings-some x (edges polygon) k) ]
 
-    back : Any (λ (v : Vertex). x ≡ whole (v .x)) polygon ⊎ SomePair (CrossAt x) (edges polygon) → Any (λ (k : Base). x ≡ position k) (marks L polygon ++ crossings (edges polygon))
-    back (inl h) = any-elim (λ v s e. subst (Stands L (events L polygon)) (sym e) s) polygon (vertices-stand L polygon) h
-    back (inr h) = some-pair (λ d e s c. subst (Stands L (events L polygon)) (sym (c .1)) (s (c .0))) (edges polygon) (complete L polygon .meets) h
+    back : Any (λ (v : Vertex). x ≡ whole (v .x)) polygon ⊎ SomePair (CrossAt x) (edges polygon) → Any (λ (k : Base). x ≡ position k) (marks L polygon ++ edgeCrossings (edges polygon))
+    back (inl h) = any-elim (λ v s e. subst (Stands L (polygonEvents L polygon)) (sym e) s) polygon (vertices-stand L polygon) h
+    back (inr h) = some-pair (λ d e s c. subst (Stands L (polygonEvents L polygon)) (sym (c .1)) (s (c .0))) (edges polygon) (complete L polygon .meets) h

@@ -15,8 +15,8 @@ use Rattle.geometry.specs.declared.Base.{Base}
 use Rattle.geometry.specs.declared.Trapezoid.{Trapezoid}
 use Rattle.geometry.specs.Limit.{onGrid}
 use Rattle.geometry.specs.Lines.{dx, dy, offset, det, numer}
-use Rattle.geometry.specs.Positions.{crosses, root, meet, heights, rightOf, below}
-use Rattle.geometry.specs.Points.{Point, side, under}
+use Rattle.geometry.specs.Positions.{crosses, ratio, meet, heights, rightOf, below}
+use Rattle.geometry.specs.Points.{Point, orientation, under}
 use Rattle.geometry.specs.Trapezoids.{trapezoidWords}
 use Rattle.geometry.specs.declared.Vertex.{Vertex}
 use Rattle.geometry.specs.Polygons.{vertexOnGrid, Polygon, polygonOnGrid}
@@ -25,7 +25,7 @@ use Rattle.sweep.specs.Segments.{spans, inside, crossInside}
 use Rattle.sweep.specs.Columns.{slabs, upTo, column}
 use Rattle.sweep.specs.Sweep.{columns, sweep}
 use Rattle.fracture.specs.Polygons.{edge, edgesFrom, edges, windingNumber}
-use Rattle.fracture.specs.Fracture.{lineBy, mark, marks, crossingsWith, crossings, events, trapezoids, fracture, fractureAll}
+use Rattle.fracture.specs.Fracture.{lineBy, mark, marks, edgeCrossingsWith, edgeCrossings, polygonEvents, trapezoids, fracture, fractureAll}
 
 abbrev vertex : ℕ → ℕ → Vertex
 vertex a b = record { x = pos a; y = pos b }
@@ -136,6 +136,6 @@ abbrev Spike : Type 0
 Spike = fracture 2048 (vertex 0 0 ∷ vertex 6 2 ∷ vertex 0 0 ∷ vertex 3 9 ∷ []) ≡ []
 
 examples : CaseG × CaseH × Twice × RightEnd × Top × CaseI × CaseI′ × Listed × Outside × Three × Marked × Group × InOrder × Spike
-unfolding _⊕_ _⊖_ _⊗_ ⊝_ orderOf before insert levels onGrid dx dy offset det numer crosses root meet heights rightOf below side under trapezoidWords keep sum spans inside
-    crossInside slabs upTo column columns sweep vertexOnGrid polygonOnGrid edge edgesFrom edges windingNumber mark marks crossingsWith crossings events trapezoids fracture fractureAll
+unfolding _⊕_ _⊖_ _⊗_ ⊝_ orderOf before insert levels onGrid dx dy offset det numer crosses ratio meet heights rightOf below orientation under trapezoidWords keep sum spans inside
+    crossInside slabs upTo column columns sweep vertexOnGrid polygonOnGrid edge edgesFrom edges windingNumber mark marks edgeCrossingsWith edgeCrossings polygonEvents trapezoids fracture fractureAll
 examples = (refl, refl, refl, refl, refl, refl, refl, refl, refl, refl, refl, refl, refl, refl)

@@ -23,8 +23,8 @@ use Rattle.sweep.specs.Columns.{Slab, Below, column}
 use Rattle.sweep.proofs.Column.{column-open}
 use Rattle.sweep.proofs.Sweep.{sweep-all}
 use Rattle.fracture.specs.Polygons.{Edge, lineOf, directionOf, edges, segment}
-use Rattle.fracture.specs.Fracture.{mark, events, trapezoid, trapezoids, fracture, fractureAll}
-use Rattle.fracture.specs.Statements.{FractureFit, IsSide, FractureSides, SidesOfOne, FractureAllSides, IsBase, FractureBases}
+use Rattle.fracture.specs.Fracture.{mark, polygonEvents, trapezoid, trapezoids, fracture, fractureAll}
+use Rattle.fracture.specs.Statements.{FractureFit, IsEdgeLine, FractureSides, SidesOfOne, FractureAllSides, IsBase, FractureBases}
 use Rattle.fracture.proofs.Edges.{edges-ends}
 use Rattle.fracture.proofs.Marks.{mark-on-grid, mark-lines}
 use Rattle.fracture.proofs.Events.{events-all, crossings-all, complete}
@@ -49,7 +49,7 @@ module _ (L : ℕ) (polygon : Polygon) where
 
   each-trapezoid : (R : Trapezoid → Type 0) → ((p q : Base) (s : Slab Edge) → Between L polygon p q (s .bottom) (s .top) → R (trapezoid p q s)) → All R (fracture L polygon)
   unfolding fracture trapezoids
-  each-trapezoid R f = sweep-all segment position (edges polygon) (events L polygon) trapezoids R (complete L polygon) column-all
+  each-trapezoid R f = sweep-all segment position (edges polygon) (polygonEvents L polygon) trapezoids R (complete L polygon) column-all
     where
       column-all : (p q : Base) → Cell L polygon p q → All R (map (trapezoid p q) (column lineOf directionOf (position p) (spanningEdges polygon p)))
       column-all p q c =
@@ -61,10 +61,10 @@ module _ (L : ℕ) (polygon : Polygon) where
 
 -- ---- words
 pub fracture-sides : FractureSides
-fracture-sides L polygon = each-trapezoid L polygon (λ (t : Trapezoid). IsSide polygon (t .bottom) × IsSide polygon (t .top)) (λ p q s b. (side (s .bottom) (b .bottom), side (s .top) (b .top)))
+fracture-sides L polygon = each-trapezoid L polygon (λ (t : Trapezoid). IsEdgeLine polygon (t .bottom) × IsEdgeLine polygon (t .top)) (λ p q s b. (edge-line (s .bottom) (b .bottom), edge-line (s .top) (b .top)))
   where
-    side : (e : Edge) → Member e (edges polygon) → IsSide polygon (e .line)
-    side e m = any-map (λ d k. ap lineOf k) (edges polygon) m
+    edge-line : (e : Edge) → Member e (edges polygon) → IsEdgeLine polygon (e .line)
+    edge-line e m = any-map (λ d k. ap lineOf k) (edges polygon) m
 
 pub fracture-all-sides : FractureAllSides
 unfolding fractureAll
@@ -72,7 +72,7 @@ fracture-all-sides L [] = tt
 fracture-all-sides L (polygon ∷ polygons) =
     let Sides = SidesOfOne (polygon ∷ polygons) in
     all-append Sides (fracture L polygon) (fractureAll L polygons)
-    (all-map {P = λ (t : Trapezoid). IsSide polygon (t .bottom) × IsSide polygon (t .top)} {Q = Sides} (λ t h. inl h) (fracture L polygon) (fracture-sides L polygon))
+    (all-map {P = λ (t : Trapezoid). IsEdgeLine polygon (t .bottom) × IsEdgeLine polygon (t .top)} {Q = Sides} (λ t h. inl h) (fracture L polygon) (fracture-sides L polygon))
     (all-map {P = SidesOfOne polygons} {Q = Sides} (λ t h. inr h) (fractureAll L polygons) (fracture-all-sides L polygons))
 
 pub fracture-bases : FractureBases
@@ -93,14 +93,14 @@ module _ (L : ℕ) (polygon : Polygon) (one : 1 ≤ L) (grid : PolygonOnGrid L p
   mark-sound : (v : Vertex) → VertexOnGrid L v → SoundBase L (mark L (v .x))
   mark-sound v h = let g = mark-on-grid L (v .x) one (h .x) in let l = mark-lines L (v .x) in ((g .0, l .0), (g .1, l .1))
 
-  events-sound : All (SoundBase L) (events L polygon)
+  events-sound : All (SoundBase L) (polygonEvents L polygon)
   events-sound = events-all L polygon (SoundBase L) (all-map mark-sound polygon grid) (crossings-all (λ (e : Edge). Sound L (e .line)) (SoundBase L) (λ d e hd he c. (hd, he)) (edges polygon) edges-sound)
 
   trapezoid-fit : (p q : Base) (s : Slab Edge) → Between L polygon p q (s .bottom) (s .top) → FitFor L (trapezoid p q s)
   trapezoid-fit p q s b =
       let c = b .cell in
-      let u = all-member (SoundBase L) p (events L polygon) events-sound (c .first) in
-      let v = all-member (SoundBase L) q (events L polygon) events-sound (c .last) in
+      let u = all-member (SoundBase L) p (polygonEvents L polygon) events-sound (c .first) in
+      let v = all-member (SoundBase L) q (polygonEvents L polygon) events-sound (c .last) in
       let d = all-member (λ (e : Edge). Sound L (e .line)) (s .bottom) (edges polygon) edges-sound (b .bottom) in
       let e = all-member (λ (e : Edge). Sound L (e .line)) (s .top) (edges polygon) edges-sound (b .top) in
       let cp = proper-crosses (p .first) (p .second) (c .clear .left) in

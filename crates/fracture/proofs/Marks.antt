@@ -16,7 +16,7 @@ use Rattle.geometry.specs.declared.Line.{Line}
 use Rattle.geometry.specs.declared.Base.{Base}
 use Rattle.geometry.specs.Limit.{OnGrid}
 use Rattle.geometry.specs.Lines.{IsLine, dx, dy, offset, det, numer}
-use Rattle.geometry.specs.Positions.{root, meet, position}
+use Rattle.geometry.specs.Positions.{ratio, meet, position}
 use Rattle.geometry.proofs.Meet.{proper-crosses}
 use Rattle.sweep.specs.Columns.{isZero}
 use Rattle.sweep.proofs.Slabs.{zero-is}
@@ -63,11 +63,11 @@ unfolding numer dx offset
 falling-numer k = ring 1 (λ k. (i ⊟ o) ⊠ (i ⊠ k ⊟ o ⊠ (k ⊟ i)) ⊟ (k ⊟ (k ⊟ i)) ⊠ (o ⊠ i ⊟ o ⊠ o) ≗ k) tt k
 
 meet-rising : (k : ℤ) → meet axis (risingAt k) ≡ whole k
-unfolding meet root
+unfolding meet ratio
 meet-rising k = rw (rising-det k, rising-det-turned k, rising-numer k)
 
 meet-falling : (k : ℤ) → meet axis (fallingAt k) ≡ whole k
-unfolding meet root
+unfolding meet ratio
 meet-falling k = rw (falling-det k, falling-numer k)
 
 pub mark-position : (L : ℕ) (k : ℤ) → position (mark L k) ≡ whole k

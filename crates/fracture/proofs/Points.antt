@@ -8,7 +8,7 @@ use native.Mathlib.Omega.{arith}
 use lib.Dec.{T}
 use lib.IntN.{ℤ, pos}
 use Rattle.lists.specs.Lists.{Member}
-use Rattle.lists.specs.Tests.{bit, count}
+use Rattle.lists.specs.Tests.{bit, countIf}
 use Rattle.lists.proofs.Tests.{true-is}
 use Rattle.lists.proofs.Lists.{all-map, any-left, any-right, any-split}
 use Rattle.lists.proofs.Members.{all-member, members}
@@ -25,12 +25,12 @@ use Rattle.fracture.specs.Statements.{Wound, FractureExact, PolygonDisjo
 use Rattle.fracture.proofs.Count.{fracture-count}
 
 -- ---- a point lies in a layer exactly if a trapezoid is counted
-lies-count : (P : Point) (ts : List Trapezoid) → LiesInLayer P ts ↔ (0 < count (liesIn P) ts)
-unfolding count
+lies-count : (P : Point) (ts : List Trapezoid) → LiesInLayer P ts ↔ (0 < countIf (liesIn P) ts)
+unfolding countIf
 lies-count P [] = ((λ h. absurd h), (λ h. omega arith))
 lies-count P (t ∷ ts) = go (liesIn P t) (lies-count P ts)
   where
-    go : (b : Bool) → LiesInLayer P ts ↔ (0 < count (liesIn P) ts) → ((T b ⊎ LiesInLayer P ts) ↔ (0 < bit b + count (liesIn P) ts))
+    go : (b : Bool) → LiesInLayer P ts ↔ (0 < countIf (liesIn P) ts) → ((T b ⊎ LiesInLayer P ts) ↔ (0 < bit b + countIf (liesIn P) ts))
     go true k = ((λ h. omega arith), (λ h. inl tt))
     go false k = ((λ h. elim h [ inl a ↦ absurd a | inr a ↦ (let j = k .0 a in omega arith) ]), (λ h. inr (k .1 (omega arith))))
 
@@ -69,8 +69,8 @@ fracture-exact L [] P hP = ((λ h. h), (λ h. h))
 fracture-exact L (polygon ∷ polygons) P hP = joined-exact P (fracture L polygon) (fractureAll L polygons) (one-exact L polygon P hP) (fracture-exact L polygons P hP)
 
 -- ---- trapezoids are apart if no point is counted twice
-counted-apart : (ts : List Trapezoid) → ((P : Point) → IsPoint P → count (liesIn P) ts ≤ 1) → Disjoint ts
-unfolding count
+counted-apart : (ts : List Trapezoid) → ((P : Point) → IsPoint P → countIf (liesIn P) ts ≤ 1) → Disjoint ts
+unfolding countIf
 counted-apart [] k = tt
 counted-apart (t ∷ ts) k = (all-map later ts (members ts), counted-apart ts (λ P hP. let j = k P hP in omega arith))
   where
@@ -78,7 +78,7 @@ counted-apart (t ∷ ts) k = (all-map later ts (members ts), counted-apart ts (�
     later u m P hP a b =
         let e : liesIn P t ≡ true = true-is a in
         let f = ap bit e in
-        let g = all-member (λ (s : Trapezoid). T (liesIn P s) → 0 < count (liesIn P) ts) u ts (count-some (liesIn P) ts) m b in
+        let g = all-member (λ (s : Trapezoid). T (liesIn P s) → 0 < countIf (liesIn P) ts) u ts (count-some (liesIn P) ts) m b in
         let j = k P hP in
         omega arith
 

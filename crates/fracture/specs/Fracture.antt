@@ -38,28 +38,28 @@ unfoldable pub marks : ℕ → Polygon → List Base
 marks L [] = []
 marks L (v ∷ vs) = mark L (v .x) ∷ marks L vs
 
-abbrev pub crossing : Edge → Edge → Base
-crossing d e = record { first = d .line; second = e .line }
+abbrev pub edgeCrossing : Edge → Edge → Base
+edgeCrossing d e = record { first = d .line; second = e .line }
 
 -- they cross "strictly inside both edges' spans"
 abbrev pub edgesCross : Edge → Edge → Bool
 edgesCross d e = crossInside (segment d) (segment e)
 
 -- of d with each of a list
-unfoldable pub crossingsWith : Edge → List Edge → List Base
-crossingsWith d [] = []
-crossingsWith d (e ∷ es) = cond (edgesCross d e) (crossing d e ∷ crossingsWith d es) (crossingsWith d es)
+unfoldable pub edgeCrossingsWith : Edge → List Edge → List Base
+edgeCrossingsWith d [] = []
+edgeCrossingsWith d (e ∷ es) = cond (edgesCross d e) (edgeCrossing d e ∷ edgeCrossingsWith d es) (edgeCrossingsWith d es)
 
 -- "lower number first; pairs go by their lower number, then their higher"
-unfoldable pub crossings : List Edge → List Base
-crossings [] = []
-crossings (e ∷ es) = crossingsWith e es ++ crossings es
+unfoldable pub edgeCrossings : List Edge → List Base
+edgeCrossings [] = []
+edgeCrossings (e ∷ es) = edgeCrossingsWith e es ++ edgeCrossings es
 
 -- "Stops are the distinct positions of all vertices and of crossings strictly inside both edges' spans." Of equal ones the first in this list
 -- names the event: a vertex position by its mark, and "Any other stop is named by the lowest pair of crossing edges, lower number first; pairs go by
 -- their lower number, then their higher."
-unfoldable pub events : ℕ → Polygon → List Base
-events L polygon = marks L polygon ++ crossings (edges polygon)
+unfoldable pub polygonEvents : ℕ → Polygon → List Base
+polygonEvents L polygon = marks L polygon ++ edgeCrossings (edges polygon)
 
 -- ---- trapezoids
 abbrev pub trapezoid : Base → Base → Slab Edge → Trapezoid
@@ -72,7 +72,7 @@ trapezoids p q es = map (trapezoid p q) (column lineOf directionOf (position p) 
 
 -- "Stops go left to right, pieces bottom to top."
 unfoldable pub fracture : ℕ → Polygon → List Trapezoid
-fracture L polygon = sweep segment position trapezoids (edges polygon) (events L polygon)
+fracture L polygon = sweep segment position trapezoids (edges polygon) (polygonEvents L polygon)
 
 -- "Polygons are cut in order, lists joined."
 unfoldable pub fractureAll : ℕ → List Polygon → List Trapezoid

@@ -7,7 +7,7 @@ use Prim.Native.Nat.{ℕ, _≤_}
 use lib.Dec.{T}
 use lib.IntN.{ℤ, pos, natAbs}
 use Rattle.lists.specs.Lists.{All, Any, SomePair}
-use Rattle.lists.specs.Tests.{bit, count}
+use Rattle.lists.specs.Tests.{bit, countIf}
 use Rattle.integer.specs.Fraction.{Fraction}
 use Rattle.geometry.specs.declared.Line.{Line}
 use Rattle.geometry.specs.declared.Base.{Base}
@@ -22,7 +22,7 @@ use Rattle.geometry.specs.Polygons.{Polygon, PolygonOnGrid}
 use Rattle.sweep.specs.Segments.{crossInside}
 use Rattle.sweep.specs.Columns.{isZero}
 use Rattle.fracture.specs.Polygons.{Edge, edges, whole, segment, windingNumber}
-use Rattle.fracture.specs.Fracture.{mark, events, fracture, fractureAll}
+use Rattle.fracture.specs.Fracture.{mark, polygonEvents, fracture, fractureAll}
 
 -- ---- which points lie in it, for every limit and all polygons, of any size (proofs/Points.antt, the count in proofs/Count.antt)
 -- the winding number at P is not zero
@@ -35,7 +35,7 @@ FractureExact = (L : ℕ) (polygons : List Polygon) (P : Point) → IsPoint P �
 
 -- of one polygon's trapezoids one holds P if its winding number is not zero there, and none if it is
 abbrev pub FractureCount : Type 0
-FractureCount = (L : ℕ) (polygon : Polygon) (P : Point) → IsPoint P → count (liesIn P) (fracture L polygon) ≡ bit (not (isZero (windingNumber P polygon)))
+FractureCount = (L : ℕ) (polygon : Polygon) (P : Point) → IsPoint P → countIf (liesIn P) (fracture L polygon) ≡ bit (not (isZero (windingNumber P polygon)))
 
 -- no rational point lies in two trapezoids of one polygon
 abbrev pub PolygonDisjoint : Type 0
@@ -47,22 +47,22 @@ abbrev pub FractureFit : Type 0
 FractureFit = (L : ℕ) (polygons : List Polygon) → 1 ≤ L → All (PolygonOnGrid L) polygons → All (FitFor L) (fractureAll L polygons)
 
 -- a line of an edge of the polygon
-abbrev pub IsSide : Polygon → Line → Type 0
-IsSide polygon l = Any (λ (e : Edge). l ≡ e .line) (edges polygon)
+abbrev pub IsEdgeLine : Polygon → Line → Type 0
+IsEdgeLine polygon l = Any (λ (e : Edge). l ≡ e .line) (edges polygon)
 
 abbrev pub FractureSides : Type 0
-FractureSides = (L : ℕ) (polygon : Polygon) → All (λ (t : Trapezoid). IsSide polygon (t .bottom) × IsSide polygon (t .top)) (fracture L polygon)
+FractureSides = (L : ℕ) (polygon : Polygon) → All (λ (t : Trapezoid). IsEdgeLine polygon (t .bottom) × IsEdgeLine polygon (t .top)) (fracture L polygon)
 
 -- the same of several polygons: both sides of a trapezoid are lines of edges of one of them
 abbrev pub SidesOfOne : List Polygon → Trapezoid → Type 0
-SidesOfOne polygons t = Any (λ (polygon : Polygon). IsSide polygon (t .bottom) × IsSide polygon (t .top)) polygons
+SidesOfOne polygons t = Any (λ (polygon : Polygon). IsEdgeLine polygon (t .bottom) × IsEdgeLine polygon (t .top)) polygons
 
 abbrev pub FractureAllSides : Type 0
 FractureAllSides = (L : ℕ) (polygons : List Polygon) → All (SidesOfOne polygons) (fractureAll L polygons)
 
 -- the bases are events of the polygon, word for word
 abbrev pub IsBase : ℕ → Polygon → Base → Type 0
-IsBase L polygon b = Any (λ (k : Base). b ≡ k) (events L polygon)
+IsBase L polygon b = Any (λ (k : Base). b ≡ k) (polygonEvents L polygon)
 
 abbrev pub FractureBases : Type 0
 FractureBases = (L : ℕ) (polygon : Polygon) → All (λ (t : Trapezoid). IsBase L polygon (t .left) × IsBase L polygon (t .right)) (fracture L polygon)
@@ -83,4 +83,4 @@ CrossAt x d e = T (crossInside (segment d) (segment e)) × (x ≡ meet (d .line)
 abbrev pub EventsExact : Type 0
 EventsExact =
     (L : ℕ) (polygon : Polygon) (x : Fraction)
-    → Any (λ (k : Base). x ≡ position k) (events L polygon) ↔ (Any (λ (v : Vertex). x ≡ whole (v .x)) polygon ⊎ SomePair (CrossAt x) (edges polygon))
+    → Any (λ (k : Base). x ≡ position k) (polygonEvents L polygon) ↔ (Any (λ (v : Vertex). x ≡ whole (v .x)) polygon ⊎ SomePair (CrossAt x) (edges polygon))

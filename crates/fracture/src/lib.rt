@@ -8,20 +8,20 @@ pub struct Span {
     pub to: Position,
 }
 
-// An edge: its line, smaller x first, and whether it runs rightward.
-pub struct Side {
+// An edge as it is stored: its line, smaller x first, and whether it runs rightward.
+pub struct StoredEdge {
     pub line: Line,
     pub rightward: bool,
 }
 
 // The edges of a polygon.
-pub struct Sides {
+pub struct EdgeList {
     pub n: usize,
-    pub list: [Side; 32],
+    pub list: [StoredEdge; 32],
 }
 
 // A group of coinciding edges is named by the first of them.
 pub enum Group {
     Nothing,
-    Found(Side),
+    Found(StoredEdge),
 }

@@ -15,15 +15,15 @@ use Rattle.geometry.specs.declared.Line.{Line}
 use Rattle.geometry.specs.Limit.{coordinateLimit, OnGrid}
 use Rattle.geometry.specs.declared.Vertex.{Vertex}
 use Rattle.geometry.specs.Polygons.{Polygon, VertexOnGrid, PolygonOnGrid}
-use Rattle.fracture.specs.declared.Side.{Side}
-use Rattle.fracture.specs.declared.Sides.{Sides}
+use Rattle.fracture.specs.declared.StoredEdge.{StoredEdge}
+use Rattle.fracture.specs.declared.EdgeList.{EdgeList}
 use Rattle.fracture.specs.Polygons.{Edge, through, edge, edgesFrom, edges}
 use Rattle.geometry_code.specs.Polygons.{polygonOf}
-use Rattle.polygon_events_code.specs.Code.{edgeOf, edgesOf, inUse, SideOnGrid, WellFormed}
+use Rattle.polygon_events_code.specs.Code.{edgeOf, edgesOf, edgesInUse, EdgeOnGrid, WellFormed}
 use Rattle.polygon_events_code.proofs.Scanning.{two-words, few-words}
-use Rattle.fracture_code.specs.Code.{SidesOf, vertexAt, Lengthened}
+use Rattle.fracture_code.specs.Code.{EdgeListOf, vertexAt, Lengthened}
 
-edges-append : (ss ts : List Side) → edgesOf (ss ++ ts) ≡ edgesOf ss ++ edgesOf ts
+edges-append : (ss ts : List StoredEdge) → edgesOf (ss ++ ts) ≡ edgesOf ss ++ edgesOf ts
 edges-append [] ts = refl
 edges-append (s ∷ ss) ts = ap (λ (es : List Edge). edgeOf s ∷ es) (edges-append ss ts)
 
@@ -31,50 +31,50 @@ pub grid-through : {L : ℕ} (a b : Vertex) (l : Line) → VertexOnGrid L a → 
 grid-through a b l ha hb e = rw e (record { x1 = ha .x; y1 = ha .y; x2 = hb .x; y2 = hb .y })
 
 -- ---- one edge
-module _ (v : Sides) where
-  pub longer-line : WellFormed v → v .n < 32 → (s : Side) → SideOnGrid s → Lengthened v (edgeOf s ∷ []) (record { n = v .n + 1; list = set (v .list) (v .n) s })
+module _ (v : EdgeList) where
+  pub longer-line : WellFormed v → v .n < 32 → (s : StoredEdge) → EdgeOnGrid s → Lengthened v (edgeOf s ∷ []) (record { n = v .n + 1; list = set (v .list) (v .n) s })
   longer-line w l s k =
-      let e : take (v .n + 1) (set (v .list) (v .n) s) ≡ inUse v ++ (s ∷ []) = rw add-one (take-suc-set (v .list) (v .n) s (omega (arith, w .long))) in
+      let e : take (v .n + 1) (set (v .list) (v .n) s) ≡ edgesInUse v ++ (s ∷ []) = rw add-one (take-suc-set (v .list) (v .n) s (omega (arith, w .long))) in
       record {
-        well = record { long = length-set (v .list) (v .n) s ∙ w .long; few = omega arith; grid = rw e (all-append SideOnGrid (inUse v) (s ∷ []) (w .grid) (k, tt)) };
-        is = ap edgesOf e ∙ edges-append (inUse v) (s ∷ []);
+        well = record { long = length-set (v .list) (v .n) s ∙ w .long; few = omega arith; grid = rw e (all-append EdgeOnGrid (edgesInUse v) (s ∷ []) (w .grid) (k, tt)) };
+        is = ap edgesOf e ∙ edges-append (edgesInUse v) (s ∷ []);
         count = omega arith;
       }
 
   module _ (a b : Vertex) where
-    pub longer-right : (l : Line) → l ≡ through a b → ltZ (a .x) (b .x) ≡ true → (r : Sides) → Lengthened v (record { line = l; direction = pos 1 } ∷ []) r → Lengthened v (edge a b) r
+    pub longer-right : (l : Line) → l ≡ through a b → ltZ (a .x) (b .x) ≡ true → (r : EdgeList) → Lengthened v (record { line = l; direction = pos 1 } ∷ []) r → Lengthened v (edge a b) r
     longer-right l e t r h = subst (λ (es : List Edge). Lengthened v es r) is h
       where
         is : _≡_ {A = List Edge} (record { line = l; direction = pos 1 } ∷ []) (edge a b)
         is = unfold edge in rw t (λ i. record { line = e i; direction = pos 1 } ∷ [])
 
-    pub longer-left : (l : Line) → l ≡ through b a → ltZ (a .x) (b .x) ≡ false → ltZ (b .x) (a .x) ≡ true → (r : Sides) → Lengthened v (record { line = l; direction = negsuc 0 } ∷ []) r → Lengthened v (edge a b) r
+    pub longer-left : (l : Line) → l ≡ through b a → ltZ (a .x) (b .x) ≡ false → ltZ (b .x) (a .x) ≡ true → (r : EdgeList) → Lengthened v (record { line = l; direction = negsuc 0 } ∷ []) r → Lengthened v (edge a b) r
     longer-left l e s t r h = subst (λ (es : List Edge). Lengthened v es r) is h
       where
         is : _≡_ {A = List Edge} (record { line = l; direction = negsuc 0 } ∷ []) (edge a b)
         is = unfold edge in rw (s, t) (λ i. record { line = e i; direction = negsuc 0 } ∷ [])
 
     pub longer-flat : WellFormed v → ltZ (a .x) (b .x) ≡ false → ltZ (b .x) (a .x) ≡ false → Lengthened v (edge a b) v
-    longer-flat w s t = record { well = w; is = sym (append-nil (edgesOf (inUse v))) ∙ ap (λ (es : List Edge). edgesOf (inUse v) ++ es) is; count = omega arith }
+    longer-flat w s t = record { well = w; is = sym (append-nil (edgesOf (edgesInUse v))) ∙ ap (λ (es : List Edge). edgesOf (edgesInUse v) ++ es) is; count = omega arith }
       where
         is : [] ≡ edge a b
         is = unfold edge in rw (s, t)
 
 -- ---- all of them
 -- the edges up to the vertex whose words start at k are in v
-pub record Building (ws : List ℤ) (v : Sides) (k : ℕ) : Type 0 where
+pub record Building (ws : List ℤ) (v : EdgeList) (k : ℕ) : Type 0 where
   pub well : WellFormed v
-  pub is : edges (polygonOf ws) ≡ edgesOf (inUse v) ++ edgesFrom (vertexAt ws 0) (vertexAt ws k) (polygonOf (drop (k + 2) ws))
+  pub is : edges (polygonOf ws) ≡ edgesOf (edgesInUse v) ++ edgesFrom (vertexAt ws 0) (vertexAt ws k) (polygonOf (drop (k + 2) ws))
   pub count : 2 * v .n ≤ k
   pub within : k + 1 < length ws
   pub few : length ws ≤ 64
   pub first : VertexOnGrid coordinateLimit (vertexAt ws 0)
   pub grid : PolygonOnGrid coordinateLimit (polygonOf (drop k ws))
 
-pub no-vertices : (ws : List ℤ) (v : Sides) → length ws < 2 → WellFormed v → v .n ≡ 0 → SidesOf (polygonOf ws) v
+pub no-vertices : (ws : List ℤ) (v : EdgeList) → length ws < 2 → WellFormed v → v .n ≡ 0 → EdgeListOf (polygonOf ws) v
 no-vertices ws v l w n = record { well = w; is = rw (few-words ws 0 (omega arith)) (unfold edges in ap (λ (m : ℕ). edgesOf (take m (v .list))) n) }
 
-pub building-start : (ws : List ℤ) (v : Sides) → 2 ≤ length ws → length ws ≤ 64 → PolygonOnGrid coordinateLimit (polygonOf ws) → WellFormed v → v .n ≡ 0 → Building ws v 0
+pub building-start : (ws : List ℤ) (v : EdgeList) → 2 ≤ length ws → length ws ≤ 64 → PolygonOnGrid coordinateLimit (polygonOf ws) → WellFormed v → v .n ≡ 0 → Building ws v 0
 building-start ws v l f g w n =
     let two = two-words ws 0 (omega arith) in
     record {
@@ -87,7 +87,7 @@ building-start ws v l f g w n =
       grid = g;
     }
 
-module _ (ws : List ℤ) (v : Sides) (k : ℕ) (h : Building ws v k) where
+module _ (ws : List ℤ) (v : EdgeList) (k : ℕ) (h : Building ws v k) where
   here-grid : PolygonOnGrid coordinateLimit (polygonOf (getD ws k (pos 0) ∷ getD ws (k + 1) (pos 0) ∷ drop (k + 2) ws))
   here-grid = subst (λ (vs : List ℤ). PolygonOnGrid coordinateLimit (polygonOf vs)) (two-words ws k (h .within)) (h .grid)
 
@@ -107,12 +107,12 @@ module _ (ws : List ℤ) (v : Sides) (k : ℕ) (h : Building ws v k) where
     from-next : edgesFrom (vertexAt ws 0) (vertexAt ws k) (polygonOf (drop (k + 2) ws)) ≡ edge (vertexAt ws k) (vertexAt ws (k + 2)) ++ edgesFrom (vertexAt ws 0) (vertexAt ws (k + 2)) (polygonOf (drop (k + 2 + 2) ws))
     from-next = ap (λ (vs : List ℤ). edgesFrom (vertexAt ws 0) (vertexAt ws k) (polygonOf vs)) (two-words ws (k + 2) l) ∙ (unfold edgesFrom in refl)
 
-    pub building-next : (r : Sides) → Lengthened v (edge (vertexAt ws k) (vertexAt ws (k + 2))) r → Building ws r (k + 2)
+    pub building-next : (r : EdgeList) → Lengthened v (edge (vertexAt ws k) (vertexAt ws (k + 2))) r → Building ws r (k + 2)
     building-next r j =
         let rest = edgesFrom (vertexAt ws 0) (vertexAt ws (k + 2)) (polygonOf (drop (k + 2 + 2) ws)) in
         record {
           well = j .well;
-          is = h .is ∙ ap (λ (es : List Edge). edgesOf (inUse v) ++ es) from-next ∙ sym (append-assoc (edgesOf (inUse v)) (edge (vertexAt ws k) (vertexAt ws (k + 2))) rest) ∙ ap (λ (es : List Edge). es ++ rest) (sym (j .is));
+          is = h .is ∙ ap (λ (es : List Edge). edgesOf (edgesInUse v) ++ es) from-next ∙ sym (append-assoc (edgesOf (edgesInUse v)) (edge (vertexAt ws k) (vertexAt ws (k + 2))) rest) ∙ ap (λ (es : List Edge). es ++ rest) (sym (j .is));
           count = omega (arith, j .count, h .count);
           within = l;
           few = h .few;
@@ -120,13 +120,13 @@ module _ (ws : List ℤ) (v : Sides) (k : ℕ) (h : Building ws v k) where
           grid = here-grid .1;
         }
 
-  pub building-last : length ws ≤ k + 2 + 1 → (r : Sides) → Lengthened v (edge (vertexAt ws k) (vertexAt ws 0)) r → SidesOf (polygonOf ws) r
+  pub building-last : length ws ≤ k + 2 + 1 → (r : EdgeList) → Lengthened v (edge (vertexAt ws k) (vertexAt ws 0)) r → EdgeListOf (polygonOf ws) r
   building-last l r j =
       record {
         well = j .well;
         is = j .is
             ∙ sym (h .is
-            ∙ ap (λ (vs : List Vertex). edgesOf (inUse v) ++ edgesFrom (vertexAt ws 0) (vertexAt ws k) vs) (few-words ws (k + 2) l)
+            ∙ ap (λ (vs : List Vertex). edgesOf (edgesInUse v) ++ edgesFrom (vertexAt ws 0) (vertexAt ws k) vs) (few-words ws (k + 2) l)
             ∙ (unfold edgesFrom in refl));
       }
 

@@ -24,41 +24,41 @@ use Rattle.geometry.specs.Positions.{below}
 use Rattle.sweep.specs.Segments.{spans, spanning}
 use Rattle.sweep.specs.Columns.{lower, upTo, isZero}
 use Rattle.sweep.specs.Sums.{sum}
-use Rattle.fracture.specs.declared.Side.{Side}
-use Rattle.fracture.specs.declared.Sides.{Sides}
+use Rattle.fracture.specs.declared.StoredEdge.{StoredEdge}
+use Rattle.fracture.specs.declared.EdgeList.{EdgeList}
 use Rattle.fracture.specs.declared.Group.{Group}
 use Rattle.fracture.specs.declared.Group.the-variants.{Nothing, Found}
 use Rattle.fracture.specs.Polygons.{Edge, lineOf, directionOf, segment}
-use Rattle.polygon_events_code.specs.Code.{lineSegment, edgeOf, edgesOf, inUse, SideOnGrid, WellFormed, directionBy}
-use Rattle.fracture_code.specs.Code.{NextGroup, groupOf, GroupOnGrid, past, Lowest, WithSide, addend, WithDirection}
+use Rattle.polygon_events_code.specs.Code.{lineSegment, edgeOf, edgesOf, edgesInUse, EdgeOnGrid, WellFormed, directionBy}
+use Rattle.fracture_code.specs.Code.{NextGroup, groupOf, GroupOnGrid, past, Lowest, WithCandidate, addend, WithDirection}
 
-pub group-at : {best : Group} {b : Side} → GroupOnGrid best → best ≡ Found b → SideOnGrid b
+pub group-at : {best : Group} {b : StoredEdge} → GroupOnGrid best → best ≡ Found b → EdgeOnGrid b
 group-at h e = subst GroupOnGrid e h
 
-module _ (x : Fraction) (best : Group) (e : Side) where
-  pub lowest-none : best ≡ Nothing → SideOnGrid e → Lowest best x e (Found e)
+module _ (x : Fraction) (best : Group) (e : StoredEdge) where
+  pub lowest-none : best ≡ Nothing → EdgeOnGrid e → Lowest best x e (Found e)
   lowest-none h k = record { is = rw h; grid = k }
 
-  module _ (b : Side) (h : best ≡ Found b) where
-    pub lowest-new : SideOnGrid e → below x (e .line) (b .line) ≡ true → Lowest best x e (Found e)
+  module _ (b : StoredEdge) (h : best ≡ Found b) where
+    pub lowest-new : EdgeOnGrid e → below x (e .line) (b .line) ≡ true → Lowest best x e (Found e)
     lowest-new k t = record { is = rw (h, t); grid = k }
 
-    pub lowest-old : SideOnGrid b → below x (e .line) (b .line) ≡ false → Lowest best x e (Found b)
+    pub lowest-old : EdgeOnGrid b → below x (e .line) (b .line) ≡ false → Lowest best x e (Found b)
     lowest-old k t = record { is = rw (h, t); grid = k }
 
-  module _ (started : Bool) (g : Side) (r : Group) where
-    pub side-off : spans x (lineSegment (e .line)) ≡ false → GroupOnGrid best → WithSide best (past started g) x e best
-    side-off s k = record { is = rw s; grid = k }
+  module _ (started : Bool) (g : StoredEdge) (r : Group) where
+    pub candidate-off : spans x (lineSegment (e .line)) ≡ false → GroupOnGrid best → WithCandidate best (past started g) x e best
+    candidate-off s k = record { is = rw s; grid = k }
 
     module _ (s : spans x (lineSegment (e .line)) ≡ true) where
-      pub side-free : started ≡ false → Lowest best x e r → WithSide best (past started g) x e r
-      side-free f h = record { is = rw (s, f) (h .is); grid = h .grid }
+      pub candidate-free : started ≡ false → Lowest best x e r → WithCandidate best (past started g) x e r
+      candidate-free f h = record { is = rw (s, f) (h .is); grid = h .grid }
 
-      pub side-above : started ≡ true → below x (g .line) (e .line) ≡ true → Lowest best x e r → WithSide best (past started g) x e r
-      side-above f t h = record { is = rw (s, f, t) (h .is); grid = h .grid }
+      pub candidate-above : started ≡ true → below x (g .line) (e .line) ≡ true → Lowest best x e r → WithCandidate best (past started g) x e r
+      candidate-above f t h = record { is = rw (s, f, t) (h .is); grid = h .grid }
 
-      pub side-under : started ≡ true → below x (g .line) (e .line) ≡ false → GroupOnGrid best → WithSide best (past started g) x e best
-      side-under f t k = record { is = rw (s, f, t) (sym (lesser-none (lower lineOf x) (groupOf best))); grid = k }
+      pub candidate-under : started ≡ true → below x (g .line) (e .line) ≡ false → GroupOnGrid best → WithCandidate best (past started g) x e best
+      candidate-under f t k = record { is = rw (s, f, t) (sym (lesser-none (lower lineOf x) (groupOf best))); grid = k }
 
 -- ---- sums
 add-nothing : (z : ℤ) → z ≡ z ⊕ pos 0
@@ -73,7 +73,7 @@ turned-right rightward z o r e f h = rw e (h ∙ ap (λ (w : ℤ). z ⊕ w) f)
 pub turned-left : (rightward : Bool) (z o r : ℤ) → rightward ≡ false → o ≡ pos 1 → r ≡ z ⊖ o → r ≡ z ⊕ directionBy rightward
 turned-left rightward z o r e f h = rw e (h ∙ ap (λ (w : ℤ). z ⊖ w) f ∙ sub-one z)
 
-module _ (sum : Int) (g : Line) (x : Fraction) (e : Side) where
+module _ (sum : Int) (g : Line) (x : Fraction) (e : StoredEdge) where
   pub direction-off : spans x (lineSegment (e .line)) ≡ false → WithDirection sum g x e sum
   direction-off s = record { is = rw s (add-nothing (sum .v)); small = omega arith }
 
@@ -102,16 +102,16 @@ sum-keep-cons weight f h x xs = go (h x)
     go true = refl
     go false = ring 1 (λ z. z ≗ con (pos 0) ⊞ z) tt (sum weight f (keep h xs))
 
-abbrev over : Fraction → List Side → List Edge
+abbrev over : Fraction → List StoredEdge → List Edge
 over x ss = spanning segment x (edgesOf ss)
 
 -- the edges before number i have been looked at
-pub record Looking (v : Sides) (x : Fraction) (g : Option Edge) (best : Group) (i : ℕ) : Type 0 where
-  pub same : scan (lower lineOf x) none g (over x (inUse v)) ≡ scan (lower lineOf x) (groupOf best) g (over x (drop i (inUse v)))
+pub record Looking (v : EdgeList) (x : Fraction) (g : Option Edge) (best : Group) (i : ℕ) : Type 0 where
+  pub same : scan (lower lineOf x) none g (over x (edgesInUse v)) ≡ scan (lower lineOf x) (groupOf best) g (over x (drop i (edgesInUse v)))
   pub grid : GroupOnGrid best
   pub well : WellFormed v
 
-module _ (v : Sides) (x : Fraction) (g : Option Edge) where
+module _ (v : EdgeList) (x : Fraction) (g : Option Edge) where
   pub looking-start : WellFormed v → Looking v x g Nothing 0
   looking-start w = record { same = refl; grid = tt; well = w }
 
@@ -123,31 +123,31 @@ module _ (v : Sides) (x : Fraction) (g : Option Edge) where
     unfolding scan keep
     looking-last l = record { is = sym (h .same ∙ rw (first-end (v .n) (v .list) looking-enough i l)); grid = h .grid }
 
-    pub looking-grid : (o : Side) → i < v .n → SideOnGrid (getD (v .list) i o)
-    looking-grid o l = first-at (v .n) (v .list) looking-enough SideOnGrid i o l (h .well .grid)
+    pub looking-grid : (o : StoredEdge) → i < v .n → EdgeOnGrid (getD (v .list) i o)
+    looking-grid o l = first-at (v .n) (v .list) looking-enough EdgeOnGrid i o l (h .well .grid)
 
-    pub looking-next : (o : Side) → i < v .n → (r : Group) → WithSide best g x (getD (v .list) i o) r → Looking v x g r (i + 1)
+    pub looking-next : (o : StoredEdge) → i < v .n → (r : Group) → WithCandidate best g x (getD (v .list) i o) r → Looking v x g r (i + 1)
     looking-next o l r w =
         record {
           same = h .same
-              ∙ ap (λ (ss : List Side). scan (lower lineOf x) (groupOf best) g (over x ss)) (first-next (v .n) (v .list) looking-enough i o l)
-              ∙ scan-keep (lower lineOf x) (λ (e : Edge). spans x (segment e)) (groupOf best) g (edgeOf (getD (v .list) i o)) (edgesOf (drop (i + 1) (inUse v)))
-              ∙ ap (λ (b : Option Edge). scan (lower lineOf x) b g (over x (drop (i + 1) (inUse v)))) (sym (w .is));
+              ∙ ap (λ (ss : List StoredEdge). scan (lower lineOf x) (groupOf best) g (over x ss)) (first-next (v .n) (v .list) looking-enough i o l)
+              ∙ scan-keep (lower lineOf x) (λ (e : Edge). spans x (segment e)) (groupOf best) g (edgeOf (getD (v .list) i o)) (edgesOf (drop (i + 1) (edgesInUse v)))
+              ∙ ap (λ (b : Option Edge). scan (lower lineOf x) b g (over x (drop (i + 1) (edgesInUse v)))) (sym (w .is));
           grid = w .grid;
           well = h .well;
         }
 
 -- the edges before number i have been added
-pub record Adding (v : Sides) (x : Fraction) (g : Side) (acc : Int) (i : ℕ) : Type 0 where
-  pub same : upTo lineOf directionOf x (over x (inUse v)) (edgeOf g) ≡ acc .v ⊕ upTo lineOf directionOf x (over x (drop i (inUse v))) (edgeOf g)
+pub record Adding (v : EdgeList) (x : Fraction) (g : StoredEdge) (acc : Int) (i : ℕ) : Type 0 where
+  pub same : upTo lineOf directionOf x (over x (edgesInUse v)) (edgeOf g) ≡ acc .v ⊕ upTo lineOf directionOf x (over x (drop i (edgesInUse v))) (edgeOf g)
   pub small : natAbs (acc .v) ≤ i
   pub well : WellFormed v
 
-module _ (v : Sides) (x : Fraction) (g : Side) where
+module _ (v : EdgeList) (x : Fraction) (g : StoredEdge) where
   pub adding-start : WellFormed v → (acc : Int) → acc .v ≡ pos 0 → Adding v x g acc 0
   adding-start w acc e =
       let k : natAbs (acc .v) ≡ 0 = ap natAbs e in
-      record { same = rw e (ring 1 (λ z. z ≗ con (pos 0) ⊞ z) tt (upTo lineOf directionOf x (over x (inUse v)) (edgeOf g))); small = omega (arith, k); well = w }
+      record { same = rw e (ring 1 (λ z. z ≗ con (pos 0) ⊞ z) tt (upTo lineOf directionOf x (over x (edgesInUse v)) (edgeOf g))); small = omega (arith, k); well = w }
 
   module _ (acc : Int) (i : ℕ) (h : Adding v x g acc i) where
     adding-enough : v .n ≤ length (v .list)
@@ -157,24 +157,24 @@ module _ (v : Sides) (x : Fraction) (g : Side) where
     unfolding upTo sum keep
     up-none = refl
 
-    up-cons : (e : Side) (ss : List Side) → upTo lineOf directionOf x (over x (e ∷ ss)) (edgeOf g) ≡ addend (g .line) x e ⊕ upTo lineOf directionOf x (over x ss) (edgeOf g)
+    up-cons : (e : StoredEdge) (ss : List StoredEdge) → upTo lineOf directionOf x (over x (e ∷ ss)) (edgeOf g) ≡ addend (g .line) x e ⊕ upTo lineOf directionOf x (over x ss) (edgeOf g)
     unfolding upTo
     up-cons e ss = sum-keep-cons directionOf (λ (e : Edge). not (lower lineOf x (edgeOf g) e)) (λ (e : Edge). spans x (segment e)) (edgeOf e) (edgesOf ss)
 
-    pub adding-last : v .n ≤ i → acc .v ≡ upTo lineOf directionOf x (over x (inUse v)) (edgeOf g)
+    pub adding-last : v .n ≤ i → acc .v ≡ upTo lineOf directionOf x (over x (edgesInUse v)) (edgeOf g)
     adding-last l = sym (h .same ∙ rw (first-end (v .n) (v .list) adding-enough i l, up-none) (sym (add-nothing (acc .v))))
 
-    pub adding-grid : (o : Side) → i < v .n → SideOnGrid (getD (v .list) i o)
-    adding-grid o l = first-at (v .n) (v .list) adding-enough SideOnGrid i o l (h .well .grid)
+    pub adding-grid : (o : StoredEdge) → i < v .n → EdgeOnGrid (getD (v .list) i o)
+    adding-grid o l = first-at (v .n) (v .list) adding-enough EdgeOnGrid i o l (h .well .grid)
 
-    pub adding-next : (o : Side) → i < v .n → (r : Int) → WithDirection acc (g .line) x (getD (v .list) i o) r → Adding v x g r (i + 1)
+    pub adding-next : (o : StoredEdge) → i < v .n → (r : Int) → WithDirection acc (g .line) x (getD (v .list) i o) r → Adding v x g r (i + 1)
     adding-next o l r w =
         let e = getD (v .list) i o in
-        let rest = upTo lineOf directionOf x (over x (drop (i + 1) (inUse v))) (edgeOf g) in
+        let rest = upTo lineOf directionOf x (over x (drop (i + 1) (edgesInUse v))) (edgeOf g) in
         record {
           same = h .same
-              ∙ ap (λ (ss : List Side). acc .v ⊕ upTo lineOf directionOf x (over x ss) (edgeOf g)) (first-next (v .n) (v .list) adding-enough i o l)
-              ∙ ap (λ (z : ℤ). acc .v ⊕ z) (up-cons e (drop (i + 1) (inUse v)))
+              ∙ ap (λ (ss : List StoredEdge). acc .v ⊕ upTo lineOf directionOf x (over x ss) (edgeOf g)) (first-next (v .n) (v .list) adding-enough i o l)
+              ∙ ap (λ (z : ℤ). acc .v ⊕ z) (up-cons e (drop (i + 1) (edgesInUse v)))
               ∙ ring 3 (λ a b c. a ⊞ (b ⊞ c) ≗ (a ⊞ b) ⊞ c) tt (acc .v) (addend (g .line) x e) rest
               ∙ ap (λ (z : ℤ). z ⊕ rest) (sym (w .is));
           small = omega (arith, w .small, h .small);

@@ -28,15 +28,15 @@ use Rattle.sweep.specs.declared.Next.{Next}
 use Rattle.sweep.specs.declared.Next.the-variants.{Nothing, Found}
 use Rattle.sweep.proofs.Sweep.{Placed, placed-order}
 use Rattle.sweep.proofs.Loop.{from, sweep-none, sweep-start, sweep-turn, sweep-stop}
-use Rattle.fracture.specs.declared.Sides.{Sides}
+use Rattle.fracture.specs.declared.EdgeList.{EdgeList}
 use Rattle.fracture.specs.Polygons.{Edge, edges, segment}
-use Rattle.fracture.specs.Fracture.{marks, crossings, events, trapezoids, fracture}
+use Rattle.fracture.specs.Fracture.{marks, edgeCrossings, polygonEvents, trapezoids, fracture}
 use Rattle.fracture.proofs.Events.{complete}
 use Rattle.trapezoids_code.specs.Tails.{Borrowed, FilledAs}
 use Rattle.trapezoids_code.proofs.Writing.{tail, Writing, write-start, write-stop, write-full, write-upto, write-turn, fill-nothing}
 use Rattle.sweep_code.specs.Events.{EventOf, NextPlaced, optionOf, NextAmong}
-use Rattle.polygon_events_code.specs.Code.{edgesOf, inUse}
-use Rattle.fracture_code.specs.Code.{HasLines, columnOf, SidesOf}
+use Rattle.polygon_events_code.specs.Code.{edgesOf, edgesInUse}
+use Rattle.fracture_code.specs.Code.{HasLines, columnOf, EdgeListOf}
 
 pub event-found : (r : Next) (k : Event) → r ≡ Found k → NextPlaced r → EventOf k
 event-found r k e h = subst NextPlaced e h
@@ -44,54 +44,54 @@ event-found r k e h = subst NextPlaced e h
 module _ (L : ℕ) (polygon : Polygon) where
   -- what is left to fill from the event k on
   abbrev pub remains : Base → List Trapezoid
-  remains k = from segment position trapezoids (edges polygon) (events L polygon) k
+  remains k = from segment position trapezoids (edges polygon) (polygonEvents L polygon) k
 
   -- how many events are left after k
   abbrev pub later : Base → ℕ
-  later k = length (beyond (earlier position) (some k) (levels (earlier position) (events L polygon)))
+  later k = length (beyond (earlier position) (some k) (levels (earlier position) (polygonEvents L polygon)))
 
-  module _ (v : Sides) (h : SidesOf polygon v) where
-    pub sides-lines : HasLines v
-    sides-lines = subst (All (λ (e : Edge). IsLine (e .line))) (sym (h .is)) (complete L polygon .lines)
+  module _ (v : EdgeList) (h : EdgeListOf polygon v) where
+    pub edges-lines : HasLines v
+    edges-lines = subst (All (λ (e : Edge). IsLine (e .line))) (sym (h .is)) (complete L polygon .lines)
 
     column-is : (p q : Base) → columnOf v p q ≡ trapezoids p q (spanning segment (position p) (edges polygon))
     column-is p q = ap (λ (es : List Edge). trapezoids p q (spanning segment (position p) es)) (h .is)
 
-    proper : All (Placed position) (events L polygon)
+    proper : All (Placed position) (polygonEvents L polygon)
     proper = complete L polygon .proper
 
-    names : marks L polygon ++ crossings (edgesOf (inUse v)) ≡ events L polygon
-    unfolding events
-    names = ap (λ (es : List Edge). marks L polygon ++ crossings es) (h .is)
+    names : marks L polygon ++ edgeCrossings (edgesOf (edgesInUse v)) ≡ polygonEvents L polygon
+    unfolding polygonEvents
+    names = ap (λ (es : List Edge). marks L polygon ++ edgeCrossings es) (h .is)
 
-    module _ (g : Option Base) (r : Next) (n : NextAmong (marks L polygon ++ crossings (edgesOf (inUse v))) g r) where
-      next-is : next (earlier position) g (events L polygon) ≡ optionOf r
-      next-is = sym (n .is ∙ ap (scan (earlier position) none g) names ∙ scan-is-next (earlier position) (Placed position) (placed-order position) g (events L polygon) proper)
+    module _ (g : Option Base) (r : Next) (n : NextAmong (marks L polygon ++ edgeCrossings (edgesOf (edgesInUse v))) g r) where
+      next-is : next (earlier position) g (polygonEvents L polygon) ≡ optionOf r
+      next-is = sym (n .is ∙ ap (scan (earlier position) none g) names ∙ scan-is-next (earlier position) (Placed position) (placed-order position) g (polygonEvents L polygon) proper)
 
       pub next-proper : (k : Event) → r ≡ Found k → Proper (position (k .base))
-      next-proper k e = subst (IfSome (Placed position)) (next-is ∙ ap optionOf e) (next-all (earlier position) (Placed position) g (events L polygon) proper)
+      next-proper k e = subst (IfSome (Placed position)) (next-is ∙ ap optionOf e) (next-all (earlier position) (Placed position) g (polygonEvents L polygon) proper)
 
-    module _ (r : Next) (n : NextAmong (marks L polygon ++ crossings (edgesOf (inUse v))) none r) where
+    module _ (r : Next) (n : NextAmong (marks L polygon ++ edgeCrossings (edgesOf (edgesInUse v))) none r) where
       pub no-event : r ≡ Nothing → fracture L polygon ≡ []
       unfolding fracture
-      no-event e = sweep-none segment position trapezoids (edges polygon) (events L polygon) proper (next-is none r n ∙ ap optionOf e)
+      no-event e = sweep-none segment position trapezoids (edges polygon) (polygonEvents L polygon) proper (next-is none r n ∙ ap optionOf e)
 
       pub first-event : (k : Event) → r ≡ Found k → fracture L polygon ≡ remains (k .base)
       unfolding fracture
-      first-event k e = sweep-start segment position trapezoids (edges polygon) (events L polygon) proper (k .base) (next-is none r n ∙ ap optionOf e)
+      first-event k e = sweep-start segment position trapezoids (edges polygon) (polygonEvents L polygon) proper (k .base) (next-is none r n ∙ ap optionOf e)
 
-    module _ (p : Base) (hp : Proper (position p)) (r : Next) (n : NextAmong (marks L polygon ++ crossings (edgesOf (inUse v))) (some p) r) where
+    module _ (p : Base) (hp : Proper (position p)) (r : Next) (n : NextAmong (marks L polygon ++ edgeCrossings (edgesOf (edgesInUse v))) (some p) r) where
       pub last-event : r ≡ Nothing → remains p ≡ []
-      last-event e = sweep-stop segment position trapezoids (edges polygon) (events L polygon) proper p hp (next-is (some p) r n ∙ ap optionOf e)
+      last-event e = sweep-stop segment position trapezoids (edges polygon) (polygonEvents L polygon) proper p hp (next-is (some p) r n ∙ ap optionOf e)
 
       module _ (k : Event) (e : r ≡ Found k) where
         pub later-event : remains p ≡ columnOf v p (k .base) ++ remains (k .base)
         later-event =
-            sweep-turn segment position trapezoids (edges polygon) (events L polygon) proper p (k .base) hp (next-is (some p) r n ∙ ap optionOf e)
+            sweep-turn segment position trapezoids (edges polygon) (polygonEvents L polygon) proper p (k .base) hp (next-is (some p) r n ∙ ap optionOf e)
             ∙ ap (λ (ts : List Trapezoid). ts ++ remains (k .base)) (sym (column-is p (k .base)))
 
         pub fewer : later (k .base) < later p
-        fewer = let d = ap length (next-some (earlier position) (placed-order position) (some p) (events L polygon) (k .base) hp proper (next-is (some p) r n ∙ ap optionOf e)) in omega (arith, d)
+        fewer = let d = ap length (next-some (earlier position) (placed-order position) (some p) (polygonEvents L polygon) (k .base) hp proper (next-is (some p) r n ∙ ap optionOf e)) in omega (arith, d)
 
 -- before the event p: n trapezoids stand in out, which has W words
 pub record Sweeping (L : ℕ) (polygon : Polygon) (W room : ℕ) (out : List ℤ) (p : Event) (n : ℕ) : Type 0 where

@@ -21,33 +21,33 @@ use Rattle.geometry.specs.declared.Vertex.{Vertex}
 use Rattle.geometry.specs.Polygons.{Polygon, VertexOnGrid}
 use Rattle.sweep.specs.Segments.{spans, spanning}
 use Rattle.sweep.specs.Columns.{lower}
-use Rattle.fracture.specs.declared.Side.{Side}
-use Rattle.fracture.specs.declared.Sides.{Sides}
+use Rattle.fracture.specs.declared.StoredEdge.{StoredEdge}
+use Rattle.fracture.specs.declared.EdgeList.{EdgeList}
 use Rattle.fracture.specs.declared.Group.{Group}
 use Rattle.fracture.specs.declared.Group.the-variants.{Nothing, Found}
 use Rattle.fracture.specs.Polygons.{Edge, lineOf, edges, segment}
 use Rattle.fracture.specs.Fracture.{trapezoids}
-use Rattle.polygon_events_code.specs.Code.{SideOnGrid, WellFormed, directionBy, edgeOf, edgesOf, inUse, lineSegment}
+use Rattle.polygon_events_code.specs.Code.{EdgeOnGrid, WellFormed, directionBy, edgeOf, edgesOf, edgesInUse, lineSegment}
 
 -- v holds the edges of a polygon
-pub record SidesOf (polygon : Polygon) (v : Sides) : Type 0 where
+pub record EdgeListOf (polygon : Polygon) (v : EdgeList) : Type 0 where
   pub well : WellFormed v
-  pub is : edgesOf (inUse v) ≡ edges polygon
+  pub is : edgesOf (edgesInUse v) ≡ edges polygon
 
 -- the vertex whose words start at k
 abbrev pub vertexAt : List ℤ → ℕ → Vertex
 vertexAt ws k = record { x = getD ws k (pos 0); y = getD ws (k + 1) (pos 0) }
 
 -- v has room for one edge more, and words hold two vertices on the grid, which start at a and b
-abbrev pub TakesEdge : Sides → List ℤ → ℕ → ℕ → Type 0
+abbrev pub TakesEdge : EdgeList → List ℤ → ℕ → ℕ → Type 0
 TakesEdge v ws a b =
     WellFormed v × (v .n < 32) × (a + 1 < length ws) × (b + 1 < length ws)
     × VertexOnGrid coordinateLimit (vertexAt ws a) × VertexOnGrid coordinateLimit (vertexAt ws b)
 
 -- r is v with the edges es after it, at most one
-pub record Lengthened (v : Sides) (es : List Edge) (r : Sides) : Type 0 where
+pub record Lengthened (v : EdgeList) (es : List Edge) (r : EdgeList) : Type 0 where
   pub well : WellFormed r
-  pub is : edgesOf (inUse r) ≡ edgesOf (inUse v) ++ es
+  pub is : edgesOf (edgesInUse r) ≡ edgesOf (edgesInUse v) ++ es
   pub count : r .n ≤ v .n + 1
 
 -- ---- groups
@@ -57,39 +57,39 @@ groupOf (Found s) = some (edgeOf s)
 
 abbrev pub GroupOnGrid : Group → Type 0
 GroupOnGrid Nothing = Unit {0}
-GroupOnGrid (Found s) = SideOnGrid s
+GroupOnGrid (Found s) = EdgeOnGrid s
 
 -- above g, or anywhere
-abbrev pub past : Bool → Side → Option Edge
+abbrev pub past : Bool → StoredEdge → Option Edge
 past true g = some (edgeOf g)
 past false g = none
 
-pub record Lowest (best : Group) (x : Fraction) (e : Side) (r : Group) : Type 0 where
+pub record Lowest (best : Group) (x : Fraction) (e : StoredEdge) (r : Group) : Type 0 where
   pub is : groupOf r ≡ lesser (lower lineOf x) (groupOf best) (some (edgeOf e))
   pub grid : GroupOnGrid r
 
-pub record WithSide (best : Group) (g : Option Edge) (x : Fraction) (e : Side) (r : Group) : Type 0 where
+pub record WithCandidate (best : Group) (g : Option Edge) (x : Fraction) (e : StoredEdge) (r : Group) : Type 0 where
   pub is : groupOf r ≡ cond (spans x (lineSegment (e .line))) (lesser (lower lineOf x) (groupOf best) (candidate (lower lineOf x) g (edgeOf e))) (groupOf best)
   pub grid : GroupOnGrid r
 
 -- r is the first group of the edges that span x above g
-pub record NextGroup (v : Sides) (x : Fraction) (g : Option Edge) (r : Group) : Type 0 where
-  pub is : groupOf r ≡ scan (lower lineOf x) none g (spanning segment x (edgesOf (inUse v)))
+pub record NextGroup (v : EdgeList) (x : Fraction) (g : Option Edge) (r : Group) : Type 0 where
+  pub is : groupOf r ≡ scan (lower lineOf x) none g (spanning segment x (edgesOf (edgesInUse v)))
   pub grid : GroupOnGrid r
 
 -- ---- sums of directions
 -- what e adds to the sum up to the line g
-abbrev pub addend : Line → Fraction → Side → ℤ
+abbrev pub addend : Line → Fraction → StoredEdge → ℤ
 addend g x e = cond (spans x (lineSegment (e .line))) (cond (not (below x g (e .line))) (directionBy (e .rightward)) (pos 0)) (pos 0)
 
-pub record WithDirection (sum : Int) (g : Line) (x : Fraction) (e : Side) (r : Int) : Type 0 where
+pub record WithDirection (sum : Int) (g : Line) (x : Fraction) (e : StoredEdge) (r : Int) : Type 0 where
   pub is : r .v ≡ sum .v ⊕ addend g x e
   pub small : natAbs (r .v) ≤ natAbs (sum .v) + 1
 
 -- ---- a column
-abbrev pub HasLines : Sides → Type 0
-HasLines v = All (λ (e : Edge). IsLine (e .line)) (edgesOf (inUse v))
+abbrev pub HasLines : EdgeList → Type 0
+HasLines v = All (λ (e : Edge). IsLine (e .line)) (edgesOf (edgesInUse v))
 
 -- the trapezoids between the events p and q
-abbrev pub columnOf : Sides → Base → Base → List Trapezoid
-columnOf v p q = trapezoids p q (spanning segment (position p) (edgesOf (inUse v)))
+abbrev pub columnOf : EdgeList → Base → Base → List Trapezoid
+columnOf v p q = trapezoids p q (spanning segment (position p) (edgesOf (edgesInUse v)))

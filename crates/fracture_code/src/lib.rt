@@ -1,7 +1,7 @@
 // A polygon fractured into trapezoids by nonzero winding (paper 01: cutting).
+use fracture::EdgeList;
 use fracture::Group;
-use fracture::Side;
-use fracture::Sides;
+use fracture::StoredEdge;
 use geometry::Fill;
 use geometry::Line;
 use geometry::Position;
@@ -17,21 +17,21 @@ ghost use lib.IntN.{natAbs};
 ghost use lib.ListN.{length};
 ghost use Rattle.integer.specs.Integer.{_⊕_};
 ghost use Rattle.geometry.specs.Limit.{coordinateLimit, OnGrid};
-ghost use Rattle.geometry.specs.Polygons.{VertexOnGrid, PolygonOnGrid};
+ghost use Rattle.geometry.specs.Polygons.{PolygonOnGrid};
 ghost use Rattle.sweep.specs.Segments.{spanning};
 ghost use Rattle.sweep.specs.Columns.{isZero, upTo};
 ghost use Rattle.fracture.specs.Polygons.{through, edge, lineOf, directionOf, segment};
 ghost use Rattle.fracture.specs.Fracture.{fracture};
-ghost use Rattle.geometry_code.specs.Code.{fractionOf, Small};
+ghost use Rattle.geometry_code.specs.Code.{fractionOf, SmallPosition};
 ghost use Rattle.geometry_code.specs.Polygons.{polygonOf};
 ghost use Rattle.trapezoids_code.specs.Tails.{Borrowed, FilledAs};
 ghost use Rattle.sweep_code.specs.Events.{EventOf};
-ghost use Rattle.polygon_events_code.specs.Code.{edgeOf, edgesOf, inUse, WellFormed, directionBy};
-ghost use Rattle.fracture_code.specs.Code.{SidesOf, past, GroupOnGrid, Lowest, WithSide, NextGroup, WithDirection, HasLines, columnOf, vertexAt, TakesEdge, Lengthened};
+ghost use Rattle.polygon_events_code.specs.Code.{edgeOf, edgesOf, edgesInUse, WellFormed, directionBy};
+ghost use Rattle.fracture_code.specs.Code.{EdgeListOf, past, GroupOnGrid, Lowest, WithCandidate, NextGroup, WithDirection, HasLines, columnOf, vertexAt, TakesEdge, Lengthened};
 
 // The lower of the best so far and an edge, right of a position; the best where they are level.
-fn lowest(best: Group, e: Side, at: Position) -> Group
-    requires { ⌜ GroupOnGrid best × OnGrid coordinateLimit (e .line) × Small at ⌝ }
+fn lowest(best: Group, e: StoredEdge, at: Position) -> Group
+    requires { ⌜ GroupOnGrid best × OnGrid coordinateLimit (e .line) × SmallPosition at ⌝ }
     ensures { λ r. ⌜ Lowest best (fractionOf at) e r ⌝ }
 {
     let Group::Found(b) = best else {
@@ -44,9 +44,9 @@ fn lowest(best: Group, e: Side, at: Position) -> Group
 }
 
 // The same of an edge that may not span the position, or not be above g.
-fn with_side(best: Group, started: bool, g: Side, e: Side, at: Position) -> Group
-    requires { ⌜ GroupOnGrid best × OnGrid coordinateLimit (g .line) × OnGrid coordinateLimit (e .line) × Small at ⌝ }
-    ensures { λ r. ⌜ WithSide best (past started g) (fractionOf at) e r ⌝ }
+fn with_candidate(best: Group, started: bool, g: StoredEdge, e: StoredEdge, at: Position) -> Group
+    requires { ⌜ GroupOnGrid best × OnGrid coordinateLimit (g .line) × OnGrid coordinateLimit (e .line) × SmallPosition at ⌝ }
+    ensures { λ r. ⌜ WithCandidate best (past started g) (fractionOf at) e r ⌝ }
 {
     if polygon_events_code::is_spanning(at, e.line) {
         if started {
@@ -74,8 +74,8 @@ fn turned(sum: Int, rightward: bool) -> Int
 }
 
 // The sum with an edge's direction, if the edge spans the position and is at or below the line g right of it.
-fn with_direction(sum: Int, g: Line, e: Side, at: Position) -> Int
-    requires { ⌜ (natAbs (sum .v) ≤ 64) × OnGrid coordinateLimit g × OnGrid coordinateLimit (e .line) × Small at ⌝ }
+fn with_direction(sum: Int, g: Line, e: StoredEdge, at: Position) -> Int
+    requires { ⌜ (natAbs (sum .v) ≤ 64) × OnGrid coordinateLimit g × OnGrid coordinateLimit (e .line) × SmallPosition at ⌝ }
     ensures { λ r. ⌜ WithDirection sum g (fractionOf at) e r ⌝ }
 {
     if polygon_events_code::is_spanning(at, e.line) {
@@ -101,8 +101,8 @@ fn is_zero(x: Int) -> bool
 }
 
 // The first group above g right of a position, of the edges that span it, or the first of all where nothing has been started.
-fn next_group(v: Sides, at: Position, started: bool, g: Side) -> Group
-    requires { ⌜ WellFormed v × Small at × OnGrid coordinateLimit (g .line) ⌝ }
+fn next_group(v: EdgeList, at: Position, started: bool, g: StoredEdge) -> Group
+    requires { ⌜ WellFormed v × SmallPosition at × OnGrid coordinateLimit (g .line) ⌝ }
     ensures { λ r. ⌜ NextGroup v (fractionOf at) (past started g) r ⌝ }
 {
     let list = v.list;
@@ -111,16 +111,16 @@ fn next_group(v: Sides, at: Position, started: bool, g: Side) -> Group
     let mut i = 0;
     while i < n {
         let e = list[i];
-        best = with_side(best, started, g, e, at);
+        best = with_candidate(best, started, g, e, at);
         i += 1;
     }
     best
 }
 
 // The sum of the directions of the edges that span a position and are at or below g right of it.
-fn sum_up_to(v: Sides, at: Position, g: Side) -> Int
-    requires { ⌜ WellFormed v × Small at × OnGrid coordinateLimit (g .line) ⌝ }
-    ensures { λ r. ⌜ r .v ≡ upTo lineOf directionOf (fractionOf at) (spanning segment (fractionOf at) (edgesOf (inUse v))) (edgeOf g) ⌝ }
+fn sum_up_to(v: EdgeList, at: Position, g: StoredEdge) -> Int
+    requires { ⌜ WellFormed v × SmallPosition at × OnGrid coordinateLimit (g .line) ⌝ }
+    ensures { λ r. ⌜ r .v ≡ upTo lineOf directionOf (fractionOf at) (spanning segment (fractionOf at) (edgesOf (edgesInUse v))) (edgeOf g) ⌝ }
 {
     let list = v.list;
     let n = v.n;
@@ -134,8 +134,8 @@ fn sum_up_to(v: Sides, at: Position, g: Side) -> Int
     sum
 }
 
-// A side to begin with.
-fn axis_side() -> Side
+// An edge to begin with.
+fn axis_edge() -> StoredEdge
     ensures { λ r. ⌜ OnGrid coordinateLimit (r .line) ⌝ }
 {
     let line = Line {
@@ -144,7 +144,7 @@ fn axis_side() -> Side
         x2: 1,
         y2: 0,
     };
-    Side {
+    StoredEdge {
         line,
         rightward: true,
     }
@@ -161,7 +161,7 @@ fn closes(begun: bool, zero: bool) -> bool
 }
 
 // The bottom of a trapezoid that has begun, or of one that may begin at h.
-fn bottom_of(begun: bool, bottom: Side, h: Side) -> Side
+fn bottom_of(begun: bool, bottom: StoredEdge, h: StoredEdge) -> StoredEdge
     ensures { λ r. ⌜ r ≡ cond begun bottom h ⌝ }
 {
     if begun {
@@ -171,23 +171,23 @@ fn bottom_of(begun: bool, bottom: Side, h: Side) -> Side
 }
 
 // Whether the sum up to a group is zero.
-fn is_outside(v: Sides, at: Position, h: Side) -> bool
-    requires { ⌜ WellFormed v × Small at × OnGrid coordinateLimit (h .line) ⌝ }
-    ensures { λ r. ⌜ r ≡ isZero (upTo lineOf directionOf (fractionOf at) (spanning segment (fractionOf at) (edgesOf (inUse v))) (edgeOf h)) ⌝ }
+fn is_outside(v: EdgeList, at: Position, h: StoredEdge) -> bool
+    requires { ⌜ WellFormed v × SmallPosition at × OnGrid coordinateLimit (h .line) ⌝ }
+    ensures { λ r. ⌜ r ≡ isZero (upTo lineOf directionOf (fractionOf at) (spanning segment (fractionOf at) (edgesOf (edgesInUse v))) (edgeOf h)) ⌝ }
 {
     let sum = sum_up_to(v, at, h);
     is_zero(sum)
 }
 
 // The trapezoids between two events, from the bottom up.
-fn fill_column(v: Sides, p: Event, q: Event, out: &mut [i32], room: usize) -> Fill
+fn fill_column(v: EdgeList, p: Event, q: Event, out: &mut [i32], room: usize) -> Fill
     requires { ⌜ WellFormed v × HasLines v × EventOf p × Borrowed (now out) room ⌝ }
     ensures { λ r. ⌜ FilledAs (length (now (out .entry))) room (columnOf v (p .base) (q .base)) r (now (out .exit)) ⌝ }
 {
     let at = p.at;
     let left = p.base;
     let right = q.base;
-    let mut g = axis_side();
+    let mut g = axis_edge();
     let mut lower = g;
     let mut started = false;
     let mut begun = false;
@@ -221,8 +221,8 @@ fn fill_column(v: Sides, p: Event, q: Event, out: &mut [i32], room: usize) -> Fi
 }
 
 // The trapezoids of the polygon that has these vertices and edges, from left to right.
-fn fill_columns(words: &[i32], v: Sides, limit: u32, out: &mut [i32], room: usize) -> Fill
-    requires { ⌜ PolygonOnGrid limit (polygonOf (now words)) × (limit ≤ coordinateLimit) × SidesOf (polygonOf (now words)) v × Borrowed (now out) room ⌝ }
+fn fill_columns(words: &[i32], v: EdgeList, limit: u32, out: &mut [i32], room: usize) -> Fill
+    requires { ⌜ PolygonOnGrid limit (polygonOf (now words)) × (limit ≤ coordinateLimit) × EdgeListOf (polygonOf (now words)) v × Borrowed (now out) room ⌝ }
     ensures { λ r. ⌜ FilledAs (length (now (out .entry))) room (fracture limit (polygonOf (now (words .entry)))) r (now (out .exit)) ⌝ }
 {
     let zero = integer_code::of(0);
@@ -262,18 +262,18 @@ fn line_between(words: &[i32], a: usize, b: usize) -> Line
 }
 
 // One edge more.
-fn with_line(v: Sides, line: Line, rightward: bool) -> Sides
+fn with_line(v: EdgeList, line: Line, rightward: bool) -> EdgeList
     requires { ⌜ WellFormed v × (v .n < 32) × OnGrid coordinateLimit line ⌝ }
     ensures { λ r. ⌜ Lengthened v (record { line = line; direction = directionBy rightward } ∷ []) r ⌝ }
 {
     let n = v.n;
     let mut list = v.list;
-    list[n] = Side { line, rightward };
-    Sides { n: n + 1, list }
+    list[n] = StoredEdge { line, rightward };
+    EdgeList { n: n + 1, list }
 }
 
 // One edge more, unless its ends have equal x.
-fn with_edge(v: Sides, words: &[i32], a: usize, b: usize) -> Sides
+fn with_edge(v: EdgeList, words: &[i32], a: usize, b: usize) -> EdgeList
     requires { ⌜ TakesEdge v (now words) a b ⌝ }
     ensures { λ r. ⌜ Lengthened v (edge (vertexAt (now (words .entry)) a) (vertexAt (now (words .entry)) b)) r ⌝ }
 {
@@ -291,21 +291,21 @@ fn with_edge(v: Sides, words: &[i32], a: usize, b: usize) -> Sides
 }
 
 // No edges.
-fn no_sides() -> Sides
+fn no_edges() -> EdgeList
     ensures { λ r. ⌜ WellFormed r × (r .n ≡ 0) ⌝ }
 {
-    let s = axis_side();
+    let s = axis_edge();
     let list = [s; 32];
-    Sides { n: 0, list }
+    EdgeList { n: 0, list }
 }
 
 // The edges of the polygon whose vertices' coordinates are the words.
-fn sides_of(words: &[i32]) -> Sides
+fn edges_of(words: &[i32]) -> EdgeList
     requires { ⌜ PolygonOnGrid coordinateLimit (polygonOf (now words)) × (length (now words) ≤ 64) ⌝ }
-    ensures { λ r. ⌜ SidesOf (polygonOf (now (words .entry))) r ⌝ }
+    ensures { λ r. ⌜ EdgeListOf (polygonOf (now (words .entry))) r ⌝ }
 {
     let n = words.len();
-    let mut v = no_sides();
+    let mut v = no_edges();
     if n < 2 {
         return v;
     }
@@ -323,6 +323,6 @@ pub fn fracture_polygon(words: &[i32], limit: u32, out: &mut [i32], room: usize)
     requires { ⌜ PolygonOnGrid limit (polygonOf (now words)) × (limit ≤ coordinateLimit) × (length (now words) ≤ 64) × Borrowed (now out) room ⌝ }
     ensures { λ r. ⌜ FilledAs (length (now (out .entry))) room (fracture limit (polygonOf (now (words .entry)))) r (now (out .exit)) ⌝ }
 {
-    let v = sides_of(words);
+    let v = edges_of(words);
     fill_columns(words, v, limit, out, room)
 }

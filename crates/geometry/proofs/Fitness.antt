@@ -28,10 +28,10 @@ use Rattle.geometry.specs.declared.Checked.the-variants.{Passed, Refused
 use Rattle.geometry.specs.Limit.{onGrid, OnGrid, coordinateLimit}
 use Rattle.geometry.specs.Lines.{dx, dy, offset, IsLine, det}
 use Rattle.geometry.specs.Positions.{gap, crosses, meet, position, below}
-use Rattle.geometry.specs.Points.{Point, at, side, On, under, SamePoint}
+use Rattle.geometry.specs.Points.{Point, at, orientation, On, under, SamePoint}
 use Rattle.geometry.specs.Trapezoids.{linesOf, based, liesIn}
 use Rattle.geometry.specs.Fitness.{CrossInOnePoint, GridRow, LineRow, BaseRow, BasesRow, SidesRow, FitFor, lineOnGrid, isLine, baseCrosses, leftOf, belowBetween, pass, shapeVerdict, verdict, refuse, firstRefusal, GridExact, BaseExact, BasesExact, SidesExact, FitExact, LayerExact, RowExact, RefusedAt, PlaceExact, FitMore, FitHoldsPoint}
-use Rattle.geometry.proofs.Identities.{dx-positive, side-gap}
+use Rattle.geometry.proofs.Identities.{dx-positive, orientation-gap}
 use Rattle.geometry.proofs.Heights.{coincide-everywhere}
 use Rattle.geometry.proofs.Meet.{det→crosses, meet-proper, meet-gap, meet-only}
 use Rattle.geometry.proofs.Points.{on, on-point, on-line, on-other, on-cross, on-after, on-before, on-under, on-below}
@@ -75,23 +75,23 @@ line-exact l = ((λ t. record { rightward = ltZ-yes t }), (λ h. h .rightward .l
 -- a point on both lines stands where the gap is 0
 both→gap : (l m : Line) (P : Point) → On l P → On m P → gap l m (at P) ≡ pos 0
 both→gap l m P h k =
-    let z : ⊝ gap l m (at P) ≡ pos 0 = sym (rw (h, k) at (side-gap l m P)) ∙ ring 2 (λ a e. e ⊠ con (pos 0) ⊟ a ⊠ con (pos 0) ≗ con (pos 0)) tt (dx l) (dx m) in
+    let z : ⊝ gap l m (at P) ≡ pos 0 = sym (rw (h, k) at (orientation-gap l m P)) ∙ ring 2 (λ a e. e ⊠ con (pos 0) ⊟ a ⊠ con (pos 0) ≗ con (pos 0)) tt (dx l) (dx m) in
     omega (zarith, z, minus⁺ (gap l m (at P)), minus⁻ (gap l m (at P)))
 
 -- two points of a line over one position are one
 same-over : (l : Line) (P Q : Point) → IsLine l → On l P → On l Q → cross (at P) (at Q) ≡ pos 0 → SamePoint P Q
-unfolding cross side
+unfolding cross orientation
 same-over l P Q hl h k e =
     record {
       across = sub-zero (P .X ⊗ Q .D) (Q .X ⊗ P .D) e;
       up = eq-over (dx-positive hl) (sub-zero (dx l ⊗ (P .Y ⊗ Q .D)) (dx l ⊗ (Q .Y ⊗ P .D)) (identity ∙ zero));
     }
   where
-    identity : dx l ⊗ (P .Y ⊗ Q .D) ⊖ dx l ⊗ (Q .Y ⊗ P .D) ≡ Q .D ⊗ side l P ⊖ P .D ⊗ side l Q ⊕ dy l ⊗ cross (at P) (at Q)
+    identity : dx l ⊗ (P .Y ⊗ Q .D) ⊖ dx l ⊗ (Q .Y ⊗ P .D) ≡ Q .D ⊗ orientation l P ⊖ P .D ⊗ orientation l Q ⊕ dy l ⊗ cross (at P) (at Q)
     identity =
         ring 9 (λ a b c X Y D S W E. a ⊠ (Y ⊠ E) ⊟ a ⊠ (W ⊠ D) ≗ E ⊠ (a ⊠ Y ⊟ b ⊠ X ⊟ c ⊠ D) ⊟ D ⊠ (a ⊠ W ⊟ b ⊠ S ⊟ c ⊠ E) ⊞ b ⊠ (X ⊠ E ⊟ S ⊠ D)) tt (dx l) (dy l) (offset l) (P .X) (P .Y) (P .D) (Q .X) (Q .Y) (Q .D)
 
-    zero : Q .D ⊗ side l P ⊖ P .D ⊗ side l Q ⊕ dy l ⊗ cross (at P) (at Q) ≡ pos 0
+    zero : Q .D ⊗ orientation l P ⊖ P .D ⊗ orientation l Q ⊕ dy l ⊗ cross (at P) (at Q) ≡ pos 0
     zero = (λ j. Q .D ⊗ h j ⊖ P .D ⊗ k j ⊕ dy l ⊗ e j) ∙ ring 3 (λ a b c. a ⊠ con (pos 0) ⊟ b ⊠ con (pos 0) ⊞ c ⊠ con (pos 0) ≗ con (pos 0)) tt (Q .D) (P .D) (dy l)
 
 one-point : (l m : Line) → IsLine l → T (crosses l m) → CrossInOnePoint l m

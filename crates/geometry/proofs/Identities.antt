@@ -9,16 +9,16 @@ use Rattle.integer.proofs.Order.{lt→positive}
 use Rattle.integer.proofs.Fraction.{cross}
 use Rattle.geometry.specs.declared.Line.{Line}
 use Rattle.geometry.specs.Lines.{dx, dy, offset, IsLine, det, numer}
-use Rattle.geometry.specs.Positions.{gap, root}
-use Rattle.geometry.specs.Points.{Point, at, side}
+use Rattle.geometry.specs.Positions.{gap, ratio}
+use Rattle.geometry.specs.Points.{Point, at, orientation}
 
 pub dx-positive : {l : Line} → IsLine l → pos 0 <ℤ dx l
 unfolding dx
 dx-positive h = lt→positive (h .rightward)
 
-pub side-gap : (l m : Line) (P : Point) → dx m ⊗ side l P ⊖ dx l ⊗ side m P ≡ ⊝ gap l m (at P)
-unfolding side gap det numer
-side-gap l m P =
+pub orientation-gap : (l m : Line) (P : Point) → dx m ⊗ orientation l P ⊖ dx l ⊗ orientation m P ≡ ⊝ gap l m (at P)
+unfolding orientation gap det numer
+orientation-gap l m P =
     ring 9 (λ a b c e f g X Y D. e ⊠ (a ⊠ Y ⊟ b ⊠ X ⊟ c ⊠ D) ⊟ a ⊠ (e ⊠ Y ⊟ f ⊠ X ⊟ g ⊠ D) ≗ minus ((b ⊠ e ⊟ f ⊠ a) ⊠ X ⊟ (a ⊠ g ⊟ e ⊠ c) ⊠ D)) tt (dx l) (dy l) (offset l) (dx m) (dy m) (offset m) (P .X) (P .Y) (P .D)
 
 pub gap-chain : (l m k : Line) (x : Fraction) → dx m ⊗ gap l k x ≡ dx k ⊗ gap l m x ⊕ dx l ⊗ gap m k x
@@ -50,13 +50,13 @@ pub det-same : (l : Line) → det l l ≡ pos 0
 unfolding det
 det-same l = ring 2 (λ a b. b ⊠ a ⊟ b ⊠ a ≗ con (pos 0)) tt (dx l) (dy l)
 
-pub root-zero : (l m : Line) → gap l m (root l m) ≡ pos 0
-unfolding gap root
-root-zero l m = ring 2 (λ t u. t ⊠ u ⊟ u ⊠ t ≗ con (pos 0)) tt (det l m) (numer l m)
+pub ratio-zero : (l m : Line) → gap l m (ratio l m) ≡ pos 0
+unfolding gap ratio
+ratio-zero l m = ring 2 (λ t u. t ⊠ u ⊟ u ⊠ t ≗ con (pos 0)) tt (det l m) (numer l m)
 
-pub root-cross : (l m : Line) (x : Fraction) → cross x (root l m) ≡ gap l m x
-unfolding gap root cross
-root-cross l m x = ring 4 (λ t u n d. n ⊠ t ⊟ u ⊠ d ≗ t ⊠ n ⊟ u ⊠ d) tt (det l m) (numer l m) (x .num) (x .den)
+pub ratio-cross : (l m : Line) (x : Fraction) → cross x (ratio l m) ≡ gap l m x
+unfolding gap ratio cross
+ratio-cross l m x = ring 4 (λ t u n d. n ⊠ t ⊟ u ⊠ d ≗ t ⊠ n ⊟ u ⊠ d) tt (det l m) (numer l m) (x .num) (x .den)
 
 pub gap-between : (l m : Line) (p q x : Fraction) → cross q p ⊗ gap l m x ≡ cross q x ⊗ gap l m p ⊕ cross x p ⊗ gap l m q
 unfolding gap cross

@@ -12,3 +12,4 @@ pub mod Magnitudes
 pub mod Trapezoids
 pub mod Layers
 pub mod Ranges
+mod Examples

@@ -15,8 +15,8 @@ use Rattle.integer.proofs.Fraction.{cross}
 use Rattle.integer.proofs.Tests.{yes-lt, no-lt}
 use Rattle.geometry.specs.declared.Line.{Line}
 use Rattle.geometry.specs.Lines.{dx, offset, det, numer}
-use Rattle.geometry.specs.Positions.{gap, crosses, root, meet}
-use Rattle.geometry.proofs.Identities.{gap-turn, det-turn, root-zero, root-cross}
+use Rattle.geometry.specs.Positions.{gap, crosses, ratio, meet}
+use Rattle.geometry.proofs.Identities.{gap-turn, det-turn, ratio-zero, ratio-cross}
 
 -- ---- the test of the determinant
 pub crosses→det : (l m : Line) → T (crosses l m) → det l m ≡ pos 0 → ⊥
@@ -43,33 +43,33 @@ not-crosses→det l m h =
     ]
 
 -- ---- the position
-pub meet-cases : (P : Fraction → Type 0) (l m : Line) → (pos 0 <ℤ det l m → P (root l m)) → (det l m ≤ℤ pos 0 → P (root m l)) → P (meet l m)
+pub meet-cases : (P : Fraction → Type 0) (l m : Line) → (pos 0 <ℤ det l m → P (ratio l m)) → (det l m ≤ℤ pos 0 → P (ratio m l)) → P (meet l m)
 unfolding meet
-meet-cases P l m f g = cond-cases P (ltZ (pos 0) (det l m)) (root l m) (root m l) (λ h. f (ltZ-yes h)) (λ h. g (ltZ-no h))
+meet-cases P l m f g = cond-cases P (ltZ (pos 0) (det l m)) (ratio l m) (ratio m l) (λ h. f (ltZ-yes h)) (λ h. g (ltZ-no h))
 
 pub meet-proper : (l m : Line) → T (crosses l m) → Proper (meet l m)
-unfolding root
+unfolding ratio
 meet-proper l m h = meet-cases Proper l m (λ k. k) (λ k. neg-gt (det-turn l m) (elim (lt-or-le (det l m) (pos 0)) [ inl j ↦ j | inr j ↦ absurd (crosses→det l m h (antisymm k j)) ]))
 
 -- a position is one only of lines that cross
 pub proper-crosses : (l m : Line) → Proper (meet l m) → T (crosses l m)
-unfolding root
+unfolding ratio
 proper-crosses l m h = det→crosses l m (λ e. meet-cases (λ (p : Fraction). Proper p → ⊥) l m (λ k r. omega (zarith, e)) (λ k r. omega (zarith, e, det-turn l m, minus⁺ (det l m), minus⁻ (det l m))) h)
 
 -- the lines have equal heights there, and nowhere else
 pub meet-gap : (l m : Line) → gap l m (meet l m) ≡ pos 0
-meet-gap l m = meet-cases (λ (p : Fraction). gap l m p ≡ pos 0) l m (λ h. root-zero l m) (λ h. neg-zero (gap-turn m l (root m l)) (root-zero m l))
+meet-gap l m = meet-cases (λ (p : Fraction). gap l m p ≡ pos 0) l m (λ h. ratio-zero l m) (λ h. neg-zero (gap-turn m l (ratio m l)) (ratio-zero m l))
 
 pub meet-only : (l m : Line) (x : Fraction) → gap l m x ≡ pos 0 → cross x (meet l m) ≡ pos 0
-meet-only l m x e = meet-cases (λ (p : Fraction). cross x p ≡ pos 0) l m (λ k. root-cross l m x ∙ e) (λ k. root-cross m l x ∙ neg-zero (gap-turn l m x) e)
+meet-only l m x e = meet-cases (λ (p : Fraction). cross x p ≡ pos 0) l m (λ k. ratio-cross l m x ∙ e) (λ k. ratio-cross m l x ∙ neg-zero (gap-turn l m x) e)
 
 -- ---- by the determinant's sign, as a function finds it
 pub meet-rising : (l m : Line) → pos 0 <ℤ det l m → meet l m ≡ record { num = numer l m; den = det l m }
-unfolding meet root
+unfolding meet ratio
 meet-rising l m h = rw (yes-lt h)
 
 pub meet-falling : (l m : Line) → det l m <ℤ pos 0 → meet l m ≡ record { num = ⊝ numer l m; den = ⊝ det l m }
-unfolding meet root det numer
+unfolding meet ratio det numer
 meet-falling l m h =
     let n : numer m l ≡ ⊝ numer l m = ring 4 (λ a c e g. e ⊠ c ⊟ a ⊠ g ≗ minus (a ⊠ g ⊟ e ⊠ c)) tt (dx l) (offset l) (dx m) (offset m) in
     let d = det-turn l m in

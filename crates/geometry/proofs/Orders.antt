@@ -8,7 +8,7 @@ use Rattle.integer.proofs.Linear.{neg-zero}
 use Rattle.integer.proofs.Fraction.{cross, cross-turn, before→at-most, at-most-refl, order-equal}
 use Rattle.geometry.specs.Lines.{dx}
 use Rattle.geometry.specs.Points.{at, under}
-use Rattle.geometry.specs.Orders.{GapMeans, HeightsTotal, HeightsTransitive, RightTotal, RightTransitive, StayInOrder, UnderChain}
+use Rattle.geometry.specs.Orders.{GapMeans, HeightsTotal, HeightsTransitive, RightTotal, RightTransitive, StayInOrder, UnderTransitive}
 use Rattle.geometry.proofs.Heights as Heights
 use Rattle.geometry.proofs.Between as Between
 use Rattle.geometry.proofs.Points as Points
@@ -37,6 +37,6 @@ stay-in-order p q l m hp hq h clear b = (
   Between.stays-closed p q l m hp hq clear (Heights.below→not-below p l m b) q hq (before→at-most p q h) (at-most-refl q),
 )
 
-pub under-chain : UnderChain
+pub under-transitive : UnderTransitive
 unfolding under
-under-chain l m P hl hm h k = Points.under-chain l m P hl hm h (leZ-yes k) .le
+under-transitive l m P hl hm h k = Points.under-transitive l m P hl hm h (leZ-yes k) .le

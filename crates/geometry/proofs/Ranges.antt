@@ -8,7 +8,6 @@ use Rattle.integer.specs.Fraction.{Fraction, Proper, before}
 use Rattle.integer.proofs.Fraction.{at-most-refl, before→at-most, at-most-before-trans, before-at-most-trans}
 use Rattle.geometry.specs.declared.Trapezoid.{Trapezoid}
 use Rattle.geometry.specs.Positions.{crosses, position}
-use Rattle.geometry.specs.Points.{at}
 use Rattle.geometry.specs.Trapezoids.{based}
 use Rattle.geometry.specs.Fitness.{FitFor}
 use Rattle.geometry.specs.Ranges.{lefter, righter, commonLeft, commonRight}

@@ -7,7 +7,7 @@ use lib.Signed.{_≤ℤ_, _<ℤ_, clashℤ}
 use Rattle.integer.specs.declared.Ordering.{Ordering}
 use Rattle.integer.specs.declared.Ordering.the-variants.{Less, Equal, Greater}
 use Rattle.integer.specs.Integer.{_⊕_, _⊗_}
-use Rattle.integer.specs.Compare.{orderOf, Ordered}
+use Rattle.integer.specs.Compare.{orderOf, HasOrder}
 use Rattle.integer.specs.Fraction.{Fraction, Proper, before, mediant}
 use Rattle.integer.proofs.Ring.{ring, _⊞_, _⊠_, minus, con, _≗_}
 use Rattle.integer.proofs.Order.{eq-over, lt→le, antisymm, lt-or-le, weighted-lt, weighted-lt′}
@@ -16,10 +16,10 @@ use Rattle.integer.proofs.Tests.{order-exact}
 use Rattle.integer.proofs.Fraction.{cross, cross-turn, cross-chain, before→cross, cross→before, mediant-proper, mediant-after, mediant-before}
 use Rattle.geometry.specs.declared.Line.{Line}
 use Rattle.geometry.specs.Lines.{det}
-use Rattle.geometry.specs.Positions.{gap, root}
+use Rattle.geometry.specs.Positions.{gap, ratio}
 use Rattle.geometry.specs.Points.{at}
 use Rattle.geometry.specs.Fitness.{BelowBetween, apartBy, belowBetween}
-use Rattle.geometry.proofs.Identities.{gap-moves, gap-turn, det-turn, root-zero, root-cross, gap-between}
+use Rattle.geometry.proofs.Identities.{gap-moves, gap-turn, det-turn, ratio-zero, ratio-cross, gap-between}
 use Rattle.geometry.proofs.Heights.{heights-gap}
 use Rattle.geometry.proofs.Between.{ahead}
 
@@ -39,18 +39,18 @@ module _ (l m : Line) (p q : Fraction) (hp : Proper p) (hq : Proper q) (h : T (b
 
   -- if the gap is below 0 at x and above 0 at y, it is 0 strictly between: on either side
   crossing-right : (x y : Fraction) → Proper x → Proper y → T (before x y) → gap l m x <ℤ pos 0 → pos 0 <ℤ gap l m y → (r : Fraction) × Proper r × T (before x r) × T (before r y) × (gap l m r ≡ pos 0)
-  unfolding root
-  crossing-right x y hx hy b gx gy = (root l m, up, cross→before x (root l m) (subst (λ (z : ℤ). z <ℤ pos 0) (sym (root-cross l m x)) gx), cross→before (root l m) y (neg-lt (cross-turn y (root l m)) (subst (λ (z : ℤ). pos 0 <ℤ z) (sym (root-cross l m y)) gy)), root-zero l m)
+  unfolding ratio
+  crossing-right x y hx hy b gx gy = (ratio l m, up, cross→before x (ratio l m) (subst (λ (z : ℤ). z <ℤ pos 0) (sym (ratio-cross l m x)) gx), cross→before (ratio l m) y (neg-lt (cross-turn y (ratio l m)) (subst (λ (z : ℤ). pos 0 <ℤ z) (sym (ratio-cross l m y)) gy)), ratio-zero l m)
     where
       up : pos 0 <ℤ det l m
       up = elim (lt-or-le (pos 0) (det l m)) [ inl k ↦ k | inr k ↦ clashℤ gy (lt→le (weighted-lt (gap-moves l m x y ∙ ap (λ (z : ℤ). y .den ⊗ gap l m x ⊕ z) (ring 2 (λ a b. a ⊠ b ≗ b ⊠ a) tt (det l m) (cross y x))) hx hy (lt→le (ahead x y b)) gx k)) ]
 
   crossing-left : (x y : Fraction) → Proper x → Proper y → T (before x y) → pos 0 <ℤ gap l m x → gap l m y <ℤ pos 0 → (r : Fraction) × Proper r × T (before x r) × T (before r y) × (gap l m r ≡ pos 0)
-  unfolding root
-  crossing-left x y hx hy b gx gy = (root m l, neg-gt (det-turn l m) fall, cross→before x (root m l) (subst (λ (z : ℤ). z <ℤ pos 0) (sym (root-cross m l x)) (neg-lt (gap-turn l m x) gx)), cross→before (root m l) y (neg-lt (cross-turn y (root m l)) (subst (λ (z : ℤ). pos 0 <ℤ z) (sym (root-cross m l y)) (neg-gt (gap-turn l m y) gy))), zero)
+  unfolding ratio
+  crossing-left x y hx hy b gx gy = (ratio m l, neg-gt (det-turn l m) fall, cross→before x (ratio m l) (subst (λ (z : ℤ). z <ℤ pos 0) (sym (ratio-cross m l x)) (neg-lt (gap-turn l m x) gx)), cross→before (ratio m l) y (neg-lt (cross-turn y (ratio m l)) (subst (λ (z : ℤ). pos 0 <ℤ z) (sym (ratio-cross m l y)) (neg-gt (gap-turn l m y) gy))), zero)
     where
-      zero : gap l m (root m l) ≡ pos 0
-      zero = let e = root-zero m l in let t = gap-turn m l (root m l) in omega (zarith, minus⁺ (gap m l (root m l)), minus⁻ (gap m l (root m l)))
+      zero : gap l m (ratio m l) ≡ pos 0
+      zero = let e = ratio-zero m l in let t = gap-turn m l (ratio m l) in omega (zarith, minus⁺ (gap m l (ratio m l)), minus⁻ (gap m l (ratio m l)))
 
       fall : det l m <ℤ pos 0
       fall = elim (lt-or-le (det l m) (pos 0)) [ inl k ↦ k | inr k ↦ clashℤ gx (lt→le (weighted-lt (gap-moves l m y x ∙ ap (λ (z : ℤ). x .den ⊗ gap l m y ⊕ z) (ring 2 (λ a b. a ⊠ b ≗ minus b ⊠ minus a) tt (det l m) (cross x y))) hy hx (neg-ge {a = cross x y} refl (lt→le (before→cross x y b))) gy (neg-le {a = det l m} refl k))) ]
@@ -85,7 +85,7 @@ module _ (p q : Fraction) (l m : Line) where
   unfolding belowBetween
   test→meets h = go (orderOf (gap l m p) (pos 0)) (orderOf (gap l m q) (pos 0)) refl refl (rw (heights-gap p l m, heights-gap q l m) at h)
     where
-      is : (o : Ordering) (x : Fraction) → orderOf (gap l m x) (pos 0) ≡ o → Ordered o (gap l m x) (pos 0)
+      is : (o : Ordering) (x : Fraction) → orderOf (gap l m x) (pos 0) ≡ o → HasOrder o (gap l m x) (pos 0)
       is o x e = order-exact o (gap l m x) (pos 0) .0 e
 
       go : (o u : Ordering) → orderOf (gap l m p) (pos 0) ≡ o → orderOf (gap l m q) (pos 0) ≡ u → T (apartBy o u) → Meets l m p q
@@ -101,7 +101,7 @@ module _ (p q : Fraction) (l m : Line) where
   unfolding belowBetween
   meets→test h = rw (heights-gap p l m, heights-gap q l m) (go (orderOf (gap l m p) (pos 0)) (orderOf (gap l m q) (pos 0)) refl refl)
     where
-      is : (o : Ordering) (x : Fraction) → orderOf (gap l m x) (pos 0) ≡ o → Ordered o (gap l m x) (pos 0)
+      is : (o : Ordering) (x : Fraction) → orderOf (gap l m x) (pos 0) ≡ o → HasOrder o (gap l m x) (pos 0)
       is o x e = order-exact o (gap l m x) (pos 0) .0 e
 
       neither : gap l m p ≡ pos 0 → gap l m q ≡ pos 0 → ⊥

@@ -184,6 +184,6 @@ abbrev pub FitHoldsPoint : Type 0
 FitHoldsPoint = (L : ℕ) (t : Trapezoid) → FitFor L t → (P : Point) × IsPoint P × T (liesIn P t)
 
 -- the words of a layer of at most 512 trapezoids, which are fit
-pub record Layer (s : List ℤ) : Type 0 where
+pub record FitLayer (s : List ℤ) : Type 0 where
   pub fit : All (FitFor coordinateLimit) (layerOf s)
   pub few : count trapezoidCodec s ≤ maxRecords

@@ -11,11 +11,11 @@ use Rattle.integer.specs.Fraction.{Fraction, Proper, before, order}
 use Rattle.geometry.specs.declared.Line.{Line}
 use Rattle.geometry.specs.Lines.{IsLine, det}
 use Rattle.geometry.specs.Positions.{gap, below}
-use Rattle.geometry.specs.Points.{Point, IsPoint, at, side, On, under}
+use Rattle.geometry.specs.Points.{Point, IsPoint, at, orientation, On, under}
 
 -- the gap is the place of l's point over x against m: above it, on it or below it
 abbrev pub GapMeans : Type 0
-GapMeans = (l m : Line) (x : Fraction) → IsLine l → Proper x → (P : Point) × IsPoint P × (order (at P) x ≡ Equal) × On l P × (side m P ≡ gap l m x)
+GapMeans = (l m : Line) (x : Fraction) → IsLine l → Proper x → (P : Point) × IsPoint P × (order (at P) x ≡ Equal) × On l P × (orientation m P ≡ gap l m x)
 
 -- at or below at a position: total and transitive
 abbrev pub HeightsTotal : Type 0
@@ -46,5 +46,5 @@ StayInOrder =
     → ((x : Fraction) → Proper x → T (before p x) → T (before x q) → gap l m x <ℤ pos 0) × (gap l m p ≤ℤ pos 0) × (gap l m q ≤ℤ pos 0)
 
 -- a line at or below another at a point's position, and the other at or below the point, give the line at or below the point
-abbrev pub UnderChain : Type 0
-UnderChain = (l m : Line) (P : Point) → IsLine l → IsLine m → gap l m (at P) ≤ℤ pos 0 → T (under P m) → T (under P l)
+abbrev pub UnderTransitive : Type 0
+UnderTransitive = (l m : Line) (P : Point) → IsLine l → IsLine m → gap l m (at P) ≤ℤ pos 0 → T (under P m) → T (under P l)

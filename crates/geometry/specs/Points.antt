@@ -20,16 +20,16 @@ IsPoint P = pos 0 <ℤ P .D
 abbrev pub at : Point → Fraction
 at P = record { num = P .X; den = P .D }
 
--- its sign says that P is above, on or below the line
-unfoldable pub side : Line → Point → ℤ
-side l P = dx l ⊗ P .Y ⊖ dy l ⊗ P .X ⊖ offset l ⊗ P .D
+-- the orientation of P to the line: its sign says that P is above, on or below it
+unfoldable pub orientation : Line → Point → ℤ
+orientation l P = dx l ⊗ P .Y ⊖ dy l ⊗ P .X ⊖ offset l ⊗ P .D
 
 abbrev pub On : Line → Point → Type 0
-On l P = side l P ≡ pos 0
+On l P = orientation l P ≡ pos 0
 
 -- the line is at or below P
 unfoldable pub under : Point → Line → Bool
-under P l = leZ (pos 0) (side l P)
+under P l = leZ (pos 0) (orientation l P)
 
 -- P and Q stand for one point of the plane
 pub record SamePoint (P Q : Point) : Type 0 where

@@ -20,12 +20,12 @@ unfoldable pub crosses : Line → Line → Bool
 crosses l m = cond (ltZ (det l m) (pos 0)) true (ltZ (pos 0) (det l m))
 
 -- numer/det
-unfoldable pub root : Line → Line → Fraction
-root l m = record { num = numer l m; den = det l m }
+unfoldable pub ratio : Line → Line → Fraction
+ratio l m = record { num = numer l m; den = det l m }
 
 -- the position where two lines that cross do so, with a positive denominator for either sign of the determinant
 unfoldable pub meet : Line → Line → Fraction
-meet l m = cond (ltZ (pos 0) (det l m)) (root l m) (root m l)
+meet l m = cond (ltZ (pos 0) (det l m)) (ratio l m) (ratio m l)
 
 -- "A base is a pair of lines that cross; it stands for the crossing's horizontal position."
 abbrev pub position : Base → Fraction

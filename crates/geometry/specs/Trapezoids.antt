@@ -14,7 +14,7 @@ use Rattle.records.specs.Records.{Codec, records}
 use Rattle.geometry.specs.declared.Line.{Line}
 use Rattle.geometry.specs.declared.Trapezoid.{Trapezoid}
 use Rattle.geometry.specs.Positions.{crosses, position}
-use Rattle.geometry.specs.Points.{Point, IsPoint, at, side, under}
+use Rattle.geometry.specs.Points.{Point, IsPoint, at, orientation, under}
 
 -- "A piece is six lines, 24 signed 32-bit words: left base (two lines), right base (two lines), bottom, top."
 abbrev pub linesOf : Trapezoid → List Line
@@ -63,7 +63,7 @@ liesIn P t =
 unfoldable pub liesInClosed : Point → Trapezoid → Bool
 liesInClosed P t =
     based t
-    && (not (before (at P) (position (t .left))) && (not (before (position (t .right)) (at P)) && (under P (t .bottom) && leZ (side (t .top) P) (pos 0))))
+    && (not (before (at P) (position (t .left))) && (not (before (position (t .right)) (at P)) && (under P (t .bottom) && leZ (orientation (t .top) P) (pos 0))))
 
 -- ---- layers
 -- "A point lies in a layer if it lies in one of its pieces."

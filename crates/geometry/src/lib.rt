@@ -56,8 +56,9 @@ pub struct Position {
     pub den: Int,
 }
 
+// Where two lines cross: nowhere, or nowhere in the range that was asked for; or at a position.
 pub enum Crossing {
-    Parallel,
+    Nowhere,
     At(Position),
 }
 

@@ -9,9 +9,9 @@ use Rattle.integer.specs.Fraction.{Fraction, before, order}
 use Rattle.geometry.specs.declared.Line.{Line}
 use Rattle.geometry.specs.declared.Position.{Position}
 use Rattle.geometry.specs.declared.Crossing.{Crossing}
-use Rattle.geometry.specs.declared.Crossing.the-variants.{Parallel, At}
+use Rattle.geometry.specs.declared.Crossing.the-variants.{Nowhere, At}
 use Rattle.geometry.specs.Positions.{crosses, meet, isLess}
-use Rattle.geometry_code.specs.Code.{fractionOf, Small, CrossingOf}
+use Rattle.geometry_code.specs.Code.{fractionOf, SmallPosition, CrossingOf}
 
 -- "less" of the order of fractions is `before`
 pub before-by : (p q : Fraction) → isLess (order p q) ≡ before p q
@@ -24,8 +24,8 @@ before-by p q = go (ltZ (p .num ⊗ q .den) (q .num ⊗ p .den)) (ltZ (q .num �
     go false false = refl
 
 -- what an answer of `crossing_of` says
-pub parallel : (l m : Line) (r : Crossing) → CrossingOf l m r → r ≡ Parallel → crosses l m ≡ false
+pub parallel : (l m : Line) (r : Crossing) → CrossingOf l m r → r ≡ Nowhere → crosses l m ≡ false
 parallel l m r h e = false-is (subst (CrossingOf l m) e h)
 
-pub crossed : (l m : Line) (r : Crossing) (p : Position) → CrossingOf l m r → r ≡ At p → (crosses l m ≡ true) × (fractionOf p ≡ meet l m) × Small p
+pub crossed : (l m : Line) (r : Crossing) (p : Position) → CrossingOf l m r → r ≡ At p → (crosses l m ≡ true) × (fractionOf p ≡ meet l m) × SmallPosition p
 crossed l m r p h e = let k = subst (CrossingOf l m) e h in (true-is (k .0), k .1, k .2)

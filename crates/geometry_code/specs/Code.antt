@@ -15,7 +15,7 @@ use Rattle.geometry.specs.declared.Coefficients.{Coefficients}
 use Rattle.geometry.specs.declared.Meeting.{Meeting}
 use Rattle.geometry.specs.declared.Position.{Position}
 use Rattle.geometry.specs.declared.Crossing.{Crossing}
-use Rattle.geometry.specs.declared.Crossing.the-variants.{Parallel, At}
+use Rattle.geometry.specs.declared.Crossing.the-variants.{Nowhere, At}
 use Rattle.geometry.specs.Limit.{coordinateLimit, detBound, numerBound}
 use Rattle.geometry.specs.Lines.{dx, dy, offset, det, numer}
 use Rattle.geometry.specs.Positions.{crosses, meet, position}
@@ -47,18 +47,18 @@ abbrev pub fractionOf : Position → Fraction
 fractionOf p = record { num = p .num .v; den = p .den .v }
 
 -- a position as a comparison takes it
-pub record Small (p : Position) : Type 0 where
+pub record SmallPosition (p : Position) : Type 0 where
   pub num-small : natAbs (p .num .v) ≤ numerBound coordinateLimit
   pub den-small : natAbs (p .den .v) ≤ detBound coordinateLimit
 
 -- where two lines cross, or that they do not
 abbrev pub CrossingOf : Line → Line → Crossing → Type 0
-CrossingOf l m Parallel = T (not (crosses l m))
-CrossingOf l m (At p) = T (crosses l m) × (fractionOf p ≡ meet l m) × Small p
+CrossingOf l m Nowhere = T (not (crosses l m))
+CrossingOf l m (At p) = T (crosses l m) × (fractionOf p ≡ meet l m) × SmallPosition p
 
 pub record PositionOf (b : Base) (p : Position) : Type 0 where
   pub is : fractionOf p ≡ position b
-  pub small : Small p
+  pub small : SmallPosition p
 
 -- less, or where `level` is yes less or equal
 abbrev pub precedesBy : Bool → Ordering → Bool

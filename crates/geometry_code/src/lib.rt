@@ -20,7 +20,7 @@ ghost use Rattle.integer.specs.Fraction.{before, order};
 ghost use Rattle.geometry.specs.Limit.{coordinateLimit, OnGrid, detBound, numerBound};
 ghost use Rattle.geometry.specs.Positions.{crosses, heights, rightOf, isLess, below};
 ghost use Rattle.geometry.specs.Points.{under as underOf};
-ghost use Rattle.geometry_code.specs.Code.{CornersOf, CoefficientsOf, MeetingOf, fractionOf, Small, CrossingOf, PositionOf, pointOf, SmallPoint};
+ghost use Rattle.geometry_code.specs.Code.{CornersOf, CoefficientsOf, MeetingOf, fractionOf, SmallPosition, CrossingOf, PositionOf, pointOf, SmallPoint};
 
 pub fn corners_of(l: Line) -> Corners
     ensures { λ r. ⌜ CornersOf l r ⌝ }
@@ -83,7 +83,7 @@ pub fn crossing_of(l: Line, m: Line) -> Crossing
         let p = Position { num, den };
         return Crossing::At(p);
     }
-    Crossing::Parallel
+    Crossing::Nowhere
 }
 
 // The position of a base whose lines cross.
@@ -94,7 +94,7 @@ pub fn position_of(b: Base) -> Position
     let c = crossing_of(b.first, b.second);
     match c {
         Crossing::At(p) => p,
-        Crossing::Parallel => Position {
+        Crossing::Nowhere => Position {
             num: integer_code::of(0),
             den: integer_code::of(1),
         },
@@ -114,7 +114,7 @@ pub fn compare_products(a: Int, b: Int, c: Int, d: Int) -> Ordering
 
 // Left, level or right.
 pub fn compare(p: Position, q: Position) -> Ordering
-    requires { ⌜ Small p × Small q ⌝ }
+    requires { ⌜ SmallPosition p × SmallPosition q ⌝ }
     ensures { λ r. ⌜ r ≡ order (fractionOf p) (fractionOf q) ⌝ }
 {
     compare_products(p.num, q.den, q.num, p.den)
@@ -122,7 +122,7 @@ pub fn compare(p: Position, q: Position) -> Ordering
 
 // The heights of two lines at a position.
 pub fn heights_at(l: Line, m: Line, x: Position) -> Ordering
-    requires { ⌜ OnGrid coordinateLimit l × OnGrid coordinateLimit m × Small x ⌝ }
+    requires { ⌜ OnGrid coordinateLimit l × OnGrid coordinateLimit m × SmallPosition x ⌝ }
     ensures { λ r. ⌜ r ≡ heights (fractionOf x) l m ⌝ }
 {
     let k = meeting_of(l, m);
@@ -131,7 +131,7 @@ pub fn heights_at(l: Line, m: Line, x: Position) -> Ordering
 
 // Which of two lines is the lower right of a position, or that they coincide.
 pub fn right_order(l: Line, m: Line, x: Position) -> Ordering
-    requires { ⌜ OnGrid coordinateLimit l × OnGrid coordinateLimit m × Small x ⌝ }
+    requires { ⌜ OnGrid coordinateLimit l × OnGrid coordinateLimit m × SmallPosition x ⌝ }
     ensures { λ r. ⌜ r ≡ rightOf (fractionOf x) l m ⌝ }
 {
     let k = meeting_of(l, m);
@@ -148,7 +148,7 @@ pub fn right_order(l: Line, m: Line, x: Position) -> Ordering
 
 // Whether a position is left of another.
 pub fn is_before(p: Position, q: Position) -> bool
-    requires { ⌜ Small p × Small q ⌝ }
+    requires { ⌜ SmallPosition p × SmallPosition q ⌝ }
     ensures { λ r. ⌜ r ≡ before (fractionOf p) (fractionOf q) ⌝ }
 {
     is_less(compare(p, q))
@@ -156,7 +156,7 @@ pub fn is_before(p: Position, q: Position) -> bool
 
 // Whether a line is below another right of a position.
 pub fn is_below(l: Line, m: Line, x: Position) -> bool
-    requires { ⌜ OnGrid coordinateLimit l × OnGrid coordinateLimit m × Small x ⌝ }
+    requires { ⌜ OnGrid coordinateLimit l × OnGrid coordinateLimit m × SmallPosition x ⌝ }
     ensures { λ r. ⌜ r ≡ below (fractionOf x) l m ⌝ }
 {
     is_less(right_order(l, m, x))
@@ -172,9 +172,9 @@ pub fn under(l: Line, x: Int, y: Int, d: Int) -> bool
     let b = integer_code::mul(k.dy, x);
     let c = integer_code::mul(k.offset, d);
     let u = integer_code::sub(a, b);
-    let side = integer_code::sub(u, c);
+    let orientation = integer_code::sub(u, c);
     let zero = integer_code::of(0);
-    integer_code::at_most(zero, side)
+    integer_code::at_most(zero, orientation)
 }
 
 pub fn is_less(a: Ordering) -> bool

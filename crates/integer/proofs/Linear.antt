@@ -118,9 +118,9 @@ eq-n {a} {b} e = subst (λ (z : ℤ). p⁺ a + p⁻ z ≡ p⁺ z + p⁻ a) e ref
 pub ruleset zarith = (arith, le-n, n-le, lt-n, n-lt, eq-n, n-eq)
 
 -- ---- a linear expression at once: `omega (zarith, lin 3 (λ a b c. a ⊞ b ⊟ con (pos 2) ⊠ c) x y z)`; a product of variables is an unknown
-abbrev pub side : Bool → ℤ → ℕ
-side true z = p⁺ z
-side false z = p⁻ z
+abbrev pub partOf : Bool → ℤ → ℕ
+partOf true z = p⁺ z
+partOf false z = p⁻ z
 
 abbrev pub times : Expr → ℕ → ℕ → ℕ → ℕ
 times (con (pos k)) p n o = k * p
@@ -132,11 +132,11 @@ times (a ⊠ b) p n o = o
 times (minus a) p n o = o
 
 abbrev pub part : List ℤ → Bool → Expr → ℕ
-part ρ s (var i) = side s (nth i ρ)
-part ρ s (con c) = side s c
+part ρ s (var i) = partOf s (nth i ρ)
+part ρ s (con c) = partOf s c
 part ρ s (a ⊞ b) = part ρ s a + part ρ s b
 part ρ s (a ⊟ b) = part ρ s a + part ρ (not s) b
-part ρ s (a ⊠ b) = times a (part ρ s b) (part ρ (not s) b) (side s (eval ρ a ⊗ eval ρ b))
+part ρ s (a ⊠ b) = times a (part ρ s b) (part ρ (not s) b) (partOf s (eval ρ a ⊗ eval ρ b))
 part ρ s (minus a) = part ρ (not s) a
 
 neg⁺ : (n : ℕ) → p⁺ (negℤ (pos n)) ≡ 0

@@ -6,7 +6,7 @@ use lib.IntN.{ℤ, pos}
 use lib.Signed.{ltZ, leZ, _≤ℤ_, _<ℤ_, leZ-yes, ltZ-yes, ltZ-no, ≤ℤ-refl, clashℤ}
 use Rattle.lists.proofs.Tests.{true-is, false-is, is-true, is-false}
 use Rattle.integer.specs.Integer.{_⊖_, ⊝_}
-use Rattle.integer.specs.Compare.{Ordered, orderBy, orderOf, OrderExact}
+use Rattle.integer.specs.Compare.{HasOrder, orderBy, orderOf, OrderExact}
 use Rattle.integer.specs.declared.Ordering.{Ordering}
 use Rattle.integer.specs.declared.Ordering.the-variants.{Less, Equal, Greater}
 use Rattle.integer.proofs.Order.{antisymm, lt→le, lt-sub}
@@ -67,19 +67,19 @@ order-by a b c d e = ap₂ orderBy (by b a d c (turn a b ∙ ap ⊝_ e ∙ sym (
     turn a b = ring 2 (λ a b. b ⊟ a ≗ minus (a ⊟ b)) tt a b
 
 -- and what its answer means
-pub order-says : (a b : ℤ) → Ordered (orderOf a b) a b
+pub order-says : (a b : ℤ) → HasOrder (orderOf a b) a b
 unfolding orderOf
 order-says a b = go (ltZ a b) (ltZ b a) refl refl
   where
-    go : (s t : Bool) → ltZ a b ≡ s → ltZ b a ≡ t → Ordered (orderBy s t) a b
+    go : (s t : Bool) → ltZ a b ≡ s → ltZ b a ≡ t → HasOrder (orderBy s t) a b
     go true t e f = lt-yes a b e
     go false true e f = lt-yes b a f
     go false false e f = antisymm (lt-no b a f) (lt-no a b e)
 
-pub says-order : (o : Ordering) (a b : ℤ) → Ordered o a b → orderOf a b ≡ o
+pub says-order : (o : Ordering) (a b : ℤ) → HasOrder o a b → orderOf a b ≡ o
 says-order Less a b h = order-less a b (yes-lt h)
 says-order Equal a b e = let h : a ≤ℤ b = subst (λ (x : ℤ). a ≤ℤ x) e (≤ℤ-refl a) in let k : b ≤ℤ a = subst (λ (x : ℤ). x ≤ℤ a) e (≤ℤ-refl a) in order-equal a b (no-lt k) (no-lt h)
 says-order Greater a b h = order-greater a b (no-lt (lt→le h)) (yes-lt h)
 
 pub order-exact : OrderExact
-order-exact o a b = ((λ e. subst (λ (p : Ordering). Ordered p a b) e (order-says a b)), says-order o a b)
+order-exact o a b = ((λ e. subst (λ (p : Ordering). HasOrder p a b) e (order-says a b)), says-order o a b)

@@ -7,10 +7,10 @@ use lib.Signed.{ltZ, _<ℤ_}
 use Rattle.integer.specs.declared.Ordering.{Ordering}
 use Rattle.integer.specs.declared.Ordering.the-variants.{Less, Equal, Greater}
 
-abbrev pub Ordered : Ordering → ℤ → ℤ → Type 0
-Ordered Less a b = a <ℤ b
-Ordered Equal a b = a ≡ b
-Ordered Greater a b = b <ℤ a
+abbrev pub HasOrder : Ordering → ℤ → ℤ → Type 0
+HasOrder Less a b = a <ℤ b
+HasOrder Equal a b = a ≡ b
+HasOrder Greater a b = b <ℤ a
 
 -- of the tests a < b and b < a
 abbrev pub orderBy : Bool → Bool → Ordering
@@ -23,4 +23,4 @@ orderOf a b = orderBy (ltZ a b) (ltZ b a)
 
 -- the test answers a case exactly if that case holds (proofs/Tests.antt: `order-exact`)
 abbrev pub OrderExact : Type 0
-OrderExact = (o : Ordering) (a b : ℤ) → (orderOf a b ≡ o) ↔ Ordered o a b
+OrderExact = (o : Ordering) (a b : ℤ) → (orderOf a b ≡ o) ↔ HasOrder o a b

@@ -13,7 +13,7 @@ use Rattle.geometry.specs.Trapezoids.{trapezoidCodec, layerOf}
 use Rattle.overlay.specs.Overlay.{overlay, tagged}
 use Rattle.boolean.specs.declared.Folded.{Folded}
 use Rattle.boolean.specs.Operations.{common, intersection}
-use Rattle.boolean.specs.Space.{overlaid, enough, space, commonMarks, intersectionMarks}
+use Rattle.boolean.specs.Space.{overlaid, enough, space, commonStages, intersectionStages}
 use Rattle.boolean.proofs.Shifting.{overlaid-shift, common-shift}
 use Rattle.remainder_code.specs.Code.{FoldedAs, OverlaysWithin}
 use Rattle.remainder_code.proofs.Answers.{folded-within, within-least}
@@ -29,32 +29,32 @@ module _ (a : Trapezoid) where
   unfolding common
   common-one b bs = refl
 
-  common-no-marks : (room k : ℕ) → space room (commonMarks k a []) ≡ enough 0
-  unfolding space commonMarks
-  common-no-marks room k = refl
+  common-no-stages : (room k : ℕ) → space room (commonStages k a []) ≡ enough 0
+  unfolding space commonStages
+  common-no-stages room k = refl
 
-  common-one-marks : (k : ℕ) (b : Trapezoid) (bs : List Trapezoid) → commonMarks k a (b ∷ bs) ≡ (overlaid (k + length (tagged 3 (overlay a b))) ∷ []) ++ commonMarks (k + length (tagged 3 (overlay a b))) a bs
-  unfolding commonMarks
-  common-one-marks k b bs = refl
+  common-one-stages : (k : ℕ) (b : Trapezoid) (bs : List Trapezoid) → commonStages k a (b ∷ bs) ≡ (overlaid (k + length (tagged 3 (overlay a b))) ∷ []) ++ commonStages (k + length (tagged 3 (overlay a b))) a bs
+  unfolding commonStages
+  common-one-stages k b bs = refl
 
   -- one for each trapezoid of the layer
-  marks-length : (k : ℕ) (bs : List Trapezoid) → length (commonMarks k a bs) ≡ length bs
-  unfolding commonMarks
-  marks-length k [] = refl
-  marks-length k (b ∷ bs) = let h = marks-length (k + length (tagged 3 (overlay a b))) bs in omega (arith, h)
+  stages-length : (k : ℕ) (bs : List Trapezoid) → length (commonStages k a bs) ≡ length bs
+  unfolding commonStages
+  stages-length k [] = refl
+  stages-length k (b ∷ bs) = let h = stages-length (k + length (tagged 3 (overlay a b))) bs in omega (arith, h)
 
-  pub common-few : (layer : List ℤ) → count trapezoidCodec layer ≤ maxRecords → (n room : ℕ) (f : Folded) (d : List ℤ) → FoldedAs n room (common a (layerOf layer)) (commonMarks 0 a (layerOf layer)) f d → OverlaysWithin maxRecords f
+  pub common-few : (layer : List ℤ) → count trapezoidCodec layer ≤ maxRecords → (n room : ℕ) (f : Folded) (d : List ℤ) → FoldedAs n room (common a (layerOf layer)) (commonStages 0 a (layerOf layer)) f d → OverlaysWithin maxRecords f
   common-few layer l n room f d g =
       let B = layerOf layer in
-      within-least (length (commonMarks 0 a B)) maxRecords f (omega (arith, marks-length 0 B, length-from trapezoidCodec (count trapezoidCodec layer) layer 0, l)) (folded-within n room (common a B) (commonMarks 0 a B) f d g)
+      within-least (length (commonStages 0 a B)) maxRecords f (omega (arith, stages-length 0 B, length-from trapezoidCodec (count trapezoidCodec layer) layer 0, l)) (folded-within n room (common a B) (commonStages 0 a B) f d g)
 
   abbrev pub commonFold : Fold
-  commonFold = appending (common a) (λ k bs. commonMarks k a bs) (λ b. tagged 3 (overlay a b)) (λ k b left. overlaid (k + length (tagged 3 (overlay a b))) ∷ [])
+  commonFold = appending (common a) (λ k bs. commonStages k a bs) (λ b. tagged 3 (overlay a b)) (λ k b left. overlaid (k + length (tagged 3 (overlay a b))) ∷ [])
 
   pub common-steps : Steps commonFold
   common-steps =
-      appending-steps (common a) (λ k bs. commonMarks k a bs) (λ b. tagged 3 (overlay a b)) (λ k b left. overlaid (k + length (tagged 3 (overlay a b))) ∷ [])
-      common-none common-one common-no-marks common-one-marks
+      appending-steps (common a) (λ k bs. commonStages k a bs) (λ b. tagged 3 (overlay a b)) (λ k b left. overlaid (k + length (tagged 3 (overlay a b))) ∷ [])
+      common-none common-one common-no-stages common-one-stages
 
   pub common-part : {room k left : ℕ} {done : List Trapezoid} (b : Trapezoid) → k ≡ length done → k ≤ room
       → Part commonFold room done b left (room - k) (tagged 3 (overlay a b)) (overlaid (length (tagged 3 (overlay a b))) ∷ [])
@@ -72,22 +72,22 @@ module _ (B : List Trapezoid) where
   unfolding intersection
   intersection-one a A = refl
 
-  intersection-no-marks : (room k : ℕ) → space room (intersectionMarks k [] B) ≡ enough 0
-  unfolding space intersectionMarks
-  intersection-no-marks room k = refl
+  intersection-no-stages : (room k : ℕ) → space room (intersectionStages k [] B) ≡ enough 0
+  unfolding space intersectionStages
+  intersection-no-stages room k = refl
 
-  intersection-one-marks : (k : ℕ) (a : Trapezoid) (A : List Trapezoid) → intersectionMarks k (a ∷ A) B ≡ commonMarks k a B ++ intersectionMarks (k + length (common a B)) A B
-  unfolding intersectionMarks
-  intersection-one-marks k a A = refl
+  intersection-one-stages : (k : ℕ) (a : Trapezoid) (A : List Trapezoid) → intersectionStages k (a ∷ A) B ≡ commonStages k a B ++ intersectionStages (k + length (common a B)) A B
+  unfolding intersectionStages
+  intersection-one-stages k a A = refl
 
   abbrev pub intersectionFold : Fold
-  intersectionFold = appending (λ A. intersection A B) (λ k A. intersectionMarks k A B) (λ a. common a B) (λ k a left. commonMarks k a B)
+  intersectionFold = appending (λ A. intersection A B) (λ k A. intersectionStages k A B) (λ a. common a B) (λ k a left. commonStages k a B)
 
   pub intersection-steps : Steps intersectionFold
   intersection-steps =
-      appending-steps (λ A. intersection A B) (λ k A. intersectionMarks k A B) (λ a. common a B) (λ k a left. commonMarks k a B)
-      intersection-none intersection-one intersection-no-marks intersection-one-marks
+      appending-steps (λ A. intersection A B) (λ k A. intersectionStages k A B) (λ a. common a B) (λ k a left. commonStages k a B)
+      intersection-none intersection-one intersection-no-stages intersection-one-stages
 
-  pub intersection-part : {room k left : ℕ} {done : List Trapezoid} (a : Trapezoid) → k ≡ length done → k ≤ room → Part intersectionFold room done a left (room - k) (common a B) (commonMarks 0 a B)
+  pub intersection-part : {room k left : ℕ} {done : List Trapezoid} (a : Trapezoid) → k ≡ length done → k ≤ room → Part intersectionFold room done a left (room - k) (common a B) (commonStages 0 a B)
   intersection-part {room} {k} {left} {done} a n l =
-      record { next = refl; same = ap (λ (x : ℕ). space room (commonMarks x a B)) (sym n) ∙ common-shift room k (room - k) a B (omega (arith, l)); within = omega (arith, n, l) }
+      record { next = refl; same = ap (λ (x : ℕ). space room (commonStages x a B)) (sym n) ∙ common-shift room k (room - k) a B (omega (arith, l)); within = omega (arith, n, l) }

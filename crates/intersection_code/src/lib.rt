@@ -5,7 +5,7 @@ use geometry::Placed;
 ghost use lib.ListN.{length};
 ghost use Rattle.lists.specs.Lists.{All};
 ghost use Rattle.geometry.specs.Limit.{coordinateLimit};
-ghost use Rattle.geometry.specs.Fitness.{FitFor, Layer};
+ghost use Rattle.geometry.specs.Fitness.{FitFor, FitLayer};
 ghost use Rattle.geometry.specs.Trapezoids.{layerOf};
 ghost use Rattle.overlay.specs.Overlay.{overlay as overlayOf, tagged};
 ghost use Rattle.trapezoids_code.specs.Placed.{PlacedAs, Pair};
@@ -39,7 +39,7 @@ pub fn common_into(a: Placed, layer: &[i32], out: &mut [i32], room: usize) -> Fo
         let f = common_parts(a, b, &mut out[records::MEMORY_WIDTH * k..], room - k);
         let Fill::Written(m) = f else {
             records_code::clear(out);
-            return Folded::Short(i + 1);
+            return Folded::NoRoom(i + 1);
         };
         k += m;
         i += 1;
@@ -52,7 +52,7 @@ pub fn common_into(a: Placed, layer: &[i32], out: &mut [i32], room: usize) -> Fo
 
 // The parts common to each trapezoid of the first layer, in order, and each of the second.
 pub fn intersection_into(first: &[i32], second: &[i32], out: &mut [i32], room: usize) -> Folded
-    requires { ⌜ Layer (now first) × Layer (now second) × Borrowed (now out) room ⌝ }
+    requires { ⌜ FitLayer (now first) × FitLayer (now second) × Borrowed (now out) room ⌝ }
     ensures { λ r. ⌜ IntersectionWritten (now (out .entry)) room (layerOf (now (first .entry))) (layerOf (now (second .entry))) r (now (out .exit)) ⌝ }
     ensures { λ r. ⌜ OverlaysWithin overlaysOfLayer r ⌝ }
 {
@@ -65,9 +65,9 @@ pub fn intersection_into(first: &[i32], second: &[i32], out: &mut [i32], room: u
         let a = trapezoids_code::place(t);
         let f = common_into(a, second, &mut out[records::MEMORY_WIDTH * k..], room - k);
         match f {
-            Folded::Short(c) => {
+            Folded::NoRoom(c) => {
                 records_code::clear(out);
-                return Folded::Short(overlays + c);
+                return Folded::NoRoom(overlays + c);
             }
             Folded::Done {
                 trapezoids: m,

@@ -68,9 +68,9 @@ fn equal(a: &[i32], b: &[i32]) {
             io::write_all(STDOUT_FILENO, b"same");
             case_parts::overlays_made(overlays);
         }
-        Equality::Differs { side, overlays } => {
+        Equality::Differs { operand, overlays } => {
             io::write_all(STDOUT_FILENO, b"differs ");
-            io::print_decimal(STDOUT_FILENO, side as u64);
+            io::print_decimal(STDOUT_FILENO, operand as u64);
             case_parts::overlays_made(overlays);
         }
     }
@@ -82,7 +82,7 @@ fn equals(a: &[i32], less: &[i32]) {
     io::write_all(STDOUT_FILENO, b"equal\n");
     // same overlays 262656: 131,328 each way
     equal(a, a);
-    // differs 1 overlays 262143: A less B makes 130,816, B less A 130,816 and 511 for its last square, which remains
+    // differs 1 overlays 262143: A minus B makes 130,816, B minus A 130,816 and 511 for its last square, which remains
     equal(less, a);
 }
 

@@ -11,7 +11,7 @@ use lib.ListN.{length}
 use Rattle.lists.specs.Lists.{All, Any, Neighbours, Member}
 use Rattle.lists.proofs.Lists.{all-with}
 use Rattle.lists.proofs.Members.{members}
-use Rattle.levels.specs.Levels.{AtMost, Level, Ordered, insert, levels, Rising, Covers, FirstOfLevel, LevelsOf, NoneBetween}
+use Rattle.levels.specs.Levels.{AtMost, Level, StrictWeakOrder, insert, levels, Rising, Covers, FirstOfLevel, LevelsOf, NoneBetween}
 use Rattle.levels.proofs.Order.{LessThanAll, less-not-level, greater-not-level, level-refl, level-trans, less-than-all, rising-least}
 
 module _ {A : Type 0} (less : A → A → Bool) where
@@ -70,7 +70,7 @@ module _ {A : Type 0} (less : A → A → Bool) where
   first-unique (x ∷ xs) y z (inr f) (inl d) l = absurd (f .0 (subst (Level less y) d l))
   first-unique (x ∷ xs) y z (inr f) (inr k) l = first-unique xs y z (f .1) (k .1) l
 
-  module _ {Good : A → Type 0} (o : Ordered less Good) where
+  module _ {Good : A → Type 0} (o : StrictWeakOrder less Good) where
     -- ---- they rise
     insert-rising : (x : A) (ys : List A) → Good x → All Good ys → Rising less ys → Rising less (insert less x ys)
     unfolding insert

@@ -8,7 +8,7 @@ use lib.Dec.{T, T-not, not-T}
 use Rattle.lists.specs.Lists.{All}
 use Rattle.lists.proofs.Tests.{cond-cases}
 use Rattle.lists.proofs.Lists.{all-map, all-both, all-with, any-elim}
-use Rattle.levels.specs.Levels.{IfSome, AtMost, Level, Ordered, levels, above, candidate, lesser, next, Rising, FirstOfLevel, LevelsOf, NextOf, NextExact}
+use Rattle.levels.specs.Levels.{IfSome, AtMost, Level, StrictWeakOrder, levels, above, candidate, lesser, next, Rising, FirstOfLevel, LevelsOf, NextOf, NextExact}
 use Rattle.levels.proofs.Order.{less-not-level, at-most-refl, less-at-most}
 use Rattle.levels.proofs.Laws.{first-all, first-unique, levels-all, levels-rising, levels-of}
 
@@ -46,7 +46,7 @@ module _ {A : Type 0} (less : A → A → Bool) where
       least : (y z : A) → NextOf less g xs (some y) → NextOf less g xs (some z) → AtMost less y z
       least y z h k = first-all less (λ (x : A). T (above less g x) → AtMost less y x) xs z (h .2) (k .1) (k .0)
 
-  module _ {Good : A → Type 0} (o : Ordered less Good) where
+  module _ {Good : A → Type 0} (o : StrictWeakOrder less Good) where
     above-at-most : (g : Option A) (x y : A) → IfSome Good g → Good x → Good y → T (above less g x) → AtMost less x y → T (above less g y)
     above-at-most none x y gg gx gy h k = tt
     above-at-most (some g) x y gg gx gy h k = less-at-most less o g x y gg gx gy h k

@@ -6,7 +6,7 @@ use lib.Dec.{T, T-not}
 use Rattle.lists.specs.Lists.{All, Any}
 use Rattle.lists.proofs.Tests.{yes-or-no}
 use Rattle.lists.proofs.Lists.{all-with, any-elim, all-both}
-use Rattle.levels.specs.Levels.{AtMost, Level, Ordered, Rising}
+use Rattle.levels.specs.Levels.{AtMost, Level, StrictWeakOrder, Rising}
 
 module _ {A : Type 0} (less : A → A → Bool) where
   -- x is less than each of ys
@@ -19,7 +19,7 @@ module _ {A : Type 0} (less : A → A → Bool) where
   pub greater-not-level : (x y : A) → T (less y x) → ¬ Level less x y
   greater-not-level x y h l = T-not (less y x) (l .0) h
 
-  module _ {Good : A → Type 0} (o : Ordered less Good) where
+  module _ {Good : A → Type 0} (o : StrictWeakOrder less Good) where
     pub at-most-refl : (x : A) → AtMost less x x
     at-most-refl x = elim (yes-or-no (less x x)) [ inl h ↦ o .asymmetric x x h | inr h ↦ h ]
 

@@ -6,7 +6,7 @@ use mathlib.Core.Option.{Option, none, some}
 use lib.Dec.{T}
 use Rattle.lists.specs.Lists.{All}
 use Rattle.lists.proofs.Tests.{cond-cases, cond-yes, cond-no}
-use Rattle.levels.specs.Levels.{IfSome, AtMost, Ordered, candidate, lesser, next, scan, ScanIsNext}
+use Rattle.levels.specs.Levels.{IfSome, AtMost, StrictWeakOrder, candidate, lesser, next, scan, ScanIsNext}
 use Rattle.levels.proofs.Order.{less-trans}
 use Rattle.levels.proofs.Next.{lesser-all, candidate-all, next-all}
 
@@ -15,7 +15,7 @@ module _ {A : Type 0} (less : A → A → Bool) where
   lesser-none none = refl
   lesser-none (some x) = refl
 
-  module _ {Good : A → Type 0} (o : Ordered less Good) where
+  module _ {Good : A → Type 0} (o : StrictWeakOrder less Good) where
     pub lesser-assoc : (r s t : Option A) → IfSome Good r → IfSome Good s → IfSome Good t → lesser less (lesser less r s) t ≡ lesser less r (lesser less s t)
     lesser-assoc none s t gr gs gt = refl
     lesser-assoc (some x) none t gr gs gt = refl

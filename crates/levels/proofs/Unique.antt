@@ -6,11 +6,11 @@ use mathlib.Core.Logic.{inl, inr}
 use lib.Dec.{T, T-not}
 use Rattle.lists.specs.Lists.{All, Any}
 use Rattle.lists.proofs.Lists.{all-map, all-with}
-use Rattle.levels.specs.Levels.{AtMost, Level, Ordered, levels, Rising, Covers, FirstOfLevel, LevelsOf, LevelsExact}
+use Rattle.levels.specs.Levels.{AtMost, Level, StrictWeakOrder, levels, Rising, Covers, FirstOfLevel, LevelsOf, LevelsExact}
 use Rattle.levels.proofs.Order.{LessThanAll, less-than-all, rising-least}
 use Rattle.levels.proofs.Laws.{first-all, first-unique, levels-of}
 
-module _ {A : Type 0} (less : A → A → Bool) {Good : A → Type 0} (o : Ordered less Good) where
+module _ {A : Type 0} (less : A → A → Bool) {Good : A → Type 0} (o : StrictWeakOrder less Good) where
   -- what is greater than z and level with one of z ∷ zs is level with one of zs
   level-later : (y z : A) (zs : List A) → T (less z y) → Any (Level less y) (z ∷ zs) → Any (Level less y) zs
   level-later y z zs h (inl l) = absurd (T-not (less z y) (l .0) h)

@@ -9,7 +9,7 @@ use lib.Dec.{T}
 use lib.ListN.{length}
 use Rattle.lists.specs.Lists.{All}
 use Rattle.lists.proofs.Tests.{cond-cases, cond-yes, cond-no}
-use Rattle.levels.specs.Levels.{IfSome, Ordered, levels, above, next, walk, Rising, WalkIsLevels}
+use Rattle.levels.specs.Levels.{IfSome, StrictWeakOrder, levels, above, next, walk, Rising, WalkIsLevels}
 use Rattle.levels.proofs.Order.{LessThanAll, at-most-refl}
 use Rattle.levels.proofs.Laws.{levels-length, levels-rising}
 use Rattle.levels.proofs.Next.{head, beyond, next-all, next-head}
@@ -36,7 +36,7 @@ module _ {A : Type 0} (less : A → A → Bool) where
   abbrev Walks : ℕ → Option A → List A → Type 0
   Walks n g xs = length (beyond less g (levels less xs)) ≤ n → walk less n g xs ≡ beyond less g (levels less xs)
 
-  module _ {Good : A → Type 0} (o : Ordered less Good) where
+  module _ {Good : A → Type 0} (o : StrictWeakOrder less Good) where
     pub beyond-step : (g : Option A) (ys : List A) (y : A) → Rising less ys → head (beyond less g ys) ≡ some y → beyond less g ys ≡ y ∷ beyond less (some y) ys
     beyond-step g [] y r e = let z : _≡_ {A = ℕ} 0 1 = cc in absurd (omega arith)
     beyond-step g (x ∷ xs) y r e =

@@ -25,7 +25,7 @@ module _ {A : Type 0} (less : A → A → Bool) where
   Level x y = AtMost x y × AtMost y x
 
   -- the test is a strict weak order on the elements that are Good
-  pub record Ordered (Good : A → Type 0) : Type 0 where
+  pub record StrictWeakOrder (Good : A → Type 0) : Type 0 where
     pub asymmetric : (x y : A) → T (less x y) → AtMost x y
     pub transitive : (x y z : A) → Good x → Good y → Good z → AtMost x y → AtMost y z → AtMost x z
 
@@ -100,20 +100,20 @@ module _ {A : Type 0} (less : A → A → Bool) where
   module _ (Good : A → Type 0) where
     -- a list is `levels xs` exactly if it has the first of each level of xs, in order (proofs/Unique.antt: `levels-exact`)
     abbrev pub LevelsExact : Type 0
-    LevelsExact = Ordered Good → (xs ys : List A) → All Good xs → (levels xs ≡ ys) ↔ LevelsOf xs ys
+    LevelsExact = StrictWeakOrder Good → (xs ys : List A) → All Good xs → (levels xs ≡ ys) ↔ LevelsOf xs ys
 
     -- no element of xs lies strictly between two neighbours in `levels xs` (proofs/Laws.antt: `none-between`)
     abbrev pub NoneBetween : Type 0
-    NoneBetween = Ordered Good → (xs : List A) → All Good xs → All (λ (x : A). Neighbours (λ (y z : A). AtMost x y ⊎ AtMost z x) (levels xs)) xs
+    NoneBetween = StrictWeakOrder Good → (xs : List A) → All Good xs → All (λ (x : A). Neighbours (λ (y z : A). AtMost x y ⊎ AtMost z x) (levels xs)) xs
 
     -- `next` answers r exactly if r is the next one (proofs/Next.antt: `next-exact`)
     abbrev pub NextExact : Type 0
-    NextExact = Ordered Good → (g : Option A) (xs : List A) (r : Option A) → IfSome Good g → All Good xs → (next g xs ≡ r) ↔ NextOf g xs r
+    NextExact = StrictWeakOrder Good → (g : Option A) (xs : List A) (r : Option A) → IfSome Good g → All Good xs → (next g xs ≡ r) ↔ NextOf g xs r
 
     -- the loop finds the next one (proofs/Scan.antt: `scan-is-next`)
     abbrev pub ScanIsNext : Type 0
-    ScanIsNext = Ordered Good → (g : Option A) (xs : List A) → All Good xs → scan none g xs ≡ next g xs
+    ScanIsNext = StrictWeakOrder Good → (g : Option A) (xs : List A) → All Good xs → scan none g xs ≡ next g xs
 
     -- from `none` on, the next ones are the levels (proofs/Walk.antt: `walk-is-levels`)
     abbrev pub WalkIsLevels : Type 0
-    WalkIsLevels = Ordered Good → (xs : List A) → All Good xs → walk (length xs) none xs ≡ levels xs
+    WalkIsLevels = StrictWeakOrder Good → (xs : List A) → All Good xs → walk (length xs) none xs ≡ levels xs

@@ -11,12 +11,13 @@ use Rattle.geometry.specs.declared.Checked.{Checked}
 use Rattle.geometry.specs.declared.Checked.the-variants.{Passed, Refused}
 use Rattle.geometry.specs.Trapezoids.{layerOf}
 use Rattle.boolean.specs.Operations.{deoverlapped}
-use Rattle.boolean.specs.Space.{Mark, addition, space, deoverlappedMarks}
+use Rattle.boolean.specs.Space.{Stage, addition, space, deoverlappedStages}
+use Rattle.files.specs.Outcomes.{Answer}
 use Rattle.calls.specs.declared.Fractured.{Fractured}
 use Rattle.calls.specs.declared.Fractured.the-variants as fractured
 use Rattle.calls.specs.declared.Deoverlapped.{Deoverlapped}
 use Rattle.calls.specs.declared.Deoverlapped.the-variants as after-deoverlap
-use Rattle.calls.specs.Answers.{Answer, fracturedAnswer, deoverlappedAnswer}
+use Rattle.calls.specs.Answers.{fracturedAnswer, deoverlappedAnswer}
 use Rattle.calls.specs.Rows.{plateLimit, fractureChecked, deoverlapChecked}
 use Rattle.calls.specs.Outcomes.{Outcome, observed, written, outcome, fracturedOf, fractureOutcome, deoverlapOutcome}
 use Rattle.listing.specs.Listing.{listing, refusalLine}
@@ -32,7 +33,7 @@ pub put-within : (t d : List ℕ) (r : ℕ) (e : List ℕ) → Put t d r e → r
 put-within t d r e (l, h) = omega (arith, l, ap length h, length-append t (drop r d))
 
 -- ---- a layer deoverlapped
-module _ (ts : List Trapezoid) (ms : List Mark) where
+module _ (ts : List Trapezoid) (ms : List Stage) where
   printed-outcome : (c : Checked) (out scratch : List ℤ) → length out ≡ maxWords
       → printedAs (outcome c out scratch ts ms .answer) (outcome c out scratch ts ms .out) ≡ printedAs (outcome c blank blank ts ms .answer) (outcome c blank blank ts ms .out)
   printed-outcome (Refused number place) out scratch e = refl
@@ -54,7 +55,7 @@ module _ (a out scratch : List ℤ) (m : length out ≡ maxWords) (n : length sc
   unfolding deoverlapOutcome deoverlapListed
   deoverlap-printed =
       let ts = deoverlapped (layerOf a) in
-      let ms = deoverlappedMarks [] (layerOf a) in
+      let ms = deoverlappedStages [] (layerOf a) in
       printed-outcome ts ms (deoverlapChecked plateLimit a (length out) (length scratch)) out scratch m
       ∙ ap (λ (c : Checked). printedAs (outcome c blank blank ts ms .answer) (outcome c blank blank ts ms .out)) checked-blank
 

@@ -24,7 +24,7 @@ use Rattle.geometry.specs.Points.{Point, IsPoint}
 use Rattle.geometry.specs.Trapezoids.{trapezoidCodec, layerOf, LiesInLayer}
 use Rattle.geometry.proofs.Trapezoids.{trapezoid-faithful}
 use Rattle.boolean.specs.Operations.{deoverlapped}
-use Rattle.boolean.specs.Space.{Mark, Space, enough, short, space, addition, deoverlappedMarks}
+use Rattle.boolean.specs.Space.{Stage, Space, enough, no-room, space, addition, deoverlappedStages}
 use Rattle.boolean.proofs.Deoverlapping.{deoverlapped-exact, deoverlapped-disjoint}
 use Rattle.boolean.proofs.Kept.{deoverlapped-fit}
 use Rattle.fracture.specs.Statements.{Wound}
@@ -32,14 +32,14 @@ use Rattle.files.specs.Formats.{fileSized, fileWords, polygonFile}
 use Rattle.files.specs.Directory.{directoryOf}
 use Rattle.files.specs.Contents.{polygonsOf}
 use Rattle.files.specs.Rows.{sizeRow, directoryRows, firstOffGrid, polygonFileChecked}
-use Rattle.calls.specs.Answers.{Answer, refused, done, isDone}
+use Rattle.files.specs.Outcomes.{Answer, refused, done, isDone}
 use Rattle.calls.specs.Rows.{plateLimit, row, buffersSized, fractureChecked, deoverlapChecked}
 use Rattle.calls.specs.Outcomes.{recordsOf, roomOf, written, outcome, fracturedOf, fractureOutcome, deoverlapOutcome}
 use Rattle.calls.proofs.Success.{deoverlap-accepted}
 use Rattle.calls.proofs.Exact.{fracture-file-exact}
 use Rattle.listing.specs.Listing.{listing, layerListing, refusalLine}
 use Rattle.listing.specs.Lister.{blank, printedAs, deoverlapListed, listedAs, listed}
-use Rattle.listing.specs.Listed.{Lists, Told, lists, refuses, ListedExact, ListedByStart}
+use Rattle.listing.specs.Listed.{Lists, Printed, lists, refuses, ListedExact, ListedByStart}
 use Rattle.listing.proofs.Layers.{layer-listed}
 use Rattle.listing.proofs.Blank.{blank-length}
 
@@ -55,16 +55,16 @@ image-listed n ts =
 
 written-listed : (n : ℕ) (ts : List Trapezoid) (s : Space) → T (isDone (written n ts s .answer)) → printedAs (written n ts s .answer) (written n ts s .out) ≡ layerListing ts
 written-listed n ts (enough cuts) h = image-listed n ts
-written-listed n ts (short cuts) h = absurd h
+written-listed n ts (no-room cuts) h = absurd h
 
-outcome-listed : (c : Checked) (ts : List Trapezoid) (ms : List Mark) → T (isDone (outcome c blank blank ts ms .answer))
+outcome-listed : (c : Checked) (ts : List Trapezoid) (ms : List Stage) → T (isDone (outcome c blank blank ts ms .answer))
     → printedAs (outcome c blank blank ts ms .answer) (outcome c blank blank ts ms .out) ≡ layerListing ts
 outcome-listed Passed ts ms h = written-listed (length blank) ts (space (roomOf blank) ms) h
 outcome-listed (Refused number place) ts ms h = absurd h
 
 layer-listing : (a : List ℤ) → T (isDone (deoverlapOutcome plateLimit a blank blank .answer)) → deoverlapListed a ≡ layerListing (deoverlapped (layerOf a))
 unfolding deoverlapListed deoverlapOutcome
-layer-listing a h = outcome-listed (deoverlapChecked plateLimit a (length blank) (length blank)) (deoverlapped (layerOf a)) (deoverlappedMarks [] (layerOf a)) h
+layer-listing a h = outcome-listed (deoverlapChecked plateLimit a (length blank) (length blank)) (deoverlapped (layerOf a)) (deoverlappedStages [] (layerOf a)) h
 
 -- ---- the trapezoids listed
 module _ (file : List ℕ) where
@@ -87,7 +87,7 @@ module _ (file : List ℕ) where
         points = λ P hP. ((λ x. p P hP .0 (s P hP .0 x)), (λ x. s P hP .1 (p P hP .1 x)));
       }
 
-  layer-told : (a : List ℤ) → listed file ≡ deoverlapListed a → Covers a → (x : Answer) → deoverlapOutcome plateLimit a blank blank .answer ≡ x → Told file
+  layer-told : (a : List ℤ) → listed file ≡ deoverlapListed a → Covers a → (x : Answer) → deoverlapOutcome plateLimit a blank blank .answer ≡ x → Printed file
   layer-told a l p (refused number place) e = refuses (record { number = number; place = place; text = layer-refused-text a number place l e })
   layer-told a l p (done pieces cuts) e = lists (deoverlapped (layerOf a)) (layer-lists a l p (subst (λ (x : Answer). T (isDone x)) (sym e) tt))
 
@@ -98,7 +98,7 @@ module _ (file : List ℕ) where
   unfolding listed
   file-text x e = ap (λ (y : Answer). listedAs y (fractureOutcome plateLimit file blank blank .out)) e
 
-  file-told : (x : Answer) → fractureOutcome plateLimit file blank blank .answer ≡ x → Told file
+  file-told : (x : Answer) → fractureOutcome plateLimit file blank blank .answer ≡ x → Printed file
   file-told (refused number place) e = refuses (record { number = number; place = place; text = file-text (refused number place) e })
   file-told (done pieces cuts) e =
       let o = fractureOutcome plateLimit file blank blank .out in

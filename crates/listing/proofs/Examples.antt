@@ -2,7 +2,7 @@
 use mathlib.Core.Path.{_≡_, refl}
 use mathlib.Core.List.{List, [], _∷_}
 use lib.IntN.{ℤ, pos, negsuc}
-use Rattle.listing.specs.Listing.{digits, decimal, decimalWord, line, numbered, linesFrom, listing, refusalLine}
+use Rattle.listing.specs.Listing.{digits, decimal, decimalWord, wordsLine, numbered, linesFrom, listing, refusalLine}
 
 -- `0`, `10` and `-2147483648`
 zero-text : decimalWord (pos 0) ≡ 48 ∷ []
@@ -30,7 +30,7 @@ paper : listing 1 triangle ≡
     ∷ 48 ∷ 32 ∷ 48 ∷ 32 ∷ 49 ∷ 32 ∷ 48 ∷ 32 ∷ 48 ∷ 32 ∷ 48 ∷ 32 ∷ 49 ∷ 32 ∷ 49 ∷ 32
     ∷ 48 ∷ 32 ∷ 48 ∷ 32 ∷ 49 ∷ 32 ∷ 48 ∷ 32 ∷ 50 ∷ 32 ∷ 48 ∷ 32 ∷ 51 ∷ 32 ∷ 49 ∷ 32
     ∷ 48 ∷ 32 ∷ 48 ∷ 32 ∷ 50 ∷ 32 ∷ 48 ∷ 32 ∷ 48 ∷ 32 ∷ 50 ∷ 32 ∷ 50 ∷ 32 ∷ 48 ∷ 10 ∷ []
-unfolding digits decimal decimalWord line numbered linesFrom listing triangle
+unfolding digits decimal decimalWord wordsLine numbered linesFrom listing triangle
 paper = refl
 
 -- `refused 12 place 3`

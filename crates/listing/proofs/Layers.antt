@@ -13,7 +13,7 @@ use Rattle.records.specs.Records.{recordAt, recordsFrom}
 use Rattle.records.proofs.Records.{length-from}
 use Rattle.geometry.specs.Trapezoids.{trapezoidCodec, trapezoidWords}
 use Rattle.geometry.proofs.Trapezoids.{trapezoid-faithful}
-use Rattle.listing.specs.Listing.{line, linesFrom, headLine, listing, trapezoidLines, layerListing}
+use Rattle.listing.specs.Listing.{wordsLine, linesFrom, headLine, listing, trapezoidLines, layerListing}
 use Rattle.listing.specs.Statements.{LayerListed}
 
 record-words : (s : List ℤ) (i : ℕ) → memoryWidth * i + memoryWidth ≤ length s → slice (memoryWidth * i) (memoryWidth * i + memoryWidth) s ≡ trapezoidWords (recordAt trapezoidCodec s i)
@@ -28,8 +28,8 @@ lines-listed : (n : ℕ) (s : List ℤ) (i : ℕ) → memoryWidth * (i + n) ≤ 
 unfolding linesFrom trapezoidLines recordsFrom
 lines-listed zero s i l = refl
 lines-listed (suc n) s i l =
-    ap (λ (t : List ℕ). t ++ linesFrom n s (i + 1)) (ap line (record-words s i (omega arith)))
-    ∙ ap (λ (t : List ℕ). line (trapezoidWords (recordAt trapezoidCodec s i)) ++ t) (lines-listed n s (i + 1) (omega arith))
+    ap (λ (t : List ℕ). t ++ linesFrom n s (i + 1)) (ap wordsLine (record-words s i (omega arith)))
+    ∙ ap (λ (t : List ℕ). wordsLine (trapezoidWords (recordAt trapezoidCodec s i)) ++ t) (lines-listed n s (i + 1) (omega arith))
 
 pub layer-listed : LayerListed
 unfolding listing layerListing

@@ -30,13 +30,13 @@ pub record Refuses (file : List ℕ) : Type 0 where
   pub place : ℕ
   pub text : listed file ≡ refusalLine number place
 
-pub data Told (file : List ℕ) : Type 0 where
-  lists : (ts : List Trapezoid) → Lists file ts → Told file
-  refuses : Refuses file → Told file
+pub data Printed (file : List ℕ) : Type 0 where
+  lists : (ts : List Trapezoid) → Lists file ts → Printed file
+  refuses : Refuses file → Printed file
 
 -- every text is one of the two
 abbrev pub ListedExact : Type 0
-ListedExact = (file : List ℕ) → Told file
+ListedExact = (file : List ℕ) → Printed file
 
 -- 65,533 bytes or more from the start of a file are enough to say what is printed for all of it
 abbrev pub ListedByStart : Type 0

@@ -4,7 +4,7 @@ use Prim.Native.Nat.{ℕ, _*_}
 use lib.IntN.{ℤ}
 use lib.ListN.{take}
 use Rattle.records.specs.Limits.{memoryWidth, maxWords}
-use Rattle.calls.specs.Answers.{Answer, refused, done}
+use Rattle.files.specs.Outcomes.{Answer, refused, done}
 use Rattle.calls.specs.Rows.{plateLimit}
 use Rattle.calls.specs.Outcomes.{zeros, fractureOutcome, deoverlapOutcome}
 use Rattle.listing.specs.Listing.{listing, refusalLine}

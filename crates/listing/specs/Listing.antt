@@ -32,9 +32,9 @@ separator [] = 10
 separator (w ∷ ws) = 32
 
 -- "its 24 words, in decimal with single blanks between"
-unfoldable pub line : List ℤ → List ℕ
-line [] = []
-line (w ∷ ws) = decimalWord w ++ (separator ws ∷ line ws)
+unfoldable pub wordsLine : List ℤ → List ℕ
+wordsLine [] = []
+wordsLine (w ∷ ws) = decimalWord w ++ (separator ws ∷ wordsLine ws)
 
 -- word number j of a line that ends before number `end`, and what follows it
 unfoldable pub field : List ℤ → ℕ → ℕ → List ℕ
@@ -60,7 +60,7 @@ headLine n = numbered piecesText n ++ (10 ∷ [])
 
 -- the line of record number i
 abbrev pub recordLine : List ℤ → ℕ → List ℕ
-recordLine s i = line (slice (memoryWidth * i) (memoryWidth * i + memoryWidth) s)
+recordLine s i = wordsLine (slice (memoryWidth * i) (memoryWidth * i + memoryWidth) s)
 
 -- a line for each of n records of 24 words, from number i on
 unfoldable pub linesFrom : ℕ → List ℤ → ℕ → List ℕ
@@ -78,15 +78,15 @@ refusalLine number place = numbered refusedText number ++ (numbered placeText pl
 -- ---- the same of a list of trapezoids (paper 01: pieces)
 unfoldable pub trapezoidLines : List Trapezoid → List ℕ
 trapezoidLines [] = []
-trapezoidLines (t ∷ ts) = line (trapezoidWords t) ++ trapezoidLines ts
+trapezoidLines (t ∷ ts) = wordsLine (trapezoidWords t) ++ trapezoidLines ts
 
 unfoldable pub layerListing : List Trapezoid → List ℕ
 layerListing ts = headLine (length ts) ++ trapezoidLines ts
 
 -- ---- a text written into a buffer
 -- d with a text from number `at` on
-unfoldable pub written : List ℕ → ℕ → List ℕ → List ℕ
-written d at text = take at d ++ (text ++ drop (at + length text) d)
+unfoldable pub withText : List ℕ → ℕ → List ℕ → List ℕ
+withText d at text = take at d ++ (text ++ drop (at + length text) d)
 
 -- it fits there
 abbrev pub Room : List ℕ → ℕ → List ℕ → Type 0
@@ -94,7 +94,7 @@ Room d at text = at + length text ≤ length d
 
 -- a function that puts a text into d from number `at` on leaves e, and answers where the text ends
 abbrev pub Wrote : List ℕ → ℕ → List ℕ → ℕ → List ℕ → Type 0
-Wrote d at text r e = (r ≡ at + length text) × (e ≡ written d at text)
+Wrote d at text r e = (r ≡ at + length text) × (e ≡ withText d at text)
 
 -- the bytes that are enough for a word and what follows it ("-2147483648" is 11 bytes), for the first line, for a record's line,
 -- for a listing of 512 records, and for a refusal's line

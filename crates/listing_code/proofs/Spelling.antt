@@ -4,7 +4,7 @@ use mathlib.Core.List.{List, [], _∷_, _++_}
 use Prim.Native.Nat.{ℕ, _+_, _/_, _%_, _<_, _≤_}
 use native.Mathlib.Omega.{arith}
 use lib.ListN.{length, set, length-set}
-use Rattle.listing.specs.Listing.{decimal, written}
+use Rattle.listing.specs.Listing.{decimal, withText}
 use Rattle.listing.proofs.Decimal.{decimal-small, decimal-large, length-small, length-large, length-some, length-most}
 use Rattle.listing_code.proofs.Writing.{written-byte, written-last}
 
@@ -27,7 +27,7 @@ count-stop {n} {count} {rest} h l = omega (arith, h .total, length-small rest l)
 
 -- ---- the digits of `rest` are still to be put, the last at number i
 pub record Spelled (n : ℕ) (d₀ : List ℕ) (at : ℕ) (d : List ℕ) (i rest : ℕ) : Type 0 where
-  pub same : written d at (decimal rest) ≡ written d₀ at (decimal n)
+  pub same : withText d at (decimal rest) ≡ withText d₀ at (decimal n)
   pub long : length d ≡ length d₀
   pub place : i + 1 ≡ at + length (decimal rest)
   pub room : i < length d
@@ -42,7 +42,7 @@ pub spell-turn : {n at i j rest b : ℕ} {d₀ d : List ℕ} → Spelled n d₀ 
 spell-turn {n} {at} {i} {j} {rest} {b} {d₀} {d} h l e k =
     let m : i ≡ at + length (decimal (rest / 10)) = omega (arith, h .place, length-large rest l) in
     let r : at + length (decimal (rest / 10)) < length d = omega (arith, h .room) in
-    let w : written d at (decimal (rest / 10) ++ (b ∷ [])) ≡ written d at (decimal rest) = rw (e) (ap (written d at) (sym (decimal-large rest l))) in
+    let w : withText d at (decimal (rest / 10) ++ (b ∷ [])) ≡ withText d at (decimal rest) = rw (e) (ap (withText d at) (sym (decimal-large rest l))) in
     record {
       same = rw (m) (written-last d at (decimal (rest / 10)) b r ∙ w ∙ h .same);
       long = length-set d i b ∙ h .long;
@@ -50,9 +50,9 @@ spell-turn {n} {at} {i} {j} {rest} {b} {d₀} {d} h l e k =
       room = rw (length-set d i b) (omega (arith, h .room));
     }
 
-pub spell-stop : {n at i rest b : ℕ} {d₀ d : List ℕ} → Spelled n d₀ at d i rest → rest < 10 → b ≡ 48 + rest → set d i b ≡ written d₀ at (decimal n)
+pub spell-stop : {n at i rest b : ℕ} {d₀ d : List ℕ} → Spelled n d₀ at d i rest → rest < 10 → b ≡ 48 + rest → set d i b ≡ withText d₀ at (decimal n)
 spell-stop {n} {at} {i} {rest} {b} {d₀} {d} h l e =
     let m : i ≡ at = omega (arith, h .place, length-small rest l) in
     let r : at < length d = omega (arith, h .room) in
-    let w : written d at (b ∷ []) ≡ written d at (decimal rest) = rw (e) (ap (written d at) (sym (decimal-small rest l))) in
+    let w : withText d at (b ∷ []) ≡ withText d at (decimal rest) = rw (e) (ap (withText d at) (sym (decimal-small rest l))) in
     rw (m) (written-byte d at b r ∙ w ∙ h .same)

@@ -8,11 +8,11 @@ use native.Mathlib.Omega.{arith}
 use lib.ListN.{length, getD, drop, length-append}
 use lib.IntN.{ℤ, pos}
 use lib.Seq.{drop-cons, slice, slice-cons, slice-empty, length-slice}
-use Rattle.listing.specs.Listing.{written, Room, Wrote, decimalWord, separator, field, line, recordLine, linesFrom, decimal, numbered, headLine, listing}
+use Rattle.listing.specs.Listing.{withText, Room, Wrote, decimalWord, separator, field, wordsLine, recordLine, linesFrom, decimal, numbered, headLine, listing}
 use Rattle.listing_code.proofs.Writing.{written-nothing, written-append, written-length}
 
 pub record Going (d₀ : List ℕ) (at : ℕ) (whole d : List ℕ) (p : ℕ) (rest : List ℕ) : Type 0 where
-  pub same : written d p rest ≡ written d₀ at whole
+  pub same : withText d p rest ≡ withText d₀ at whole
   pub total : p + length rest ≡ at + length whole
   pub long : length d ≡ length d₀
 
@@ -23,7 +23,7 @@ set-out d at whole = record { same = refl; total = refl; long = refl }
 pub onward : {d₀ d whole rest e : List ℕ} {at p q : ℕ} (s t : List ℕ) → Going d₀ at whole d p rest → rest ≡ s ++ t → Room d p s → Wrote d p s q e → Going d₀ at whole e q t
 onward {d₀} {d} {whole} {rest} {e} {at} {p} {q} s t h r l w =
     let n : length e ≡ length d = ap length (w .1) ∙ written-length d p s l in
-    let a : written (written d p s) (p + length s) t ≡ written d p rest = written-append d p s t (omega arith) ∙ ap (written d p) (sym r) in
+    let a : withText (withText d p s) (p + length s) t ≡ withText d p rest = written-append d p s t (omega arith) ∙ ap (withText d p) (sym r) in
     record {
       same = rw (w .0, w .1) (a ∙ h .same);
       total = omega (arith, h .total, w .0, ap length r, length-append s t);
@@ -33,7 +33,7 @@ onward {d₀} {d} {whole} {rest} {e} {at} {p} {q} s t h r l w =
 -- all is put
 pub arrived : {d₀ d whole rest : List ℕ} {at p : ℕ} → Going d₀ at whole d p rest → rest ≡ [] → Wrote d₀ at whole p d
 arrived {d₀} {d} {whole} {rest} {at} {p} h e =
-    (omega (arith, h .total, ap length e), sym (written-nothing d p) ∙ ap (written d p) (sym e) ∙ h .same)
+    (omega (arith, h .total, ap length e), sym (written-nothing d p) ∙ ap (withText d p) (sym e) ∙ h .same)
 
 -- the last piece
 pub at-last : {d₀ d whole rest e : List ℕ} {at p q : ℕ} → Going d₀ at whole d p rest → Wrote d p rest q e → Wrote d₀ at whole q e
@@ -75,17 +75,17 @@ pub field-is : (s : List ℤ) (j end : ℕ) (a : ℤ) (b : ℕ) → a ≡ getD s
 unfolding field
 field-is s j end a b e f = ap (λ (x : ℤ). decimalWord x ++ (separator (slice (j + 1) end s) ∷ [])) (sym e) ∙ ap (λ (x : ℕ). decimalWord a ++ (x ∷ [])) f
 
-line-cons : (w : ℤ) (ws : List ℤ) → line (w ∷ ws) ≡ decimalWord w ++ (separator ws ∷ []) ++ line ws
-unfolding line
-line-cons w ws = sym (append-assoc (decimalWord w) (separator ws ∷ []) (line ws))
+line-cons : (w : ℤ) (ws : List ℤ) → wordsLine (w ∷ ws) ≡ decimalWord w ++ (separator ws ∷ []) ++ wordsLine ws
+unfolding wordsLine
+line-cons w ws = sym (append-assoc (decimalWord w) (separator ws ∷ []) (wordsLine ws))
 
-pub next-field : (s : List ℤ) (j end : ℕ) → j < end → end ≤ length s → line (slice j end s) ≡ field s j end ++ line (slice (j + 1) end s)
+pub next-field : (s : List ℤ) (j end : ℕ) → j < end → end ≤ length s → wordsLine (slice j end s) ≡ field s j end ++ wordsLine (slice (j + 1) end s)
 unfolding field
-next-field s j end h l = ap line (rw (add-one) (slice-cons j end s (pos 0) h l)) ∙ line-cons (getD s j (pos 0)) (slice (j + 1) end s)
+next-field s j end h l = ap wordsLine (rw (add-one) (slice-cons j end s (pos 0) h l)) ∙ line-cons (getD s j (pos 0)) (slice (j + 1) end s)
 
-pub line-end : (s : List ℤ) (end : ℕ) → line (slice end end s) ≡ []
-unfolding line
-line-end s end = ap line (slice-empty end s)
+pub line-end : (s : List ℤ) (end : ℕ) → wordsLine (slice end end s) ≡ []
+unfolding wordsLine
+line-end s end = ap wordsLine (slice-empty end s)
 
 separator-of : (ws : List ℤ) (n : ℕ) → length ws ≡ n → 0 < n → separator ws ≡ 32
 separator-of [] n e l = absurd (omega arith)
@@ -120,7 +120,7 @@ listing-is n s = refl
 
 -- from the first byte on
 pub from-first : (d text : List ℕ) {e : List ℕ} {r : ℕ} → Wrote d 0 text r e → (r ≡ length text) × (e ≡ text ++ drop r d)
-unfolding written
+unfolding withText
 from-first d text {e} {r} w =
     let n : r ≡ length text = omega (arith, w .0) in
     let k : 0 + length text ≡ r = omega arith in

@@ -7,28 +7,28 @@ use native.Mathlib.Numerals.{add-one}
 use native.Mathlib.Omega.{arith}
 use lib.ListN.{length, set, take, drop, length-append, length-drop, take-append-drop}
 use lib.Seq.{length-take-le, take-at, drop-at, set-split, take-set-le, drop-drop}
-use Rattle.listing.specs.Listing.{written}
+use Rattle.listing.specs.Listing.{withText}
 
 -- nothing written
-pub written-nothing : (d : List ℕ) (at : ℕ) → written d at [] ≡ d
-unfolding written
+pub written-nothing : (d : List ℕ) (at : ℕ) → withText d at [] ≡ d
+unfolding withText
 written-nothing d at = rw (add-zero) (take-append-drop at d)
 
 -- one byte
-pub written-byte : (d : List ℕ) (at b : ℕ) → at < length d → set d at b ≡ written d at (b ∷ [])
-unfolding written
+pub written-byte : (d : List ℕ) (at b : ℕ) → at < length d → set d at b ≡ withText d at (b ∷ [])
+unfolding withText
 written-byte d at b l = rw (add-one) (set-split d at b l)
 
-pub written-length : (d : List ℕ) (at : ℕ) (t : List ℕ) → at + length t ≤ length d → length (written d at t) ≡ length d
-unfolding written
+pub written-length : (d : List ℕ) (at : ℕ) (t : List ℕ) → at + length t ≤ length d → length (withText d at t) ≡ length d
+unfolding withText
 written-length d at t l =
     let e : length (take at d) ≡ at = length-take-le at d (omega arith) in
     let f : length (drop (at + length t) d) ≡ length d - (at + length t) = length-drop (at + length t) d in
     rw (length-append, length-append, e, f) (omega arith)
 
 -- one text, then another past it
-pub written-append : (d : List ℕ) (at : ℕ) (s t : List ℕ) → at ≤ length d → written (written d at s) (at + length s) t ≡ written d at (s ++ t)
-unfolding written
+pub written-append : (d : List ℕ) (at : ℕ) (s t : List ℕ) → at ≤ length d → withText (withText d at s) (at + length s) t ≡ withText d at (s ++ t)
+unfolding withText
 written-append d at s t l =
     let p : List ℕ = take at d in
     let q : List ℕ = drop (at + length s) d in
@@ -41,8 +41,8 @@ written-append d at s t l =
     rw (a, b) (append-assoc p s (t ++ drop (at + length (s ++ t)) d) ∙ ap (λ (x : List ℕ). p ++ x) (sym (append-assoc s t (drop (at + length (s ++ t)) d))))
 
 -- the last byte first
-pub written-last : (d : List ℕ) (at : ℕ) (s : List ℕ) (b : ℕ) → at + length s < length d → written (set d (at + length s) b) at s ≡ written d at (s ++ (b ∷ []))
-unfolding written
+pub written-last : (d : List ℕ) (at : ℕ) (s : List ℕ) (b : ℕ) → at + length s < length d → withText (set d (at + length s) b) at s ≡ withText d at (s ++ (b ∷ []))
+unfolding withText
 written-last d at s b l =
     let i : ℕ = at + length s in
     let a : take at (set d i b) ≡ take at d = take-set-le at d i b (omega arith) in

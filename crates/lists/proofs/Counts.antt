@@ -8,7 +8,7 @@ use native.Mathlib.Nat.{zero-add, add-assoc}
 use native.Mathlib.Omega.{arith}
 use lib.Dec.{T}
 use Rattle.lists.specs.Lists.{All}
-use Rattle.lists.specs.Tests.{bit, keep, count, total}
+use Rattle.lists.specs.Tests.{bit, keep, countIf, total}
 use Rattle.lists.proofs.Tests.{true-is, false-is, yes-or-no}
 use Rattle.lists.proofs.Lists.{all-map}
 
@@ -18,19 +18,19 @@ bit-most true = omega arith
 bit-most false = omega arith
 
 module _ {A : Type 0} (f : A → Bool) where
-  pub count-append : (xs ys : List A) → count f (xs ++ ys) ≡ count f xs + count f ys
-  unfolding count
-  count-append [] ys = sym (zero-add (count f ys))
-  count-append (x ∷ xs) ys = ap (λ (n : ℕ). bit (f x) + n) (count-append xs ys) ∙ sym (add-assoc (bit (f x)) (count f xs) (count f ys))
+  pub count-append : (xs ys : List A) → countIf f (xs ++ ys) ≡ countIf f xs + countIf f ys
+  unfolding countIf
+  count-append [] ys = sym (zero-add (countIf f ys))
+  count-append (x ∷ xs) ys = ap (λ (n : ℕ). bit (f x) + n) (count-append xs ys) ∙ sym (add-assoc (bit (f x)) (countIf f xs) (countIf f ys))
 
-  pub count-none : (xs : List A) → All (λ (x : A). f x ≡ false) xs → count f xs ≡ 0
-  unfolding count
+  pub count-none : (xs : List A) → All (λ (x : A). f x ≡ false) xs → countIf f xs ≡ 0
+  unfolding countIf
   count-none [] h = refl
   count-none (x ∷ xs) h = ap₂ (λ (t : Bool) (n : ℕ). bit t + n) (h .0) (count-none xs (h .1))
 
   -- each that passes is counted
-  pub count-some : (xs : List A) → All (λ (x : A). T (f x) → 0 < count f xs) xs
-  unfolding count
+  pub count-some : (xs : List A) → All (λ (x : A). T (f x) → 0 < countIf f xs) xs
+  unfolding countIf
   count-some [] = tt
   count-some (x ∷ xs) = ((λ t. let e : f x ≡ true = true-is t in let b = ap bit e in omega arith), all-map (λ y h t. let k = h t in omega arith) xs (count-some xs))
 

@@ -26,9 +26,9 @@ module _ {A : Type 0} where
   keep f [] = []
   keep f (x ∷ xs) = cond (f x) (x ∷ keep f xs) (keep f xs)
 
-  unfoldable pub count : (A → Bool) → List A → ℕ
-  count f [] = 0
-  count f (x ∷ xs) = bit (f x) + count f xs
+  unfoldable pub countIf : (A → Bool) → List A → ℕ
+  countIf f [] = 0
+  countIf f (x ∷ xs) = bit (f x) + countIf f xs
 
 -- over a list: f x₀ + f x₁ + ..
 abbrev pub total : {A : Type 0} → (A → ℕ) → List A → ℕ

@@ -10,16 +10,16 @@ use Rattle.records.specs.Limits.{maxRecords}
 use Rattle.geometry.specs.declared.Checked.the-variants.{Passed, Refused}
 use Rattle.geometry.specs.declared.Fill.{Fill}
 use Rattle.geometry.specs.declared.Fill.the-variants.{NoRoom, Written}
-use Rattle.boolean.specs.Space.{addition, enough, short, space}
-use Rattle.calls.specs.Answers.{refused, done, Small}
+use Rattle.boolean.specs.Space.{addition, enough, no-room, space}
+use Rattle.files.specs.Outcomes.{refused, done, SmallAnswer}
 use Rattle.calls.specs.Rows.{fractureChecked}
 use Rattle.calls.specs.Outcomes.{observed, zeros, roomOf, written, fracturedOf, fractureOutcome}
 use Rattle.trapezoids_code.specs.Tails.{FilledAs}
 
 -- ---- its outcome
-space-short : (room k : ℕ) → room < k → space room (addition k ∷ []) ≡ short 0
+space-no-room : (room k : ℕ) → room < k → space room (addition k ∷ []) ≡ no-room 0
 unfolding space
-space-short room k l = rw (lt-ltb room k l)
+space-no-room room k l = rw (lt-ltb room k l)
 
 space-enough : (room k : ℕ) → k ≤ room → space room (addition k ∷ []) ≡ enough 0
 unfolding space
@@ -39,11 +39,11 @@ module _ (L : ℕ) (file : List ℕ) (out scratch : List ℤ) where
     filled : {g : Fill} → f ≡ g → FilledAs (length out) (roomOf out) (fracturedOf L file) g d
     filled {g} p = subst (λ (f : Fill). FilledAs (length out) (roomOf out) (fracturedOf L file) f d) p (subst (λ (m : ℕ). FilledAs m (roomOf out) (fracturedOf L file) f d) l h)
 
-    pub fracture-short : f ≡ NoRoom → observed (refused 12 0) d s ≡ fractureOutcome L file out scratch
-    fracture-short p =
+    pub fracture-no-room : f ≡ NoRoom → observed (refused 12 0) d s ≡ fractureOutcome L file out scratch
+    fracture-no-room p =
         let k = filled p in
         let w : observed (refused 12 0) d s ≡ written (length out) (fracturedOf L file) (space (roomOf out) (addition (length (fracturedOf L file)) ∷ []))
-        = rw (space-short (roomOf out) (length (fracturedOf L file)) (k .0), k .1, z) in
+        = rw (space-no-room (roomOf out) (length (fracturedOf L file)) (k .0), k .1, z) in
         w ∙ fracture-written e
 
     pub fracture-done : {t : ℕ} → f ≡ Written t → observed (done t 0) d s ≡ fractureOutcome L file out scratch
@@ -53,5 +53,5 @@ module _ (L : ℕ) (file : List ℕ) (out scratch : List ℤ) where
         = rw (space-enough (roomOf out) (length (fracturedOf L file)) (k .1), k .0, k .2, z) in
         w ∙ fracture-written e
 
-    pub fracture-small : roomOf out ≤ maxRecords → {t : ℕ} → f ≡ Written t → Small (done t 0)
+    pub fracture-small : roomOf out ≤ maxRecords → {t : ℕ} → f ≡ Written t → SmallAnswer (done t 0)
     fracture-small b p = let k = filled p in (omega (arith, k .0, k .1, b), omega arith)

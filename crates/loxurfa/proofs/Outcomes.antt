@@ -17,12 +17,13 @@ use Rattle.geometry.specs.Trapezoids.{layerOf, liesInLayer}
 use Rattle.geometry.specs.Fitness.{SmallRefusal}
 use Rattle.geometry.proofs.Refusals.{SmallChecked}
 use Rattle.boolean.specs.declared.Folded.{Folded}
-use Rattle.boolean.specs.declared.Folded.the-variants.{Short, Done}
-use Rattle.boolean.specs.Operations.{codeAt, result, difference, deoverlapped, Side}
-use Rattle.boolean.specs.Space.{Mark, space, marks, deoverlappedMarks, equalityMarks}
+use Rattle.boolean.specs.declared.Folded.the-variants.{NoRoom, Done}
+use Rattle.boolean.specs.Operations.{codeAt, result, difference, deoverlapped, OperandOf}
+use Rattle.boolean.specs.Space.{Stage, space, stages, deoverlappedStages, equalityStages}
 use Rattle.boolean.specs.declared.Compared.{Compared}
 use Rattle.boolean.specs.declared.Compared.the-variants as comparison
-use Rattle.calls.specs.Answers.{refused, done, refused-equality, same, differs, refused-point, yes, no, Small, SmallEquality}
+use Rattle.files.specs.Outcomes.{refused, done, SmallAnswer}
+use Rattle.calls.specs.Answers.{refused-equality, same, differs, refused-point, yes, no, SmallEqualityAnswer}
 use Rattle.calls.specs.Rows.{combineChecked, deoverlapChecked, equalChecked, containsChecked}
 use Rattle.calls.specs.Outcomes.{observed, zeros, roomOf, written, combined, deoverlapOutcome, compared, comparedIn, equalOutcome, containsAnswer}
 use Rattle.trapezoids_code.specs.Tails.{Borrowed}
@@ -31,6 +32,10 @@ use Rattle.boolean_code.specs.Code.{ComparedAs, ComparedWithin}
 
 pub small-refused : {c : Checked} {n p : ℕ} → c ≡ Refused n p → SmallChecked c → SmallRefusal n p
 small-refused e h = subst SmallChecked e h
+
+-- of 12
+pub no-room-small : SmallRefusal 12 0
+no-room-small = (omega arith, omega arith)
 
 -- ---- a cleared output and scratch area
 pub cleared-length : (d : List ℤ) (n : ℕ) → d ≡ zeros n → length d ≡ n
@@ -58,17 +63,17 @@ module _ (L : ℕ) (P : Point) (a b : List ℤ) (code : ℕ) where
     contains-no l = rw (e, l)
 
 -- ---- operations that write trapezoids
-module _ (room : ℕ) (ts : List Trapezoid) (ms : List Mark) (f : Folded) (n m : ℕ) (d s : List ℤ) (h : FoldedAs m room ts ms f d) (e : m ≡ n) (z : s ≡ zeros n) where
+module _ (room : ℕ) (ts : List Trapezoid) (ms : List Stage) (f : Folded) (n m : ℕ) (d s : List ℤ) (h : FoldedAs m room ts ms f d) (e : m ≡ n) (z : s ≡ zeros n) where
   folded : FoldedAs n room ts ms f d
   folded = subst (λ (m : ℕ). FoldedAs m room ts ms f d) e h
 
-  written-short : {c : ℕ} → f ≡ Short c → observed (refused 12 0) d s ≡ written n ts (space room ms)
-  written-short g = let k = subst (λ (f : Folded). FoldedAs n room ts ms f d) g folded in rw (k .0, k .1, z)
+  written-no-room : {c : ℕ} → f ≡ NoRoom c → observed (refused 12 0) d s ≡ written n ts (space room ms)
+  written-no-room g = let k = subst (λ (f : Folded). FoldedAs n room ts ms f d) g folded in rw (k .0, k .1, z)
 
   written-done : {t c : ℕ} → f ≡ Done t c → observed (done t c) d s ≡ written n ts (space room ms)
   written-done g = let k = subst (λ (f : Folded). FoldedAs n room ts ms f d) g folded in rw (k .0, k .1 .0, k .1 .2, z)
 
-  pub small-done : room ≤ maxRecords → OverlaysWithin maxOverlays f → {t c : ℕ} → f ≡ Done t c → Small (done t c)
+  pub small-done : room ≤ maxRecords → OverlaysWithin maxOverlays f → {t c : ℕ} → f ≡ Done t c → SmallAnswer (done t c)
   small-done l o {t} {c} g =
       let k = subst (λ (f : Folded). FoldedAs n room ts ms f d) g folded in
       let w : c ≤ maxOverlays = subst (OverlaysWithin maxOverlays) g o in
@@ -80,21 +85,21 @@ module _ (L code : ℕ) (a b out scratch : List ℤ) where
   combine-refuses e = rw e
 
   combine-written : combineChecked L code a b (length out) (length scratch) ≡ Passed
-      → written (length out) (result (codeAt code) (layerOf a) (layerOf b)) (space (roomOf out) (marks (codeAt code) (layerOf a) (layerOf b))) ≡ combined L code a b out scratch
+      → written (length out) (result (codeAt code) (layerOf a) (layerOf b)) (space (roomOf out) (stages (codeAt code) (layerOf a) (layerOf b))) ≡ combined L code a b out scratch
   unfolding combined
   combine-written e = rw e
 
   module _ (e : combineChecked L code a b (length out) (length scratch) ≡ Passed) (f : Folded) (m : ℕ) (d s : List ℤ)
-      (h : FoldedAs m (roomOf out) (result (codeAt code) (layerOf a) (layerOf b)) (marks (codeAt code) (layerOf a) (layerOf b)) f d)
+      (h : FoldedAs m (roomOf out) (result (codeAt code) (layerOf a) (layerOf b)) (stages (codeAt code) (layerOf a) (layerOf b)) f d)
       (l : m ≡ length out) (z : s ≡ zeros (length out)) where
-    pub combine-short : {c : ℕ} → f ≡ Short c → observed (refused 12 0) d s ≡ combined L code a b out scratch
-    combine-short g =
-        written-short (roomOf out) (result (codeAt code) (layerOf a) (layerOf b)) (marks (codeAt code) (layerOf a) (layerOf b)) f (length out) m d s h l z g
+    pub combine-no-room : {c : ℕ} → f ≡ NoRoom c → observed (refused 12 0) d s ≡ combined L code a b out scratch
+    combine-no-room g =
+        written-no-room (roomOf out) (result (codeAt code) (layerOf a) (layerOf b)) (stages (codeAt code) (layerOf a) (layerOf b)) f (length out) m d s h l z g
         ∙ combine-written e
 
     pub combine-done : {t c : ℕ} → f ≡ Done t c → observed (done t c) d s ≡ combined L code a b out scratch
     combine-done g =
-        written-done (roomOf out) (result (codeAt code) (layerOf a) (layerOf b)) (marks (codeAt code) (layerOf a) (layerOf b)) f (length out) m d s h l z g
+        written-done (roomOf out) (result (codeAt code) (layerOf a) (layerOf b)) (stages (codeAt code) (layerOf a) (layerOf b)) f (length out) m d s h l z g
         ∙ combine-written e
 
 module _ (L : ℕ) (a out scratch : List ℤ) where
@@ -103,47 +108,47 @@ module _ (L : ℕ) (a out scratch : List ℤ) where
   deoverlap-refuses e = rw e
 
   deoverlap-written : deoverlapChecked L a (length out) (length scratch) ≡ Passed
-      → written (length out) (deoverlapped (layerOf a)) (space (roomOf out) (deoverlappedMarks [] (layerOf a))) ≡ deoverlapOutcome L a out scratch
+      → written (length out) (deoverlapped (layerOf a)) (space (roomOf out) (deoverlappedStages [] (layerOf a))) ≡ deoverlapOutcome L a out scratch
   unfolding deoverlapOutcome
   deoverlap-written e = rw e
 
   module _ (e : deoverlapChecked L a (length out) (length scratch) ≡ Passed) (f : Folded) (m : ℕ) (d s : List ℤ)
-      (h : FoldedAs m (roomOf out) (deoverlapped (layerOf a)) (deoverlappedMarks [] (layerOf a)) f d) (l : m ≡ length out) (z : s ≡ zeros (length out)) where
-    pub deoverlap-short : {c : ℕ} → f ≡ Short c → observed (refused 12 0) d s ≡ deoverlapOutcome L a out scratch
-    deoverlap-short g =
-        written-short (roomOf out) (deoverlapped (layerOf a)) (deoverlappedMarks [] (layerOf a)) f (length out) m d s h l z g ∙ deoverlap-written e
+      (h : FoldedAs m (roomOf out) (deoverlapped (layerOf a)) (deoverlappedStages [] (layerOf a)) f d) (l : m ≡ length out) (z : s ≡ zeros (length out)) where
+    pub deoverlap-no-room : {c : ℕ} → f ≡ NoRoom c → observed (refused 12 0) d s ≡ deoverlapOutcome L a out scratch
+    deoverlap-no-room g =
+        written-no-room (roomOf out) (deoverlapped (layerOf a)) (deoverlappedStages [] (layerOf a)) f (length out) m d s h l z g ∙ deoverlap-written e
 
     pub deoverlap-done : {t c : ℕ} → f ≡ Done t c → observed (done t c) d s ≡ deoverlapOutcome L a out scratch
     deoverlap-done g =
-        written-done (roomOf out) (deoverlapped (layerOf a)) (deoverlappedMarks [] (layerOf a)) f (length out) m d s h l z g ∙ deoverlap-written e
+        written-done (roomOf out) (deoverlapped (layerOf a)) (deoverlappedStages [] (layerOf a)) f (length out) m d s h l z g ∙ deoverlap-written e
 
 -- ---- sameness
-differs-on : (ts us : List Trapezoid) (side c : ℕ) → Side ts us side → differs side c ≡ compared ts us c
-differs-on [] [] side c h = absurd (omega (arith, h .0))
-differs-on [] (u ∷ us) side c h = ap (λ (i : ℕ). differs i c) (h .1)
-differs-on (t ∷ ts) us side c h = ap (λ (i : ℕ). differs i c) h
+differs-on : (ts us : List Trapezoid) (operand c : ℕ) → OperandOf ts us operand → differs operand c ≡ compared ts us c
+differs-on [] [] operand c h = absurd (omega (arith, h .0))
+differs-on [] (u ∷ us) operand c h = ap (λ (i : ℕ). differs i c) (h .1)
+differs-on (t ∷ ts) us operand c h = ap (λ (i : ℕ). differs i c) h
 
-small-side : (ts us : List Trapezoid) (side : ℕ) → Side ts us side → side ≤ 1
-small-side [] us side h = omega (arith, h .1)
-small-side (t ∷ ts) us side h = omega (arith, h)
+small-operand : (ts us : List Trapezoid) (operand : ℕ) → OperandOf ts us operand → operand ≤ 1
+small-operand [] us operand h = omega (arith, h .1)
+small-operand (t ∷ ts) us operand h = omega (arith, h)
 
 module _ (room : ℕ) (A B : List Trapezoid) (f : Compared) (h : ComparedAs room A B f) where
-  is-short : {c : ℕ} → f ≡ comparison.TooShort c → refused-equality 12 0 ≡ comparedIn (difference A B) (difference B A) (space room (equalityMarks A B))
-  is-short g = let k = subst (ComparedAs room A B) g h in rw k
+  is-no-room : {c : ℕ} → f ≡ comparison.NoRoom c → refused-equality 12 0 ≡ comparedIn (difference A B) (difference B A) (space room (equalityStages A B))
+  is-no-room g = let k = subst (ComparedAs room A B) g h in rw k
 
-  is-same : {c : ℕ} → f ≡ comparison.Same c → same c ≡ comparedIn (difference A B) (difference B A) (space room (equalityMarks A B))
+  is-same : {c : ℕ} → f ≡ comparison.Same c → same c ≡ comparedIn (difference A B) (difference B A) (space room (equalityStages A B))
   is-same g = let k = subst (ComparedAs room A B) g h in rw (k .0, k .1, k .2)
 
-  is-different : {i c : ℕ} → f ≡ comparison.Differs i c → differs i c ≡ comparedIn (difference A B) (difference B A) (space room (equalityMarks A B))
+  is-different : {i c : ℕ} → f ≡ comparison.Differs i c → differs i c ≡ comparedIn (difference A B) (difference B A) (space room (equalityStages A B))
   is-different {i} {c} g = let k = subst (ComparedAs room A B) g h in rw (k .0) (differs-on (difference A B) (difference B A) i c (k .1))
 
-  pub small-different : ComparedWithin maxOverlays f → {i c : ℕ} → f ≡ comparison.Differs i c → SmallEquality (differs i c)
+  pub small-different : ComparedWithin maxOverlays f → {i c : ℕ} → f ≡ comparison.Differs i c → SmallEqualityAnswer (differs i c)
   small-different o {i} {c} g =
       let k = subst (ComparedAs room A B) g h in
       let w : c ≤ maxOverlays = subst (ComparedWithin maxOverlays) g o in
-      (small-side (difference A B) (difference B A) i (k .1), omega (arith, w))
+      (small-operand (difference A B) (difference B A) i (k .1), omega (arith, w))
 
-pub small-same : {f : Compared} {c : ℕ} → ComparedWithin maxOverlays f → f ≡ comparison.Same c → SmallEquality (same c)
+pub small-same : {f : Compared} {c : ℕ} → ComparedWithin maxOverlays f → f ≡ comparison.Same c → SmallEqualityAnswer (same c)
 small-same {f} {c} o g = let w : c ≤ maxOverlays = subst (ComparedWithin maxOverlays) g o in omega (arith, w)
 
 module _ (L : ℕ) (a b out scratch : List ℤ) where
@@ -152,14 +157,14 @@ module _ (L : ℕ) (a b out scratch : List ℤ) where
   equal-refuses e = rw e
 
   equal-compared : (d s : List ℤ) → d ≡ zeros (length out) → s ≡ zeros (length scratch) → equalChecked L a b (length out) (length scratch) ≡ Passed
-      → observed (comparedIn (difference (layerOf a) (layerOf b)) (difference (layerOf b) (layerOf a)) (space (roomOf out) (equalityMarks (layerOf a) (layerOf b)))) d s ≡ equalOutcome L a b out scratch
+      → observed (comparedIn (difference (layerOf a) (layerOf b)) (difference (layerOf b) (layerOf a)) (space (roomOf out) (equalityStages (layerOf a) (layerOf b)))) d s ≡ equalOutcome L a b out scratch
   unfolding equalOutcome
   equal-compared d s y z e = rw (e, y, z)
 
   module _ (e : equalChecked L a b (length out) (length scratch) ≡ Passed) (f : Compared) (d s : List ℤ) (h : ComparedAs (roomOf out) (layerOf a) (layerOf b) f)
       (y : d ≡ zeros (length out)) (z : s ≡ zeros (length scratch)) where
-    pub equal-short : {c : ℕ} → f ≡ comparison.TooShort c → observed (refused-equality 12 0) d s ≡ equalOutcome L a b out scratch
-    equal-short g = ap (λ x. observed x d s) (is-short (roomOf out) (layerOf a) (layerOf b) f h g) ∙ equal-compared d s y z e
+    pub equal-no-room : {c : ℕ} → f ≡ comparison.NoRoom c → observed (refused-equality 12 0) d s ≡ equalOutcome L a b out scratch
+    equal-no-room g = ap (λ x. observed x d s) (is-no-room (roomOf out) (layerOf a) (layerOf b) f h g) ∙ equal-compared d s y z e
 
     pub equal-same : {c : ℕ} → f ≡ comparison.Same c → observed (same c) d s ≡ equalOutcome L a b out scratch
     equal-same g = ap (λ x. observed x d s) (is-same (roomOf out) (layerOf a) (layerOf b) f h g) ∙ equal-compared d s y z e

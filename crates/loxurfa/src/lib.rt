@@ -15,10 +15,10 @@ use geometry::Fill;
 use integer::Int;
 ghost use mathlib.Core.Path.{_≡_};
 ghost use lib.ListN.{length};
-ghost use Rattle.files.specs.Outcomes.{readAnswer, writtenAnswer, Small as SmallFile};
-ghost use Rattle.calls.specs.Components.{connectedAnswer, Small as SmallConnected};
+ghost use Rattle.files.specs.Outcomes.{readAnswer, writtenAnswer, SmallAnswer};
+ghost use Rattle.calls.specs.Components.{connectedAnswer, SmallComponentsAnswer};
 ghost use Rattle.calls.specs.Contracts.{ComponentsKept, ReadKept, WriteKept, FractureKept, CombineKept, DeoverlapKept, EqualKept, ContainsKept};
-ghost use Rattle.calls.specs.Answers.{fracturedAnswer, combinedAnswer, deoverlappedAnswer, equalityAnswer, pointAnswer, Small, SmallEquality, SmallPoint};
+ghost use Rattle.calls.specs.Answers.{fracturedAnswer, combinedAnswer, deoverlappedAnswer, equalityAnswer, pointAnswer, SmallEqualityAnswer, SmallPointAnswer};
 ghost use Rattle.calls.specs.Rows.{plateLimit};
 ghost use Rattle.calls.specs.Outcomes.{zeros, containsAnswer};
 ghost use Rattle.geometry_code.specs.Code.{pointOf};
@@ -34,7 +34,7 @@ fn clear_both(out: &mut [i32], scratch: &mut [i32])
 // The trapezoids of the polygons of a polygon file, written to `out`. `scratch` is as long as `out`.
 pub fn fracture(file: &[u8], out: &mut [i32], scratch: &mut [i32]) -> Fractured
     ensures { λ r. ⌜ FractureKept plateLimit (now (file .entry)) (now (out .entry)) (now (scratch .entry)) r (now (out .exit)) (now (scratch .exit)) ⌝ }
-    ensures small { λ r. ⌜ Small (fracturedAnswer r) ⌝ }
+    ensures small { λ r. ⌜ SmallAnswer (fracturedAnswer r) ⌝ }
 {
     let checked = rows_code::fracture_checked(calls::PLATE_LIMIT, file, out.len(), scratch.len());
     match checked {
@@ -65,7 +65,7 @@ pub fn fracture(file: &[u8], out: &mut [i32], scratch: &mut [i32]) -> Fractured
 // The set operation with this code on a and b, written to `out`. `scratch` is as long as `out`.
 pub fn combine(code: u32, a: &[i32], b: &[i32], out: &mut [i32], scratch: &mut [i32]) -> Combined
     ensures { λ r. ⌜ CombineKept plateLimit code (now (a .entry)) (now (b .entry)) (now (out .entry)) (now (scratch .entry)) r (now (out .exit)) (now (scratch .exit)) ⌝ }
-    ensures small { λ r. ⌜ Small (combinedAnswer r) ⌝ }
+    ensures small { λ r. ⌜ SmallAnswer (combinedAnswer r) ⌝ }
 {
     let checked = rows_code::combine_checked(
         calls::PLATE_LIMIT,
@@ -85,7 +85,7 @@ pub fn combine(code: u32, a: &[i32], b: &[i32], out: &mut [i32], scratch: &mut [
     clear_both(out, scratch);
     let f = boolean_code::combine_into(code, a, b, out, scratch, room);
     match f {
-        Folded::Short(_) => {
+        Folded::NoRoom(_) => {
             return Combined::Refused {
                 number: 12,
                 place: 0,
@@ -106,7 +106,7 @@ pub fn combine(code: u32, a: &[i32], b: &[i32], out: &mut [i32], scratch: &mut [
 // The trapezoids of a without overlaps, written to `out`. `scratch` is as long as `out`.
 pub fn deoverlap(a: &[i32], out: &mut [i32], scratch: &mut [i32]) -> Deoverlapped
     ensures { λ r. ⌜ DeoverlapKept plateLimit (now (a .entry)) (now (out .entry)) (now (scratch .entry)) r (now (out .exit)) (now (scratch .exit)) ⌝ }
-    ensures small { λ r. ⌜ Small (deoverlappedAnswer r) ⌝ }
+    ensures small { λ r. ⌜ SmallAnswer (deoverlappedAnswer r) ⌝ }
 {
     let checked = rows_code::deoverlap_checked(calls::PLATE_LIMIT, a, out.len(), scratch.len());
     match checked {
@@ -119,7 +119,7 @@ pub fn deoverlap(a: &[i32], out: &mut [i32], scratch: &mut [i32]) -> Deoverlappe
     clear_both(out, scratch);
     let f = deoverlap_code::deoverlap_into(a, out, scratch, room);
     match f {
-        Folded::Short(_) => {
+        Folded::NoRoom(_) => {
             return Deoverlapped::Refused {
                 number: 12,
                 place: 0,
@@ -140,7 +140,7 @@ pub fn deoverlap(a: &[i32], out: &mut [i32], scratch: &mut [i32]) -> Deoverlappe
 // Whether the same points lie in a and b. `out` and `scratch`, which is as long, are left blank.
 pub fn equal(a: &[i32], b: &[i32], out: &mut [i32], scratch: &mut [i32]) -> Equality
     ensures { λ r. ⌜ EqualKept plateLimit (now (a .entry)) (now (b .entry)) (now (out .entry)) (now (scratch .entry)) r (now (out .exit)) (now (scratch .exit)) ⌝ }
-    ensures small { λ r. ⌜ SmallEquality (equalityAnswer r) ⌝ }
+    ensures small { λ r. ⌜ SmallEqualityAnswer (equalityAnswer r) ⌝ }
 {
     let checked = rows_code::equal_checked(calls::PLATE_LIMIT, a, b, out.len(), scratch.len());
     match checked {
@@ -153,7 +153,7 @@ pub fn equal(a: &[i32], b: &[i32], out: &mut [i32], scratch: &mut [i32]) -> Equa
     clear_both(out, scratch);
     let f = boolean_code::equal_into(a, b, out, scratch, room);
     match f {
-        Compared::TooShort(_) => {
+        Compared::NoRoom(_) => {
             return Equality::Refused {
                 number: 12,
                 place: 0,
@@ -162,8 +162,8 @@ pub fn equal(a: &[i32], b: &[i32], out: &mut [i32], scratch: &mut [i32]) -> Equa
         Compared::Same(overlays) => {
             return Equality::Same { overlays };
         }
-        Compared::Differs { side, overlays } => {
-            return Equality::Differs { side, overlays };
+        Compared::Differs { operand, overlays } => {
+            return Equality::Differs { operand, overlays };
         }
     }
 }
@@ -171,7 +171,7 @@ pub fn equal(a: &[i32], b: &[i32], out: &mut [i32], scratch: &mut [i32]) -> Equa
 // The point question, of numbers.
 fn contains_at(x: Int, y: Int, d: Int, a: &[i32], b: &[i32], code: u32) -> Containment
     ensures { λ r. ⌜ pointAnswer r ≡ containsAnswer plateLimit (pointOf x y d) (now (a .entry)) (now (b .entry)) code ⌝ }
-    ensures small { λ r. ⌜ SmallPoint (pointAnswer r) ⌝ }
+    ensures small { λ r. ⌜ SmallPointAnswer (pointAnswer r) ⌝ }
 {
     let checked = rows_code::contains_checked(calls::PLATE_LIMIT, x, y, d, a, b, code);
     match checked {
@@ -180,9 +180,7 @@ fn contains_at(x: Int, y: Int, d: Int, a: &[i32], b: &[i32], code: u32) -> Conta
         }
         Checked::Passed => {}
     }
-    let first = boolean_code::lies_in(a, x, y, d);
-    let second = boolean_code::lies_in(b, x, y, d);
-    if boolean_code::says(code, first, second) {
+    if boolean_code::lies_in_result(code, a, b, x, y, d) {
         return Containment::Yes;
     }
     Containment::No
@@ -191,7 +189,7 @@ fn contains_at(x: Int, y: Int, d: Int, a: &[i32], b: &[i32], code: u32) -> Conta
 // Whether the point (x/d, y/d) lies in the result of the set operation with this code on a and b.
 pub fn contains(x: i32, y: i32, d: i32, a: &[i32], b: &[i32], code: u32) -> Containment
     ensures { λ r. ⌜ ContainsKept plateLimit x y d (now (a .entry)) (now (b .entry)) code r ⌝ }
-    ensures small { λ r. ⌜ SmallPoint (pointAnswer r) ⌝ }
+    ensures small { λ r. ⌜ SmallPointAnswer (pointAnswer r) ⌝ }
 {
     let p = integer_code::widen(x);
     let q = integer_code::widen(y);
@@ -202,7 +200,7 @@ pub fn contains(x: i32, y: i32, d: i32, a: &[i32], b: &[i32], code: u32) -> Cont
 // Each trapezoid's component number, the lowest of its component, written to `numbers`, which has an entry for each trapezoid.
 pub fn components(a: &[i32], numbers: &mut [u32]) -> Connected
     ensures { λ r. ⌜ ComponentsKept plateLimit (now (a .entry)) (now (numbers .entry)) r (now (numbers .exit)) ⌝ }
-    ensures small { λ r. ⌜ SmallConnected (connectedAnswer r) ⌝ }
+    ensures small { λ r. ⌜ SmallComponentsAnswer (connectedAnswer r) ⌝ }
 {
     let checked = rows_code::components_checked(calls::PLATE_LIMIT, a, numbers.len());
     match checked {
@@ -218,7 +216,7 @@ pub fn components(a: &[i32], numbers: &mut [u32]) -> Connected
 // The words of a layer file, written to `out`, which has any length.
 pub fn read_layers(file: &[u8], out: &mut [i32]) -> LayersRead
     ensures { λ r. ⌜ ReadKept plateLimit (now (file .entry)) (now (out .entry)) r (now (out .exit)) ⌝ }
-    ensures small { λ r. ⌜ SmallFile (readAnswer r) ⌝ }
+    ensures small { λ r. ⌜ SmallAnswer (readAnswer r) ⌝ }
 {
     let c = files_code::check_layer_file(file, calls::PLATE_LIMIT);
     match c {
@@ -245,7 +243,7 @@ pub fn read_layers(file: &[u8], out: &mut [i32]) -> LayersRead
 // The layer file with these words, written to `out`, which has any length.
 pub fn write_layers(words: &[i32], out: &mut [u8]) -> LayersWritten
     ensures { λ r. ⌜ WriteKept plateLimit (now (words .entry)) (now (out .entry)) r (now (out .exit)) ⌝ }
-    ensures small { λ r. ⌜ SmallFile (writtenAnswer r) ⌝ }
+    ensures small { λ r. ⌜ SmallAnswer (writtenAnswer r) ⌝ }
 {
     let c = files_code::check_layer_words(words, calls::PLATE_LIMIT);
     match c {

@@ -92,8 +92,8 @@ pub extern "C" fn loxurfa_equal(a: &[i32], b: &[i32], out: &mut [i32], scratch: 
         Equality::Same { overlays } => {
             return success(0, overlays);
         }
-        Equality::Differs { side, overlays } => {
-            return success((side + 1) as usize, overlays);
+        Equality::Differs { operand, overlays } => {
+            return success((operand + 1) as usize, overlays);
         }
     }
 }

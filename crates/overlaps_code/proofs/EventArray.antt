@@ -18,12 +18,12 @@ use Rattle.geometry.specs.Ranges.{crossing, commonLeft, commonRight}
 use Rattle.geometry.specs.declared.Placed.{Placed}
 use Rattle.sweep.specs.declared.Event.{Event}
 use Rattle.overlay.specs.Overlaps.{crossesInCommon}
-use Rattle.overlay.specs.Overlay.{crossings, events}
+use Rattle.overlay.specs.Overlay.{sideCrossings, overlayEvents}
 use Rattle.overlay.specs.declared.EventList.{EventList}
 use Rattle.geometry_code.specs.Code.{fractionOf, PositionOf}
 use Rattle.trapezoids_code.specs.Placed.{Pair, CommonLeft, CommonRight}
 use Rattle.sweep_code.specs.Events.{EventOf}
-use Rattle.overlaps_code.specs.Code.{BaseEvents, AllEvents, crossBetween, basesOf, inUse, namesOf, WellPlaced, OneMore}
+use Rattle.overlaps_code.specs.Code.{BaseEvents, AllEvents, crossBetween, basesOf, eventsInUse, namesOf, WellPlaced, OneMore}
 
 pub bases-append : (es fs : List Event) → basesOf (es ++ fs) ≡ basesOf es ++ basesOf fs
 bases-append [] fs = refl
@@ -39,10 +39,10 @@ module _ (v : EventList) (lo hi : Fraction) (k : Base) (h : WellPlaced v) where
   pub one-more : crossBetween lo hi k ≡ true → v .n < 8 → (e : Event) → e .base ≡ k → EventOf e → OneMore v lo hi k (record { n = v .n + 1; list = set (v .list) (v .n) e })
   unfolding keep
   one-more t l e b p =
-      let s : take (v .n + 1) (set (v .list) (v .n) e) ≡ inUse v ++ (e ∷ []) = rw add-one (take-suc-set (v .list) (v .n) e (omega (arith, h .long))) in
+      let s : take (v .n + 1) (set (v .list) (v .n) e) ≡ eventsInUse v ++ (e ∷ []) = rw add-one (take-suc-set (v .list) (v .n) e (omega (arith, h .long))) in
       record {
-        well = record { long = length-set (v .list) (v .n) e ∙ h .long; few = omega arith; placed = rw s (all-append EventOf (inUse v) (e ∷ []) (h .placed) (p, tt)) };
-        names = ap basesOf s ∙ bases-append (inUse v) (e ∷ []) ∙ rw (t, b);
+        well = record { long = length-set (v .list) (v .n) e ∙ h .long; few = omega arith; placed = rw s (all-append EventOf (eventsInUse v) (e ∷ []) (h .placed) (p, tt)) };
+        names = ap basesOf s ∙ bases-append (eventsInUse v) (e ∷ []) ∙ rw (t, b);
         count = omega arith;
       }
 
@@ -79,7 +79,7 @@ module _ (a b : Placed) (lo hi : Position) (cl : CommonLeft a b lo) (cr : Common
       → OneMore x (fractionOf lo) (fractionOf hi) (crossing (a .shape .top) (b .shape .bottom)) y
       → OneMore y (fractionOf lo) (fractionOf hi) (crossing (a .shape .top) (b .shape .top)) z
       → AllEvents a b z
-  unfolding events crossings
+  unfolding overlayEvents sideCrossings
   all-events h i j k m =
       let f = crossBetween (fractionOf lo) (fractionOf hi) in
       let e : f ≡ crossesInCommon (a .shape) (b .shape) = (λ t. crossBetween (cl .is t) (cr .is t)) ∙ sym (inside-is (a .shape) (b .shape)) in
@@ -87,5 +87,5 @@ module _ (a b : Placed) (lo hi : Position) (cl : CommonLeft a b lo) (cr : Common
         well = m .well;
         names = m .names ∙ rw (k .names, j .names, i .names, h .names)
             (keep-four f (a .shape .left ∷ a .shape .right ∷ b .shape .left ∷ b .shape .right ∷ []) (crossing (a .shape .bottom) (b .shape .bottom)) (crossing (a .shape .bottom) (b .shape .top)) (crossing (a .shape .top) (b .shape .bottom)) (crossing (a .shape .top) (b .shape .top))
-            ∙ ap (λ (g : Base → Bool). a .shape .left ∷ a .shape .right ∷ b .shape .left ∷ b .shape .right ∷ keep g (crossings (a .shape) (b .shape))) e);
+            ∙ ap (λ (g : Base → Bool). a .shape .left ∷ a .shape .right ∷ b .shape .left ∷ b .shape .right ∷ keep g (sideCrossings (a .shape) (b .shape))) e);
       }

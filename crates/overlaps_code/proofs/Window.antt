@@ -8,7 +8,7 @@ use Rattle.geometry.specs.declared.Trapezoid.{Trapezoid}
 use Rattle.geometry.specs.Positions.{crosses, position, below}
 use Rattle.geometry.specs.declared.Position.{Position}
 use Rattle.geometry.specs.declared.Crossing.{Crossing}
-use Rattle.geometry.specs.declared.Crossing.the-variants.{Parallel, At}
+use Rattle.geometry.specs.declared.Crossing.the-variants.{Nowhere, At}
 use Rattle.geometry.specs.Ranges.{crossing, commonLeft, commonRight}
 use Rattle.overlay.specs.Overlaps.{crossesInCommon, overlapRight, overlapFrom, overlaps}
 use Rattle.geometry_code.specs.Code.{PositionOf}
@@ -44,7 +44,7 @@ module _ (lo hi : Fraction) (k : Base) where
     between-inside e f = rw (c, e, f)
 
 module _ (lo hi : Fraction) (l m : Line) (r : Crossing) (h : CrossingBetween lo hi l m r) where
-  pub between-none : r ≡ Parallel → crossBetween lo hi (crossing l m) ≡ false
+  pub between-none : r ≡ Nowhere → crossBetween lo hi (crossing l m) ≡ false
   between-none e = subst (CrossingBetween lo hi l m) e h
 
   pub between-at : (p : Position) → r ≡ At p → (crossBetween lo hi (crossing l m) ≡ true) × PositionOf (crossing l m) p
@@ -60,15 +60,15 @@ module _ (A B : Trapezoid) where
   apart e = rw e
 
   module _ (wide : before (commonLeft A B) (commonRight A B) ≡ true) where
-    pub at-start : overlapRight A B (commonLeft A B) ≡ true → true ≡ overlaps A B
+    pub from-start : overlapRight A B (commonLeft A B) ≡ true → true ≡ overlaps A B
     unfolding overlaps
-    at-start e = rw (wide, e)
+    from-start e = rw (wide, e)
 
     module _ (start : overlapRight A B (commonLeft A B) ≡ false) where
-      pub at-first : From (crossing (A .bottom) (B .top)) ≡ true → true ≡ overlaps A B
+      pub from-first : From (crossing (A .bottom) (B .top)) ≡ true → true ≡ overlaps A B
       unfolding overlaps overlapFrom crossesInCommon crossBetween
-      at-first e = rw (wide, start, e)
+      from-first e = rw (wide, start, e)
 
-      pub at-second : {r : Bool} → From (crossing (A .bottom) (B .top)) ≡ false → r ≡ From (crossing (A .top) (B .bottom)) → r ≡ overlaps A B
+      pub from-second : {r : Bool} → From (crossing (A .bottom) (B .top)) ≡ false → r ≡ From (crossing (A .top) (B .bottom)) → r ≡ overlaps A B
       unfolding overlaps overlapFrom crossesInCommon crossBetween
-      at-second e f = rw (wide, start, e) f
+      from-second e f = rw (wide, start, e) f

@@ -10,13 +10,13 @@ use Rattle.integer.specs.Fraction.{Fraction, before}
 use Rattle.geometry.specs.declared.Line.{Line}
 use Rattle.geometry.specs.declared.Base.{Base}
 use Rattle.geometry.specs.declared.Crossing.{Crossing}
-use Rattle.geometry.specs.declared.Crossing.the-variants.{Parallel, At}
+use Rattle.geometry.specs.declared.Crossing.the-variants.{Nowhere, At}
 use Rattle.geometry.specs.Positions.{crosses, position}
 use Rattle.geometry.specs.declared.Placed.{Placed}
 use Rattle.geometry.specs.Ranges.{crossing}
 use Rattle.sweep.specs.declared.Event.{Event}
 use Rattle.overlay.specs.declared.EventList.{EventList}
-use Rattle.overlay.specs.Overlay.{events}
+use Rattle.overlay.specs.Overlay.{overlayEvents}
 use Rattle.geometry_code.specs.Code.{PositionOf}
 use Rattle.sweep_code.specs.Events.{EventOf}
 
@@ -25,7 +25,7 @@ unfoldable pub crossBetween : Fraction → Fraction → Base → Bool
 crossBetween lo hi k = crosses (k .first) (k .second) && (before lo (position k) && before (position k) hi)
 
 abbrev pub CrossingBetween : Fraction → Fraction → Line → Line → Crossing → Type 0
-CrossingBetween lo hi l m Parallel = crossBetween lo hi (crossing l m) ≡ false
+CrossingBetween lo hi l m Nowhere = crossBetween lo hi (crossing l m) ≡ false
 CrossingBetween lo hi l m (At p) = (crossBetween lo hi (crossing l m) ≡ true) × PositionOf (crossing l m) p
 
 -- ---- events in an array
@@ -34,16 +34,16 @@ basesOf [] = []
 basesOf (e ∷ es) = e .base ∷ basesOf es
 
 -- the events in use, and their names
-abbrev pub inUse : EventList → List Event
-inUse v = take (v .n) (v .list)
+abbrev pub eventsInUse : EventList → List Event
+eventsInUse v = take (v .n) (v .list)
 
 abbrev pub namesOf : EventList → List Base
-namesOf v = basesOf (inUse v)
+namesOf v = basesOf (eventsInUse v)
 
 pub record WellPlaced (v : EventList) : Type 0 where
   pub long : length (v .list) ≡ 8
   pub few : v .n ≤ 8
-  pub placed : All EventOf (inUse v)
+  pub placed : All EventOf (eventsInUse v)
 
 -- r is v, with the crossing k if it stands strictly between lo and hi
 pub record OneMore (v : EventList) (lo hi : Fraction) (k : Base) (r : EventList) : Type 0 where
@@ -58,4 +58,4 @@ pub record BaseEvents (a b : Placed) (v : EventList) : Type 0 where
 
 pub record AllEvents (a b : Placed) (v : EventList) : Type 0 where
   pub well : WellPlaced v
-  pub names : namesOf v ≡ events (a .shape) (b .shape)
+  pub names : namesOf v ≡ overlayEvents (a .shape) (b .shape)

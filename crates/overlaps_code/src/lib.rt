@@ -16,14 +16,14 @@ ghost use Rattle.geometry.specs.Positions.{position};
 ghost use Rattle.geometry.specs.Fitness.{FitFor};
 ghost use Rattle.geometry.specs.Ranges.{crossing};
 ghost use Rattle.overlay.specs.Overlaps.{overlapRight, overlaps};
-ghost use Rattle.geometry_code.specs.Code.{fractionOf, Small};
+ghost use Rattle.geometry_code.specs.Code.{fractionOf, SmallPosition};
 ghost use Rattle.trapezoids_code.specs.Placed.{Pair};
 ghost use Rattle.sweep_code.specs.Events.{NextAmong, EventOf, after};
 ghost use Rattle.overlaps_code.specs.Code.{crossBetween, CrossingBetween, WellPlaced, OneMore, BaseEvents, AllEvents, namesOf};
 
 // Right of a position each bottom is below the other's top.
 fn overlap_right(a: Trapezoid, b: Trapezoid, p: Position) -> bool
-    requires { ⌜ FitFor coordinateLimit a × FitFor coordinateLimit b × Small p ⌝ }
+    requires { ⌜ FitFor coordinateLimit a × FitFor coordinateLimit b × SmallPosition p ⌝ }
     ensures { λ r. ⌜ r ≡ overlapRight a b (fractionOf p) ⌝ }
 {
     if geometry_code::is_below(a.bottom, b.top, p) {
@@ -32,26 +32,26 @@ fn overlap_right(a: Trapezoid, b: Trapezoid, p: Position) -> bool
     false
 }
 
-// Where two lines cross strictly between two positions; `Parallel` if they do not.
+// Where two lines cross strictly between two positions; `Nowhere` if they do not.
 fn crossing_between(l: Line, m: Line, lo: Position, hi: Position) -> Crossing
-    requires { ⌜ OnGrid coordinateLimit l × OnGrid coordinateLimit m × Small lo × Small hi ⌝ }
+    requires { ⌜ OnGrid coordinateLimit l × OnGrid coordinateLimit m × SmallPosition lo × SmallPosition hi ⌝ }
     ensures { λ r. ⌜ CrossingBetween (fractionOf lo) (fractionOf hi) l m r ⌝ }
 {
     let c = geometry_code::crossing_of(l, m);
     let Crossing::At(p) = c else {
-        return Crossing::Parallel;
+        return Crossing::Nowhere;
     };
     if geometry_code::is_before(lo, p) {
         if geometry_code::is_before(p, hi) {
             return Crossing::At(p);
         }
     }
-    Crossing::Parallel
+    Crossing::Nowhere
 }
 
 // The two lines cross strictly inside the common range, and right of there the trapezoids overlap.
 fn overlap_from(a: Trapezoid, b: Trapezoid, l: Line, m: Line, lo: Position, hi: Position) -> bool
-    requires { ⌜ FitFor coordinateLimit a × FitFor coordinateLimit b × OnGrid coordinateLimit l × OnGrid coordinateLimit m × Small lo × Small hi ⌝ }
+    requires { ⌜ FitFor coordinateLimit a × FitFor coordinateLimit b × OnGrid coordinateLimit l × OnGrid coordinateLimit m × SmallPosition lo × SmallPosition hi ⌝ }
     ensures { λ r. ⌜ r ≡ crossBetween (fractionOf lo) (fractionOf hi) (crossing l m) && overlapRight a b (position (crossing l m)) ⌝ }
 {
     let c = crossing_between(l, m, lo, hi);
@@ -85,7 +85,7 @@ pub fn overlapping(a: Placed, b: Placed) -> bool
 // One event more, if the two lines cross strictly between two positions.
 fn with_crossing(v: EventList, l: Line, m: Line, lo: Position, hi: Position) -> EventList
     requires { ⌜ WellPlaced v × (v .n < 8) ⌝ }
-    requires { ⌜ OnGrid coordinateLimit l × OnGrid coordinateLimit m × Small lo × Small hi ⌝ }
+    requires { ⌜ OnGrid coordinateLimit l × OnGrid coordinateLimit m × SmallPosition lo × SmallPosition hi ⌝ }
     ensures { λ r. ⌜ OneMore v (fractionOf lo) (fractionOf hi) (crossing l m) r ⌝ }
 {
     let c = crossing_between(l, m, lo, hi);

@@ -8,13 +8,13 @@ use native.Mathlib.Nat.{zero-add, add-zero}
 use lib.Dec.{T, T-not, not-T}
 use mir.Facts.{yes-and}
 use Rattle.lists.specs.Lists.{All}
-use Rattle.lists.specs.Tests.{always, bit, count}
+use Rattle.lists.specs.Tests.{always, bit, countIf}
 use Rattle.lists.proofs.Tests.{true-is, false-is, is-true, cond-cases}
 use Rattle.lists.proofs.Neighbours.{neighbours-every}
 use Rattle.lists.proofs.Kept.{keep-each}
 use Rattle.lists.proofs.Counts.{count-none}
 use Rattle.integer.specs.Fraction.{Fraction, before}
-use Rattle.levels.specs.Levels.{AtMost, Ordered, levels}
+use Rattle.levels.specs.Levels.{AtMost, StrictWeakOrder, levels}
 use Rattle.geometry.specs.declared.Line.{Line}
 use Rattle.geometry.specs.declared.Base.{Base}
 use Rattle.geometry.specs.declared.Trapezoid.{Trapezoid}
@@ -30,7 +30,7 @@ use Rattle.sweep.proofs.Prefix.{value, prefix, Decided, decided, nothing, up-to
 use Rattle.sweep.proofs.Column.{Good, goods, ordered, groups-good, groups-rising, under-lower}
 use Rattle.sweep.proofs.Sweep.{sweep-count}
 use Rattle.overlay.specs.Overlaps.{overlaps}
-use Rattle.overlay.specs.Overlay.{Part, tagOf, inRange, sides, events, lineOf, fills, tagAbove, part, parts, subdivision, overlay}
+use Rattle.overlay.specs.Overlay.{Part, tagOf, inRange, sides, overlayEvents, segmentLine, fills, tagAbove, part, parts, subdivision, overlay}
 use Rattle.overlay.proofs.Ranges.{from-lies, lies-is}
 use Rattle.overlay.proofs.Overlaps.{apart-exact}
 use Rattle.overlay.proofs.Events.{Cell, dividers, groups, complete}
@@ -80,7 +80,7 @@ module _ {L : ℕ} {A B : Trapezoid} (ha : FitFor L A) (hb : FitFor L B) where
   -- what is above the highest group lies in neither
   top-tag : (p q : Base) → Cell A B p q → value always (tagAbove A B (position p)) 0 (groups A B p) ≡ 0
   unfolding tagAbove sides spans
-  top-tag p q c = go (decided o always (λ d e gd ge l u. tt) W 0 (dividers A B p) (goods lineOf (c .clear)))
+  top-tag p q c = go (decided o always (λ d e gd ge l u. tt) W 0 (dividers A B p) (goods segmentLine (c .clear)))
     where
       x : Fraction
       x = position p
@@ -88,8 +88,8 @@ module _ {L : ℕ} {A B : Trapezoid} (ha : FitFor L A) (hb : FitFor L B) where
       W : Segment → ℕ
       W = tagAbove A B (position p)
 
-      o : Ordered (lower lineOf (position p)) (Good lineOf (c .clear))
-      o = ordered lineOf (c .clear)
+      o : StrictWeakOrder (lower segmentLine (position p)) (Good segmentLine (c .clear))
+      o = ordered segmentLine (c .clear)
 
       go : Decided o always (λ d e gd ge l u. tt) W 0 (dividers A B p) → value always W 0 (groups A B p) ≡ 0
       go (nothing v a) = v
@@ -106,16 +106,16 @@ module _ {L : ℕ} {A B : Trapezoid} (ha : FitFor L A) (hb : FitFor L B) where
     atOrBelow s = under P (s .line)
 
     module _ (p q : Base) (c : Cell A B p q) (l : T (not (before (at P) (position p)))) (r : T (before (at P) (position q))) where
-      o : Ordered (lower lineOf (position p)) (Good lineOf (c .clear))
-      o = ordered lineOf (c .clear)
+      o : StrictWeakOrder (lower segmentLine (position p)) (Good segmentLine (c .clear))
+      o = ordered segmentLine (c .clear)
 
-      down : (d e : Segment) → Good lineOf (c .clear) d → Good lineOf (c .clear) e → AtMost (lower lineOf (position p)) d e → T (under P (e .line)) → T (under P (d .line))
-      down = under-lower lineOf (c .clear) P hP l r
+      down : (d e : Segment) → Good segmentLine (c .clear) d → Good segmentLine (c .clear) e → AtMost (lower segmentLine (position p)) d e → T (under P (e .line)) → T (under P (d .line))
+      down = under-lower segmentLine (c .clear) P hP l r
 
       -- what is above the last group at or below the point has the point's tag
       point-tag : value atOrBelow (tagAbove A B (position p)) 0 (groups A B p) ≡ own
       unfolding tagAbove sides spans
-      point-tag = go (decided o atOrBelow down W 0 (dividers A B p) (goods lineOf (c .clear)))
+      point-tag = go (decided o atOrBelow down W 0 (dividers A B p) (goods segmentLine (c .clear)))
         where
           x : Fraction
           x = position p
@@ -144,20 +144,20 @@ module _ {L : ℕ} {A B : Trapezoid} (ha : FitFor L A) (hb : FitFor L B) where
           let i : inRange (at P) s ≡ true = true-is (yes-and (not (before (at P) (position p))) (before (at P) (position q)) l r) in
           lies-is P s (yes-and (crosses (p .first) (p .second)) (crosses (q .first) (q .second)) first second) ∙ ap (λ (u : Bool). u && (atOrBelow g && not (atOrBelow h))) i
 
-      column-count : (t : ℕ → Bool) → t 0 ≡ false → count (hit P t) (parts A B p q (dividers A B p)) ≡ bit (t own)
+      column-count : (t : ℕ → Bool) → t 0 ≡ false → countIf (hit P t) (parts A B p q (dividers A B p)) ≡ bit (t own)
       unfolding parts
       column-count t t0 =
-          let first-part = prefix o atOrBelow down (groups A B p) (groups-good lineOf (c .clear)) (groups-rising lineOf (c .clear)) in
+          let first-part = prefix o atOrBelow down (groups A B p) (groups-good segmentLine (c .clear)) (groups-rising segmentLine (c .clear)) in
           let reads : (g h : Segment) → hit P t (part A B p q g h) ≡ atOrBelow g && not (atOrBelow h) && t (tagAbove A B (position p) g)
           = λ g h. ap (λ (u : Bool). u && t (tagAbove A B (position p) g)) (part-lies g h) in
           stack-count A B p q atOrBelow t t0 (hit P t) reads (groups A B p) first-part (top-tag p q c) ∙ ap (λ (n : ℕ). bit (t n)) point-tag
 
     -- ---- the columns
     module _ (t : ℕ → Bool) (t0 : t 0 ≡ false) where
-      elsewhere : (p q : Base) (ss : List Segment) → T (before (at P) (position p)) ⊎ T (not (before (at P) (position q))) → count (hit P t) (parts A B p q ss) ≡ 0
+      elsewhere : (p q : Base) (ss : List Segment) → T (before (at P) (position p)) ⊎ T (not (before (at P) (position q))) → countIf (hit P t) (parts A B p q ss) ≡ 0
       unfolding parts
       elsewhere p q ss o =
-          let gs = levels (lower lineOf (position p)) ss in
+          let gs = levels (lower segmentLine (position p)) ss in
           count-none (hit P t) (parts A B p q ss) (stack-all A B p q (λ (s : Part). hit P t s ≡ false) gs (neighbours-every (λ (g h : Segment). hit P t (part A B p q g h) ≡ false) miss gs))
         where
           out : (s : Trapezoid) → T (before (at P) (position (s .left))) ⊎ T (not (before (at P) (position (s .right)))) → T (liesIn P s) → ⊥
@@ -174,10 +174,10 @@ module _ {L : ℕ} {A B : Trapezoid} (ha : FitFor L A) (hb : FitFor L B) where
           let j : inRange (at P) B ≡ false = false-is (a .1 .1 .0) in
           rw (lies-is P A (fit-based ha), lies-is P B (fit-based hb), i, j, t0)
 
-      pub subdivision-count : count (hit P t) (subdivision A B) ≡ bit (t own)
+      pub subdivision-count : countIf (hit P t) (subdivision A B) ≡ bit (t own)
       unfolding subdivision
       subdivision-count =
-          sweep-count (λ (s : Segment). s) position (sides A B) (events A B) (parts A B) (at P) (hit P t) (bit (t own)) (complete ha hb) hP elsewhere nowhere
+          sweep-count (λ (s : Segment). s) position (sides A B) (overlayEvents A B) (parts A B) (at P) (hit P t) (bit (t own)) (complete ha hb) hP elsewhere nowhere
           (λ p q c l r. column-count p q c l r t t0)
 
 -- ---- the whole
@@ -195,9 +195,9 @@ module _ {L : ℕ} {A B : Trapezoid} (ha : FitFor L A) (hb : FitFor L B) where
   overlay-cases R h k =
       cond-cases R (overlaps A B) (subdivision A B) (record { tag = 1; trapezoid = A } ∷ record { tag = 2; trapezoid = B } ∷ []) (λ o. h) (λ o. k (apart-exact L A B ha hb .0 o))
 
-  pub overlay-count : (P : Point) → IsPoint P → (t : ℕ → Bool) → t 0 ≡ false → count (hit P t) (overlay A B) ≡ bit (t (tagOf (liesIn P A) (liesIn P B)))
-  unfolding count
+  pub overlay-count : (P : Point) → IsPoint P → (t : ℕ → Bool) → t 0 ≡ false → countIf (hit P t) (overlay A B) ≡ bit (t (tagOf (liesIn P A) (liesIn P B)))
+  unfolding countIf
   overlay-count P hP t t0 =
-      overlay-cases (λ (ss : List Part). count (hit P t) ss ≡ bit (t (tagOf (liesIn P A) (liesIn P B))))
+      overlay-cases (λ (ss : List Part). countIf (hit P t) ss ≡ bit (t (tagOf (liesIn P A) (liesIn P B))))
       (subdivision-count ha hb P hP t t0)
       (λ n. whole-count t t0 (liesIn P A) (liesIn P B) (n P hP))

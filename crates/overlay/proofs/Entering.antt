@@ -15,10 +15,10 @@ use Rattle.integer.proofs.Tests.{yes-lt, no-lt}
 use Rattle.integer.proofs.Fraction.{cross, cross-turn, cross→before, at-most→cross, at-most-refl, before→at-most, before-at-most-trans, at-most-before-trans, before-trans}
 use Rattle.geometry.specs.declared.Line.{Line}
 use Rattle.geometry.specs.Lines.{det}
-use Rattle.geometry.specs.Positions.{gap, crosses, root, meet, below}
+use Rattle.geometry.specs.Positions.{gap, crosses, ratio, meet, below}
 use Rattle.geometry.specs.Orders.{Uncrossed}
 use Rattle.geometry.specs.Fitness.{BelowBetween}
-use Rattle.geometry.proofs.Identities.{gap-moves, gap-turn, det-turn, root-cross, gap-between}
+use Rattle.geometry.proofs.Identities.{gap-moves, gap-turn, det-turn, ratio-cross, gap-between}
 use Rattle.geometry.proofs.Heights.{Lower, AtMost, below→lower, lower→below, not-below→at-most}
 use Rattle.geometry.proofs.Between.{ahead, stays}
 use Rattle.geometry.proofs.Meet.{crosses→det, det→crosses, not-crosses→det, meet-cases, meet-proper, meet-gap}
@@ -95,11 +95,11 @@ module _ (p x : Fraction) (l m : Line) (hp : Proper p) (hx : Proper x) (h : T (n
   pub enters : T (crosses l m) × Enters p x l m (meet l m)
   enters =
       let f = falls (not-below→at-most p m l n) in
-      let e : meet l m ≡ root m l = meet-cases (λ (r : Fraction). r ≡ root m l) l m (λ k. clashℤ k (lt→le (f .1))) (λ k. refl) in (
+      let e : meet l m ≡ ratio m l = meet-cases (λ (r : Fraction). r ≡ ratio m l) l m (λ k. clashℤ k (lt→le (f .1))) (λ k. refl) in (
         det→crosses l m (λ z. let k = f .1 in omega (zarith, z)),
         record {
-          after = rw e (cross→before p (root m l) (rw root-cross (f .0)));
-          by = rw e (cross→before (root m l) x (neg-lt (cross-turn x (root m l)) (rw root-cross (neg-gt (gap-turn l m x) g))));
+          after = rw e (cross→before p (ratio m l) (rw ratio-cross (f .0)));
+          by = rw e (cross→before (ratio m l) x (neg-lt (cross-turn x (ratio m l)) (rw ratio-cross (neg-gt (gap-turn l m x) g))));
           below = lower→below (meet l m) l m (inr (meet-gap l m, f .1));
         },
       )

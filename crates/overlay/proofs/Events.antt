@@ -26,19 +26,19 @@ use Rattle.sweep.specs.Segments.{Segment, inside, crossInside, spanning}
 use Rattle.sweep.specs.Columns.{lower}
 use Rattle.sweep.specs.Sweep.{Complete, Column}
 use Rattle.overlay.specs.Overlaps.{crossesInCommon}
-use Rattle.overlay.specs.Overlay.{along, sides, crossings, events, lineOf}
+use Rattle.overlay.specs.Overlay.{along, sides, sideCrossings, overlayEvents, segmentLine}
 use Rattle.overlay.proofs.Ranges.{to-crossing, crossing-proper}
 
 -- what is known of the column from p to q of the subdivision of A and B
 abbrev pub Cell : Trapezoid → Trapezoid → Base → Base → Type 0
-Cell A B p q = Column (λ (s : Segment). s) position (sides A B) (events A B) p q
+Cell A B p q = Column (λ (s : Segment). s) position (sides A B) (overlayEvents A B) p q
 
 -- the sides that divide the column from p on, and their groups
 abbrev pub dividers : Trapezoid → Trapezoid → Base → List Segment
 dividers A B p = spanning (λ (s : Segment). s) (position p) (sides A B)
 
 abbrev pub groups : Trapezoid → Trapezoid → Base → List Segment
-groups A B p = levels (lower lineOf (position p)) (dividers A B p)
+groups A B p = levels (lower segmentLine (position p)) (dividers A B p)
 
 -- ---- where two segments cross strictly inside both
 pub record Inside (s t : Segment) : Type 0 where
@@ -77,18 +77,18 @@ module _ {L : ℕ} {A B : Trapezoid} (ha : FitFor L A) (hb : FitFor L B) where
         by = to-right ha hb (meet l m) hr (i .to-first) (i .to-second);
       })
 
-  crossing-event : (l m : Line) → T (crossInside (along A l) (along B m)) → Any (λ (k : Base). crossing l m ≡ k) (crossings A B) → Any (λ (k : Base). meet l m ≡ position k) (events A B)
-  unfolding events
+  crossing-event : (l m : Line) → T (crossInside (along A l) (along B m)) → Any (λ (k : Base). crossing l m ≡ k) (sideCrossings A B) → Any (λ (k : Base). meet l m ≡ position k) (overlayEvents A B)
+  unfolding overlayEvents
   crossing-event l m c i =
-      let kept : Any (λ (k : Base). (meet l m ≡ position k) × T (crossesInCommon A B k)) (crossings A B)
-      = any-map (λ k e. (ap position e, subst (λ (k : Base). T (crossesInCommon A B k)) e (crosses-in-common l m c))) (crossings A B) i in
-      inr (inr (inr (inr (keep-any (crossesInCommon A B) (λ (k : Base). meet l m ≡ position k) (crossings A B) kept))))
+      let kept : Any (λ (k : Base). (meet l m ≡ position k) × T (crossesInCommon A B k)) (sideCrossings A B)
+      = any-map (λ k e. (ap position e, subst (λ (k : Base). T (crossesInCommon A B k)) e (crosses-in-common l m c))) (sideCrossings A B) i in
+      inr (inr (inr (inr (keep-any (crossesInCommon A B) (λ (k : Base). meet l m ≡ position k) (sideCrossings A B) kept))))
 
-  crossings-proper : All (λ (k : Base). Proper (position k)) (keep (crossesInCommon A B) (crossings A B))
-  crossings-proper = keep-all (crossesInCommon A B) (λ k u h. crossing-proper A B k h) (crossings A B) (all-of (λ (k : Base). Unit {0}) (λ k. tt) (crossings A B))
+  crossings-proper : All (λ (k : Base). Proper (position k)) (keep (crossesInCommon A B) (sideCrossings A B))
+  crossings-proper = keep-all (crossesInCommon A B) (λ k u h. crossing-proper A B k h) (sideCrossings A B) (all-of (λ (k : Base). Unit {0}) (λ k. tt) (sideCrossings A B))
 
-  pub complete : Complete (λ (s : Segment). s) position (sides A B) (events A B)
-  unfolding sides events crossings
+  pub complete : Complete (λ (s : Segment). s) position (sides A B) (overlayEvents A B)
+  unfolding sides overlayEvents sideCrossings
   complete =
       record {
         proper = (left-proper ha, (right-proper ha, (left-proper hb, (right-proper hb, crossings-proper))));

@@ -33,7 +33,7 @@ use Rattle.sweep.specs.Columns.{lower}
 use Rattle.sweep.specs.Sweep.{earlier, sweep}
 use Rattle.sweep.proofs.Sweep.{Placed, placed-order}
 use Rattle.overlay.specs.Overlaps.{crossesInCommon, overlapRight}
-use Rattle.overlay.specs.Overlay.{Part, inRange, sides, crossings, events, lineOf, parts, subdivision}
+use Rattle.overlay.specs.Overlay.{Part, inRange, sides, sideCrossings, overlayEvents, segmentLine, parts, subdivision}
 use Rattle.overlay.specs.Statements.{AtMostFifteen}
 use Rattle.overlay.proofs.Ranges.{crossing-proper}
 use Rattle.overlay.proofs.Events.{dividers, groups, complete}
@@ -112,7 +112,7 @@ module _ {L : ℕ} {A B : Trapezoid} (ha : FitFor L A) (hb : FitFor L B) where
   unfolding parts
   sides-bound p q =
       let i = stack-length A B p q (groups A B p) in
-      let j = levels-length (lower lineOf (position p)) (dividers A B p) in
+      let j = levels-length (lower segmentLine (position p)) (dividers A B p) in
       let k = dividers-length p in
       omega arith
 
@@ -159,15 +159,15 @@ module _ {L : ℕ} {A B : Trapezoid} (ha : FitFor L A) (hb : FitFor L B) where
       go f false true e d i h = h
       go f false false e d i h = h
 
-  events-proper : All (Placed position) (events A B)
+  events-proper : All (Placed position) (overlayEvents A B)
   events-proper = complete ha hb .proper
 
   -- the parts are at most what the columns may have
-  bound : length (subdivision A B) ≤ total c (levels (earlier position) (events A B))
+  bound : length (subdivision A B) ≤ total c (levels (earlier position) (overlayEvents A B))
   unfolding subdivision sweep
   bound =
-      let ss = levels (earlier position) (events A B) in
-      let proper = neighbours-of (Placed position) ss (levels-all (earlier position) (Placed position) (events A B) events-proper) in
+      let ss = levels (earlier position) (overlayEvents A B) in
+      let proper = neighbours-of (Placed position) ss (levels-all (earlier position) (Placed position) (overlayEvents A B) events-proper) in
       columns-length (λ (s : Segment). s) position (parts A B) c (sides A B) ss (neighbours-map (λ p q h. column-bound p q (h .0)) ss proper)
 
   -- ---- level events cost the same
@@ -234,10 +234,10 @@ module _ {L : ℕ} {A B : Trapezoid} (ha : FitFor L A) (hb : FitFor L B) where
       (λ n. cost-three (apartAt x) (inA k) (inB k))
 
   abbrev inner : List Base
-  inner = keep (crossesInCommon A B) (crossings A B)
+  inner = keep (crossesInCommon A B) (sideCrossings A B)
 
-  lefts : total c (levels (earlier position) (events A B)) ≤ edge + 2 + total c inner
-  unfolding events
+  lefts : total c (levels (earlier position) (overlayEvents A B)) ≤ edge + 2 + total c inner
+  unfolding overlayEvents
   lefts =
       elim (yes-or-no (before a b)) [
         | inl h ↦ (
@@ -333,15 +333,15 @@ module _ {L : ℕ} {A B : Trapezoid} (ha : FitFor L A) (hb : FitFor L B) where
           ]
 
   inner-total : total c inner ≤ cond crossed 5 3 + 6
-  unfolding crossings
+  unfolding sideCrossings
   inner-total =
       let i = opposite-total in
       let j = paid-three (crossing (A .bottom) (B .bottom)) in
       let k = paid-three (crossing (A .top) (B .top)) in
-      rw (keep-total c (crossesInCommon A B) (crossings A B)) (omega arith)
+      rw (keep-total c (crossesInCommon A B) (sideCrossings A B)) (omega arith)
 
   pub subdivision-length : length (subdivision A B) ≤ 15
-  subdivision-length = go crossed (length (subdivision A B)) (total c (levels (earlier position) (events A B))) (total c inner) bound lefts inner-total
+  subdivision-length = go crossed (length (subdivision A B)) (total c (levels (earlier position) (overlayEvents A B))) (total c inner) bound lefts inner-total
     where
       go : (b : Bool) (i j k : ℕ) → i ≤ j → j ≤ cond b 2 3 + 2 + k → k ≤ cond b 5 3 + 6 → i ≤ 15
       go true i j k h l m = omega arith

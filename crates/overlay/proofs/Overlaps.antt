@@ -24,7 +24,7 @@ use Rattle.geometry.specs.Ranges.{commonLeft, commonRight, crossing}
 use Rattle.geometry.proofs.Identities.{gap-turn, height-refl}
 use Rattle.geometry.proofs.Heights.{height-total}
 use Rattle.geometry.proofs.Meet.{meet-proper}
-use Rattle.geometry.proofs.Orders.{under-chain}
+use Rattle.geometry.proofs.Orders.{under-transitive}
 use Rattle.geometry.proofs.Points.{on, on-point, on-other, on-after, on-before, on-below}
 use Rattle.geometry.proofs.Fitness.{bottom-line, top-line}
 use Rattle.geometry.proofs.Ranges.{fit-based, common-left-proper, common-right-proper, from-left, to-right, left-after, right-to}
@@ -34,7 +34,7 @@ use Rattle.overlay.proofs.Entering.{Until, until, enters, enters-turned
 
 -- at or above l and below m: l is below m there
 pub strictly-between : (l m : Line) (P : Point) → IsLine l → IsLine m → T (under P l) → T (not (under P m)) → gap l m (at P) <ℤ pos 0
-strictly-between l m P hl hm u n = elim (lt-or-le (gap l m (at P)) (pos 0)) [ inl k ↦ k | inr k ↦ absurd (T-not (under P m) n (under-chain m l P hm hl (neg-le (gap-turn l m (at P)) k) u)) ]
+strictly-between l m P hl hm u n = elim (lt-or-le (gap l m (at P)) (pos 0)) [ inl k ↦ k | inr k ↦ absurd (T-not (under P m) n (under-transitive m l P hm hl (neg-le (gap-turn l m (at P)) k) u)) ]
 
 -- the point of l over x is at or above each line that is not above l there
 on-above : (l m : Line) (x : Fraction) → gap m l x ≤ℤ pos 0 → T (under (on l x) m)

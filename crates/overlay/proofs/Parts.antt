@@ -24,7 +24,7 @@ use Rattle.sweep.specs.Columns.{Below}
 use Rattle.sweep.proofs.Column.{groups-below}
 use Rattle.sweep.proofs.Sweep.{sweep-all}
 use Rattle.overlay.specs.Overlaps.{crossesInCommon}
-use Rattle.overlay.specs.Overlay.{Part, sides, crossings, events, lineOf, part, parts, subdivision, overlay}
+use Rattle.overlay.specs.Overlay.{Part, sides, sideCrossings, overlayEvents, segmentLine, part, parts, subdivision, overlay}
 use Rattle.overlay.specs.Statements.{PartsFit, PartsLines}
 use Rattle.overlay.proofs.Events.{Cell, dividers, groups, complete}
 use Rattle.overlay.proofs.Stack.{stack-all, stack-tags}
@@ -49,8 +49,8 @@ module _ (A B : Trapezoid) where
   abbrev OursBoth : Base → Type 0
   OursBoth k = Ours (k .first) × Ours (k .second)
 
-  crossing-lines : All OursBoth (crossings A B)
-  unfolding crossings
+  crossing-lines : All OursBoth (sideCrossings A B)
+  unfolding sideCrossings
   crossing-lines =
       let a = ours-first in
       let b = ours-second in
@@ -60,31 +60,31 @@ module _ (A B : Trapezoid) where
       let bt = b .1 .1 .1 .1 .1 .0 in
       ((ab, bb), ((ab, bt), ((at, bb), ((at, bt), tt))))
 
-  event-lines : All OursBoth (events A B)
-  unfolding events
+  event-lines : All OursBoth (overlayEvents A B)
+  unfolding overlayEvents
   event-lines =
       let a = ours-first in
       let b = ours-second in
-      ((a .0, a .1 .0), ((a .1 .1 .0, a .1 .1 .1 .0), ((b .0, b .1 .0), ((b .1 .1 .0, b .1 .1 .1 .0), keep-all (crossesInCommon A B) (λ k h t. h) (crossings A B) crossing-lines))))
+      ((a .0, a .1 .0), ((a .1 .1 .0, a .1 .1 .1 .0), ((b .0, b .1 .0), ((b .1 .1 .0, b .1 .1 .1 .0), keep-all (crossesInCommon A B) (λ k h t. h) (sideCrossings A B) crossing-lines))))
 
 module _ {L : ℕ} {A B : Trapezoid} (ha : FitFor L A) (hb : FitFor L B) where
   divider-lines : (p : Base) → All (λ (s : Segment). Ours A B (s .line)) (dividers A B p)
   divider-lines p = keep-all (spans (position p)) (λ s h t. h) (sides A B) (side-lines A B)
 
   -- what holds of the part between each two groups of each column, of which the one is below the other, holds of each part
-  each-part : (R : Part → Type 0) → ((p q : Base) → Cell A B p q → (g h : Segment) → Below lineOf (position p) (position q) (dividers A B p) g h → R (part A B p q g h)) → All R (subdivision A B)
+  each-part : (R : Part → Type 0) → ((p q : Base) → Cell A B p q → (g h : Segment) → Below segmentLine (position p) (position q) (dividers A B p) g h → R (part A B p q g h)) → All R (subdivision A B)
   unfolding subdivision parts
-  each-part R f = sweep-all (λ (s : Segment). s) position (sides A B) (events A B) (parts A B) R (complete ha hb) column
+  each-part R f = sweep-all (λ (s : Segment). s) position (sides A B) (overlayEvents A B) (parts A B) R (complete ha hb) column
     where
       column : (p q : Base) → Cell A B p q → All R (parts A B p q (dividers A B p))
       column p q c =
-          let below = pairs-neighbours (Below lineOf (position p) (position q) (dividers A B p)) (groups A B p) (groups-below lineOf (c .clear)) in
+          let below = pairs-neighbours (Below segmentLine (position p) (position q) (dividers A B p)) (groups A B p) (groups-below segmentLine (c .clear)) in
           stack-all A B p q R (groups A B p) (neighbours-map (f p q c) (groups A B p) below)
 
-  part-lines : (p q : Base) → Cell A B p q → (g h : Segment) → Below lineOf (position p) (position q) (dividers A B p) g h → All (Ours A B) (linesOf (part A B p q g h .trapezoid))
+  part-lines : (p q : Base) → Cell A B p q → (g h : Segment) → Below segmentLine (position p) (position q) (dividers A B p) g h → All (Ours A B) (linesOf (part A B p q g h .trapezoid))
   part-lines p q c g h b =
-      let u = all-member (OursBoth A B) p (events A B) (event-lines A B) (c .first) in
-      let v = all-member (OursBoth A B) q (events A B) (event-lines A B) (c .last) in
+      let u = all-member (OursBoth A B) p (overlayEvents A B) (event-lines A B) (c .first) in
+      let v = all-member (OursBoth A B) q (overlayEvents A B) (event-lines A B) (c .last) in
       let line : (s : Segment) → Member s (dividers A B p) → Ours A B (s .line) = λ s m. all-member (λ (s : Segment). Ours A B (s .line)) s (dividers A B p) (divider-lines p) m in
       (u .0, (u .1, (v .0, (v .1, (line g (b .bottom), (line h (b .top), tt))))))
 
@@ -92,7 +92,7 @@ module _ {L : ℕ} {A B : Trapezoid} (ha : FitFor L A) (hb : FitFor L B) where
   of-ours : (R : Line → Type 0) → All R (linesOf A) → All R (linesOf B) → (ls : List Line) → All (Ours A B) ls → All R ls
   of-ours R a b ls h = all-map (λ l m. all-member R l (linesOf A ++ linesOf B) (all-append R (linesOf A) (linesOf B) a b) m) ls h
 
-  part-fit : (p q : Base) → Cell A B p q → (g h : Segment) → Below lineOf (position p) (position q) (dividers A B p) g h → FitFor L (part A B p q g h .trapezoid)
+  part-fit : (p q : Base) → Cell A B p q → (g h : Segment) → Below segmentLine (position p) (position q) (dividers A B p) g h → FitFor L (part A B p q g h .trapezoid)
   part-fit p q c g h b =
       let t = part A B p q g h .trapezoid in
       let ours = part-lines p q c g h b in
@@ -111,7 +111,7 @@ module _ {L : ℕ} {A B : Trapezoid} (ha : FitFor L A) (hb : FitFor L B) where
   subdivision-tags : All (λ (s : Part). T (not (eqb (s .tag) 0))) (subdivision A B)
   unfolding subdivision parts
   subdivision-tags =
-      sweep-all (λ (s : Segment). s) position (sides A B) (events A B) (parts A B) (λ (s : Part). T (not (eqb (s .tag) 0))) (complete ha hb) (λ p q c. stack-tags A B p q (groups A B p))
+      sweep-all (λ (s : Segment). s) position (sides A B) (overlayEvents A B) (parts A B) (λ (s : Part). T (not (eqb (s .tag) 0))) (complete ha hb) (λ p q c. stack-tags A B p q (groups A B p))
 
   pub overlay-tags : All (λ (s : Part). T (not (eqb (s .tag) 0))) (overlay A B)
   overlay-tags = overlay-cases ha hb (All (λ (s : Part). T (not (eqb (s .tag) 0)))) subdivision-tags (λ n. (tt, (tt, tt)))

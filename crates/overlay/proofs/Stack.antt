@@ -9,7 +9,7 @@ use native.Mathlib.Omega.{arith}
 use lib.Dec.{T, eqb, eqb→eq}
 use lib.ListN.{length}
 use Rattle.lists.specs.Lists.{All, Neighbours}
-use Rattle.lists.specs.Tests.{always, bit, count}
+use Rattle.lists.specs.Tests.{always, bit, countIf}
 use Rattle.lists.proofs.Tests.{true-is, false-is, yes-or-no, cond-cases}
 use Rattle.lists.proofs.Neighbours.{neighbours-map, neighbours-of}
 use Rattle.lists.proofs.Counts.{count-none}
@@ -56,15 +56,15 @@ module _ (A B : Trapezoid) (p q : Base) where
     abbrev W : Segment → ℕ
     W = tagAbove A B (position p)
 
-    stack-none : (gs : List Segment) → All (λ (g : Segment). T (not (f g))) gs → count hit (stack A B p q gs) ≡ 0
+    stack-none : (gs : List Segment) → All (λ (g : Segment). T (not (f g))) gs → countIf hit (stack A B p q gs) ≡ 0
     stack-none gs a = count-none hit (stack A B p q gs) (stack-all (λ (s : Part). hit s ≡ false) gs (neighbours-map miss gs (neighbours-of (λ (g : Segment). T (not (f g))) gs a)))
       where
         miss : (g h : Segment) → T (not (f g)) × T (not (f h)) → hit (part A B p q g h) ≡ false
         miss g h n = let e : f g ≡ false = false-is (n .0) in reads g h ∙ ap (λ (u : Bool). u && not (f h) && t (W g)) e
 
     -- the one part that holds the point has its tag
-    pub stack-count : (gs : List Segment) → Prefix f gs → value always W 0 gs ≡ 0 → count hit (stack A B p q gs) ≡ bit (t (value f W 0 gs))
-    unfolding count
+    pub stack-count : (gs : List Segment) → Prefix f gs → value always W 0 gs ≡ 0 → countIf hit (stack A B p q gs) ≡ bit (t (value f W 0 gs))
+    unfolding countIf
     stack-count [] k e = stack-none [] tt ∙ rw t0
     stack-count (g ∷ []) k e =
         elim (yes-or-no (f g)) [
@@ -72,7 +72,7 @@ module _ (A B : Trapezoid) (p q : Base) where
           | inr b ↦ (let i : f g ≡ false = false-is b in empty ∙ rw (i, t0))
         ]
       where
-        empty : count hit (stack A B p q (g ∷ [])) ≡ 0
+        empty : countIf hit (stack A B p q (g ∷ [])) ≡ 0
         empty = unfold stack in refl
     stack-count (g ∷ h ∷ gs) k e =
         let ih = stack-count (h ∷ gs) (k .1) e in
@@ -83,15 +83,15 @@ module _ (A B : Trapezoid) (p q : Base) where
                 let i : f g ≡ true = true-is b in
                 let j : f h ≡ true = true-is c in
                 let ih′ = rw j at ih in
-                stack-cases (λ (ss : List Part). count hit ss ≡ bit (t (value f W 0 (g ∷ h ∷ gs)))) g h gs
+                stack-cases (λ (ss : List Part). countIf hit ss ≡ bit (t (value f W 0 (g ∷ h ∷ gs)))) g h gs
                 (λ z. rw (i, j) ih′)
-                (λ z. rw (reads g h, i, j) (zero-add (count hit (stack A B p q (h ∷ gs))) ∙ ih′))
+                (λ z. rw (reads g h, i, j) (zero-add (countIf hit (stack A B p q (h ∷ gs))) ∙ ih′))
                 )
             | inr c ↦ (
                 let i : f g ≡ true = true-is b in
                 let j : f h ≡ false = false-is c in
                 let n = stack-none (h ∷ gs) (c, k .1 .0 c) in
-                stack-cases (λ (ss : List Part). count hit ss ≡ bit (t (value f W 0 (g ∷ h ∷ gs)))) g h gs (λ z. rw (i, j, z, t0) n) (λ z. rw (reads g h, i, j, n) (add-zero (bit (t (W g)))))
+                stack-cases (λ (ss : List Part). countIf hit ss ≡ bit (t (value f W 0 (g ∷ h ∷ gs)))) g h gs (λ z. rw (i, j, z, t0) n) (λ z. rw (reads g h, i, j, n) (add-zero (bit (t (W g)))))
                 )
           ]
         ]

@@ -12,7 +12,7 @@ use Rattle.lists.specs.Lists.{All, Any, Neighbours}
 use Rattle.lists.specs.Tests.{total}
 use Rattle.lists.proofs.Lists.{any-elim, all-both}
 use Rattle.integer.specs.Fraction.{Fraction}
-use Rattle.levels.specs.Levels.{Level, Ordered, insert, levels, Rising}
+use Rattle.levels.specs.Levels.{Level, StrictWeakOrder, insert, levels, Rising}
 use Rattle.levels.proofs.Order.{less-at-most}
 use Rattle.levels.proofs.Laws.{insert-cases, levels-all, levels-rising}
 use Rattle.sweep.specs.Segments.{Segment, spanning}
@@ -37,7 +37,7 @@ module _ {A : Type 0} (c : A → ℕ) where
     levels-total (x ∷ xs) = let h = insert-total x (levels less xs) in let k = levels-total xs in omega arith
 
     -- where level elements cost the same, an element that is level with another costs nothing
-    module _ {Good : A → Type 0} (o : Ordered less Good) (same : (x y : A) → Good x → Good y → Level less x y → c x ≡ c y) where
+    module _ {Good : A → Type 0} (o : StrictWeakOrder less Good) (same : (x y : A) → Good x → Good y → Level less x y → c x ≡ c y) where
       insert-same : (x : A) (ys : List A) → Good x → All Good ys → Rising less ys → Any (Level less x) ys → total c (insert less x ys) ≤ total c ys
       unfolding insert
       insert-same x [] gx g r a = absurd a

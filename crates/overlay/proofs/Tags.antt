@@ -8,7 +8,7 @@ use native.Mathlib.Omega.{arith}
 use lib.Dec.{T, T-not, eqb}
 use mir.Facts.{yes-and}
 use Rattle.lists.specs.Lists.{All, Pairs, Member}
-use Rattle.lists.specs.Tests.{bit, count}
+use Rattle.lists.specs.Tests.{bit, countIf}
 use Rattle.lists.proofs.Tests.{true-is, is-true, is-false}
 use Rattle.lists.proofs.Lists.{all-with}
 use Rattle.lists.proofs.Members.{all-member, members}
@@ -24,13 +24,13 @@ use Rattle.overlay.proofs.Parts.{overlay-tags}
 
 -- ---- the trapezoids of a tag
 -- a point lies in one of them exactly if a part of the tag that it lies in is counted
-tagged-count : (P : Point) (n : ℕ) (ss : List Part) → LiesInLayer P (tagged n ss) ↔ (0 < count (hit P (λ (m : ℕ). eqb m n)) ss)
-unfolding tagged count
+tagged-count : (P : Point) (n : ℕ) (ss : List Part) → LiesInLayer P (tagged n ss) ↔ (0 < countIf (hit P (λ (m : ℕ). eqb m n)) ss)
+unfolding tagged countIf
 tagged-count P n [] = ((λ h. absurd h), (λ h. omega arith))
 tagged-count P n (s ∷ ss) = go (eqb (s .tag) n) (liesIn P (s .trapezoid)) refl (tagged-count P n ss)
   where
-    go : (u v : Bool) → liesIn P (s .trapezoid) ≡ v → LiesInLayer P (tagged n ss) ↔ (0 < count (hit P (λ (m : ℕ). eqb m n)) ss)
-        → (LiesInLayer P (cond u (s .trapezoid ∷ tagged n ss) (tagged n ss)) ↔ (0 < bit (v && u) + count (hit P (λ (m : ℕ). eqb m n)) ss))
+    go : (u v : Bool) → liesIn P (s .trapezoid) ≡ v → LiesInLayer P (tagged n ss) ↔ (0 < countIf (hit P (λ (m : ℕ). eqb m n)) ss)
+        → (LiesInLayer P (cond u (s .trapezoid ∷ tagged n ss) (tagged n ss)) ↔ (0 < bit (v && u) + countIf (hit P (λ (m : ℕ). eqb m n)) ss))
     go true true e k = ((λ h. omega arith), (λ h. inl (is-true e)))
     go true false e k = (
       (λ h. elim h [ inl a ↦ absurd (T-not (liesIn P (s .trapezoid)) (is-false e) a) | inr a ↦ (let j = k .0 a in omega arith) ]),
@@ -77,9 +77,9 @@ tag-three L A B ha hb P hP = let c = of-tag L A B ha hb 3 refl P hP in let d = t
 
 -- ---- apart
 -- of parts none of which has the tag 0, if no point is counted twice
-counted-apart : (ss : List Part) → All (λ (s : Part). T (not (eqb (s .tag) 0))) ss → ((P : Point) → IsPoint P → count (hit P (λ (m : ℕ). not (eqb m 0))) ss ≤ 1)
+counted-apart : (ss : List Part) → All (λ (s : Part). T (not (eqb (s .tag) 0))) ss → ((P : Point) → IsPoint P → countIf (hit P (λ (m : ℕ). not (eqb m 0))) ss ≤ 1)
     → Pairs (λ (s t : Part). Apart (s .trapezoid) (t .trapezoid)) ss
-unfolding count
+unfolding countIf
 counted-apart [] h k = tt
 counted-apart (s ∷ ss) h k = (all-with later ss (members ss) (h .1), counted-apart ss (h .1) (λ P hP. let j = k P hP in omega arith))
   where
@@ -90,12 +90,12 @@ counted-apart (s ∷ ss) h k = (all-with later ss (members ss) (h .1), counted-a
     later r m n P hP a b =
         let e : hit P asked s ≡ true = true-is (yes-and (liesIn P (s .trapezoid)) (asked (s .tag)) a (h .0)) in
         let f = ap bit e in
-        let g = all-member (λ (x : Part). T (hit P asked x) → 0 < count (hit P asked) ss) r ss (count-some (hit P asked) ss) m (yes-and (liesIn P (r .trapezoid)) (asked (r .tag)) b n) in
+        let g = all-member (λ (x : Part). T (hit P asked x) → 0 < countIf (hit P asked) ss) r ss (count-some (hit P asked) ss) m (yes-and (liesIn P (r .trapezoid)) (asked (r .tag)) b n) in
         let j = k P hP in
         omega arith
 
 pub parts-apart : PartsApart
 parts-apart L A B ha hb = counted-apart (overlay A B) (overlay-tags ha hb) once
   where
-    once : (P : Point) → IsPoint P → count (hit P (λ (m : ℕ). not (eqb m 0))) (overlay A B) ≤ 1
+    once : (P : Point) → IsPoint P → countIf (hit P (λ (m : ℕ). not (eqb m 0))) (overlay A B) ≤ 1
     once P hP = let e = overlay-count ha hb P hP (λ (m : ℕ). not (eqb m 0)) refl in rw e (bit-most (not (eqb (tagOf (liesIn P A) (liesIn P B)) 0)))

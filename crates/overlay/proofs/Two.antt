@@ -14,7 +14,7 @@ use Rattle.lists.proofs.Tests.{true-is, false-is, yes-or-no, cond-cases}
 use Rattle.integer.specs.Fraction.{Fraction, Proper, before, mediant}
 use Rattle.integer.proofs.Linear.{zarith}
 use Rattle.integer.proofs.Fraction.{at-most-before-trans, mediant-proper, mediant-after, mediant-before}
-use Rattle.levels.specs.Levels.{Ordered, insert, levels}
+use Rattle.levels.specs.Levels.{StrictWeakOrder, insert, levels}
 use Rattle.levels.proofs.Order.{at-most-refl, less-at-most, at-most-less, less-trans}
 use Rattle.geometry.specs.declared.Line.{Line}
 use Rattle.geometry.specs.declared.Base.{Base}
@@ -29,13 +29,13 @@ use Rattle.sweep.specs.Segments.{Segment, spans}
 use Rattle.sweep.specs.Columns.{lower}
 use Rattle.sweep.proofs.Column.{lower-order}
 use Rattle.overlay.specs.Overlaps.{overlapRight}
-use Rattle.overlay.specs.Overlay.{Part, tagOf, along, inRange, sides, lineOf, fills, tagAbove, stack, parts}
+use Rattle.overlay.specs.Overlay.{Part, tagOf, along, inRange, sides, segmentLine, fills, tagAbove, stack, parts}
 use Rattle.overlay.proofs.Events.{dividers}
 use Rattle.overlay.proofs.Count.{fill-top}
 use Rattle.overlay.proofs.Stack.{stack-cases, stack-length}
 
 -- ---- two pairs w < x and y < z with x at most y, put in order: y z w x and w x y z
-module _ {S : Type 0} {less : S → S → Bool} {Good : S → Type 0} (o : Ordered less Good) (w x y z : S) (gw : Good w) (gx : Good x) (gy : Good y) (gz : Good z)
+module _ {S : Type 0} {less : S → S → Bool} {Good : S → Type 0} (o : StrictWeakOrder less Good) (w x y z : S) (gw : Good w) (gx : Good x) (gy : Good y) (gz : Good z)
     (wx : T (less w x)) (xy : T (not (less y x))) (yz : T (less y z)) where
   wy : T (less w y)
   wy = less-at-most less o w x y gw gx gy wx xy
@@ -47,7 +47,7 @@ module _ {S : Type 0} {less : S → S → Bool} {Good : S → Type 0} (o : Order
   wz = less-trans less o w x z gw gx gz wx xz
 
   -- all tests of two of them, but of x and y
-  record Chain : Type 0 where
+  record InOrder : Type 0 where
     w-x : less w x ≡ true
     x-w : less x w ≡ false
     w-y : less w y ≡ true
@@ -60,8 +60,8 @@ module _ {S : Type 0} {less : S → S → Bool} {Good : S → Type 0} (o : Order
     z-y : less z y ≡ false
     y-x : less y x ≡ false
 
-  chain : Chain
-  chain =
+  in-order : InOrder
+  in-order =
       record {
         w-x = true-is wx;
         x-w = false-is (o .asymmetric w x wx);
@@ -78,17 +78,17 @@ module _ {S : Type 0} {less : S → S → Bool} {Good : S → Type 0} (o : Order
 
   later-first : levels less (y ∷ z ∷ w ∷ x ∷ []) ≡ cond (less x y) (w ∷ x ∷ y ∷ z ∷ []) (w ∷ y ∷ z ∷ [])
   unfolding levels insert
-  later-first = go (less x y) refl chain
+  later-first = go (less x y) refl in-order
     where
-      go : (b : Bool) → less x y ≡ b → Chain → levels less (y ∷ z ∷ w ∷ x ∷ []) ≡ cond b (w ∷ x ∷ y ∷ z ∷ []) (w ∷ y ∷ z ∷ [])
+      go : (b : Bool) → less x y ≡ b → InOrder → levels less (y ∷ z ∷ w ∷ x ∷ []) ≡ cond b (w ∷ x ∷ y ∷ z ∷ []) (w ∷ y ∷ z ∷ [])
       go true e c = cc
       go false e c = cc
 
   earlier-first : levels less (w ∷ x ∷ y ∷ z ∷ []) ≡ cond (less x y) (w ∷ x ∷ y ∷ z ∷ []) (w ∷ x ∷ z ∷ [])
   unfolding levels insert
-  earlier-first = go (less x y) refl chain
+  earlier-first = go (less x y) refl in-order
     where
-      go : (b : Bool) → less x y ≡ b → Chain → levels less (w ∷ x ∷ y ∷ z ∷ []) ≡ cond b (w ∷ x ∷ y ∷ z ∷ []) (w ∷ x ∷ z ∷ [])
+      go : (b : Bool) → less x y ≡ b → InOrder → levels less (w ∷ x ∷ y ∷ z ∷ []) ≡ cond b (w ∷ x ∷ y ∷ z ∷ []) (w ∷ x ∷ z ∷ [])
       go true e c = cc
       go false e c = cc
 
@@ -143,11 +143,11 @@ module _ {L : ℕ} {A B : Trapezoid} (ha : FitFor L A) (hb : FitFor L B) (p q : 
   unfolding keep sides spans
   all-divide = let u : inRange (position p) A ≡ true = true-is uA in let v : inRange (position p) B ≡ true = true-is uB in rw (u, v)
 
-  order : Ordered (lower lineOf (position p)) (λ (s : Segment). IsLine (s .line))
-  order = lower-order lineOf (position p)
+  order : StrictWeakOrder (lower segmentLine (position p)) (λ (s : Segment). IsLine (s .line))
+  order = lower-order segmentLine (position p)
 
   -- B at or below A
-  second-first : T (not (below (position p) (A .bottom) (B .top))) → length (stack A B p q (levels (lower lineOf (position p)) (sides A B))) ≤ 2
+  second-first : T (not (below (position p) (A .bottom) (B .top))) → length (stack A B p q (levels (lower segmentLine (position p)) (sides A B))) ≤ 2
   unfolding sides tagAbove
   second-first h =
       let w = along B (B .bottom) in
@@ -160,7 +160,7 @@ module _ {L : ℕ} {A B : Trapezoid} (ha : FitFor L A) (hb : FitFor L B) (p q : 
       (λ k. stack-length A B p q (w ∷ y ∷ z ∷ [])))
 
   -- A at or below B
-  first-first : T (not (below (position p) (B .bottom) (A .top))) → length (stack A B p q (levels (lower lineOf (position p)) (sides A B))) ≤ 2
+  first-first : T (not (below (position p) (B .bottom) (A .top))) → length (stack A B p q (levels (lower segmentLine (position p)) (sides A B))) ≤ 2
   unfolding sides tagAbove
   first-first h =
       let w = along A (A .bottom) in

@@ -42,17 +42,17 @@ unfoldable pub sides : Trapezoid → Trapezoid → List Segment
 sides A B = along A (A .bottom) ∷ along A (A .top) ∷ along B (B .bottom) ∷ along B (B .top) ∷ []
 
 -- each side of A with each side of B
-unfoldable pub crossings : Trapezoid → Trapezoid → List Base
-crossings A B = crossing (A .bottom) (B .bottom) ∷ crossing (A .bottom) (B .top) ∷ crossing (A .top) (B .bottom) ∷ crossing (A .top) (B .top) ∷ []
+unfoldable pub sideCrossings : Trapezoid → Trapezoid → List Base
+sideCrossings A B = crossing (A .bottom) (B .bottom) ∷ crossing (A .bottom) (B .top) ∷ crossing (A .top) (B .bottom) ∷ crossing (A .top) (B .top) ∷ []
 
 -- "stops are the four bases and the crossings of a side of A with a side of B strictly inside the common range"; "Equal stops take the first
 -- name of: A left, A right, B left, B right, bottom-bottom, A bottom with B top, A top with B bottom, top-top; a crossing names A's side first"
-unfoldable pub events : Trapezoid → Trapezoid → List Base
-events A B = A .left ∷ A .right ∷ B .left ∷ B .right ∷ keep (crossesInCommon A B) (crossings A B)
+unfoldable pub overlayEvents : Trapezoid → Trapezoid → List Base
+overlayEvents A B = A .left ∷ A .right ∷ B .left ∷ B .right ∷ keep (crossesInCommon A B) (sideCrossings A B)
 
 -- ---- a column
-abbrev pub lineOf : Segment → Line
-lineOf s = s .line
+abbrev pub segmentLine : Segment → Line
+segmentLine s = s .line
 
 -- right of p what is just above the line g lies in t: p is in the range of t, and g is at or above the bottom and below the top
 unfoldable pub fills : Fraction → Trapezoid → Line → Bool
@@ -75,11 +75,11 @@ module _ (A B : Trapezoid) where
 
   -- "In a column only the sides of pieces whose range holds it divide it": ss are those sides, put in order right of p
   unfoldable pub parts : Base → Base → List Segment → List Part
-  parts p q ss = stack p q (levels (lower lineOf (position p)) ss)
+  parts p q ss = stack p q (levels (lower segmentLine (position p)) ss)
 
   -- "Columns go left to right."
   unfoldable pub subdivision : List Part
-  subdivision = sweep (λ (s : Segment). s) position parts (sides A B) (events A B)
+  subdivision = sweep (λ (s : Segment). s) position parts (sides A B) (overlayEvents A B)
 
 -- "with no rational point in both, the answer is A tagged 1, then B tagged 2, whole"
 unfoldable pub overlay : Trapezoid → Trapezoid → List Part

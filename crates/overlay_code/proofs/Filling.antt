@@ -35,7 +35,7 @@ use Rattle.sweep.proofs.Loop.{from, sweep-none, sweep-start, sweep-turn, sweep-
 use Rattle.overlay.specs.declared.EventList.{EventList}
 use Rattle.overlay.specs.declared.Column.{Column}
 use Rattle.overlay.specs.Overlaps.{overlaps}
-use Rattle.overlay.specs.Overlay.{Part, sides, events, inRange, parts, subdivision, overlay, tagged}
+use Rattle.overlay.specs.Overlay.{Part, sides, overlayEvents, inRange, parts, subdivision, overlay, tagged}
 use Rattle.overlay.proofs.Events.{complete}
 use Rattle.geometry_code.specs.Code.{fractionOf}
 use Rattle.trapezoids_code.specs.Tails.{inFront, Borrowed, FilledAs}
@@ -73,30 +73,30 @@ module _ {A B : Trapezoid} (ha : FitFor coordinateLimit A) (hb : FitFor coordina
 module _ (A B : Trapezoid) where
   -- what is left to fill from the event k on
   abbrev pub rest : Base → List Part
-  rest k = from (λ (s : Segment). s) position (parts A B) (sides A B) (events A B) k
+  rest k = from (λ (s : Segment). s) position (parts A B) (sides A B) (overlayEvents A B) k
 
   -- how many events are left after k
   abbrev pub left : Base → ℕ
-  left k = length (beyond (earlier position) (some k) (levels (earlier position) (events A B)))
+  left k = length (beyond (earlier position) (some k) (levels (earlier position) (overlayEvents A B)))
 
   abbrev divide : Base → List Segment
   divide k = spanning (λ (s : Segment). s) (position k) (sides A B)
 
-  module _ (ha : FitFor coordinateLimit A) (hb : FitFor coordinateLimit B) (v : EventList) (names : namesOf v ≡ events A B) where
-    proper : All (Placed position) (events A B)
+  module _ (ha : FitFor coordinateLimit A) (hb : FitFor coordinateLimit B) (v : EventList) (names : namesOf v ≡ overlayEvents A B) where
+    proper : All (Placed position) (overlayEvents A B)
     proper = complete ha hb .proper
 
-    next-is : (g : Option Base) (r : Next) → NextAmong (namesOf v) g r → next (earlier position) g (events A B) ≡ optionOf r
+    next-is : (g : Option Base) (r : Next) → NextAmong (namesOf v) g r → next (earlier position) g (overlayEvents A B) ≡ optionOf r
     next-is g r h =
-        sym (h .is ∙ ap (scan (earlier position) none g) names ∙ scan-is-next (earlier position) (Placed position) (placed-order position) g (events A B) proper)
+        sym (h .is ∙ ap (scan (earlier position) none g) names ∙ scan-is-next (earlier position) (Placed position) (placed-order position) g (overlayEvents A B) proper)
 
-    next-proper : (g : Option Base) (k : Base) → next (earlier position) g (events A B) ≡ some k → Proper (position k)
-    next-proper g k e = subst (IfSome (Placed position)) e (next-all (earlier position) (Placed position) g (events A B) proper)
+    next-proper : (g : Option Base) (k : Base) → next (earlier position) g (overlayEvents A B) ≡ some k → Proper (position k)
+    next-proper g k e = subst (IfSome (Placed position)) e (next-all (earlier position) (Placed position) g (overlayEvents A B) proper)
 
     -- no event at all
     pub no-event : (r : Next) → r ≡ Nothing → NextAmong (namesOf v) none r → subdivision A B ≡ []
     unfolding subdivision
-    no-event r e h = sweep-none (λ (s : Segment). s) position (parts A B) (sides A B) (events A B) proper (next-is none r h ∙ ap optionOf e)
+    no-event r e h = sweep-none (λ (s : Segment). s) position (parts A B) (sides A B) (overlayEvents A B) proper (next-is none r h ∙ ap optionOf e)
 
     -- the first event
     module _ (r : Next) (k : Event) (e : r ≡ Found k) (h : NextAmong (namesOf v) none r) where
@@ -105,25 +105,25 @@ module _ (A B : Trapezoid) where
 
       pub first-event : subdivision A B ≡ rest (k .base)
       unfolding subdivision
-      first-event = sweep-start (λ (s : Segment). s) position (parts A B) (sides A B) (events A B) proper (k .base) (next-is none r h ∙ ap optionOf e)
+      first-event = sweep-start (λ (s : Segment). s) position (parts A B) (sides A B) (overlayEvents A B) proper (k .base) (next-is none r h ∙ ap optionOf e)
 
     -- the event after p, or none
     module _ (p : Base) (hp : Proper (position p)) (r : Next) (h : NextAmong (namesOf v) (some p) r) where
       pub last-event : r ≡ Nothing → rest p ≡ []
-      last-event e = sweep-stop (λ (s : Segment). s) position (parts A B) (sides A B) (events A B) proper p hp (next-is (some p) r h ∙ ap optionOf e)
+      last-event e = sweep-stop (λ (s : Segment). s) position (parts A B) (sides A B) (overlayEvents A B) proper p hp (next-is (some p) r h ∙ ap optionOf e)
 
       module _ (k : Event) (e : r ≡ Found k) where
-        found : next (earlier position) (some p) (events A B) ≡ some (k .base)
+        found : next (earlier position) (some p) (overlayEvents A B) ≡ some (k .base)
         found = next-is (some p) r h ∙ ap optionOf e
 
         pub later-proper : Proper (position (k .base))
         later-proper = next-proper (some p) (k .base) found
 
         pub later-event : rest p ≡ parts A B p (k .base) (divide p) ++ rest (k .base)
-        later-event = sweep-turn (λ (s : Segment). s) position (parts A B) (sides A B) (events A B) proper p (k .base) hp found
+        later-event = sweep-turn (λ (s : Segment). s) position (parts A B) (sides A B) (overlayEvents A B) proper p (k .base) hp found
 
         pub fewer : left (k .base) < left p
-        fewer = let e = ap length (next-some (earlier position) (placed-order position) (some p) (events A B) (k .base) hp proper found) in omega (arith, e)
+        fewer = let e = ap length (next-some (earlier position) (placed-order position) (some p) (overlayEvents A B) (k .base) hp proper found) in omega (arith, e)
 
 pub found-event : (r : Next) (k : Event) → r ≡ Found k → NextPlaced r → EventOf k
 found-event r k e h = subst NextPlaced e h

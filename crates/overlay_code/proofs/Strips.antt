@@ -13,7 +13,7 @@ use Rattle.lists.proofs.Tests.{true-is, false-is, is-true, is-false, yes-or-no,
 use Rattle.lists.proofs.Conjunction.{rest-fails}
 use Rattle.lists.proofs.Members.{all-member}
 use Rattle.integer.specs.Fraction.{Fraction, Proper, before}
-use Rattle.levels.specs.Levels.{AtMost, Level, Ordered, insert, levels, above, Rising}
+use Rattle.levels.specs.Levels.{AtMost, Level, StrictWeakOrder, insert, levels, above, Rising}
 use Rattle.levels.proofs.Order.{at-most-refl, level-refl, less-at-most, at-most-less, less-trans}
 use Rattle.levels.proofs.Laws.{insert-cases, levels-all}
 use Rattle.geometry.specs.declared.Base.{Base}
@@ -23,7 +23,7 @@ use Rattle.geometry.specs.Fitness.{FitFor}
 use Rattle.geometry.proofs.Heights.{below→not-below, right-trans}
 use Rattle.sweep.specs.Segments.{Segment, spans, spanning}
 use Rattle.sweep.specs.Columns.{lower}
-use Rattle.overlay.specs.Overlay.{tagOf, inRange, sides, lineOf, fills, tagAbove, stack, parts, tagged}
+use Rattle.overlay.specs.Overlay.{tagOf, inRange, sides, segmentLine, fills, tagAbove, stack, parts, tagged}
 use Rattle.trapezoids_code.specs.Tails.{inFront}
 use Rattle.columns_code.specs.Order.{sideNumbers, HasSides, lineOfSide, presentBy, numberLess, orderAt, passing, enterA, enterB, strip, stripsFrom, strips}
 use Rattle.columns_code.proofs.NumberOrder.{has-side, own-below, present-less, less-present, below-less, less-not-below, less-below, first-sides, second-sides, side-line, number-ordered, number-total, order-rising, order-members}
@@ -74,15 +74,15 @@ module _ (A B : Trapezoid) (x : Fraction) (fa fb : Bool) where
 
 -- a side put into groups of which z is the first: before it, in its place or after it
 module _ (A B : Trapezoid) (x : Fraction) (y z : ℕ) (gs : List Segment) where
-  insert-before : T (under A B x y z) → insert (lower lineOf x) (sideOf A B y) (sideOf A B z ∷ gs) ≡ sideOf A B y ∷ sideOf A B z ∷ gs
+  insert-before : T (under A B x y z) → insert (lower segmentLine x) (sideOf A B y) (sideOf A B z ∷ gs) ≡ sideOf A B y ∷ sideOf A B z ∷ gs
   unfolding insert sideOf
   insert-before h = cond-yes (under A B x y z) _ _ h
 
-  insert-place : T (not (under A B x y z)) → T (not (under A B x z y)) → insert (lower lineOf x) (sideOf A B y) (sideOf A B z ∷ gs) ≡ sideOf A B y ∷ gs
+  insert-place : T (not (under A B x y z)) → T (not (under A B x z y)) → insert (lower segmentLine x) (sideOf A B y) (sideOf A B z ∷ gs) ≡ sideOf A B y ∷ gs
   unfolding insert sideOf
   insert-place h k = cond-no (under A B x y z) _ _ h ∙ cond-no (under A B x z y) _ _ k
 
-  insert-after : T (under A B x z y) → insert (lower lineOf x) (sideOf A B y) (sideOf A B z ∷ gs) ≡ sideOf A B z ∷ insert (lower lineOf x) (sideOf A B y) gs
+  insert-after : T (under A B x z y) → insert (lower segmentLine x) (sideOf A B y) (sideOf A B z ∷ gs) ≡ sideOf A B z ∷ insert (lower segmentLine x) (sideOf A B y) gs
   unfolding insert sideOf
   insert-after h = cond-no (under A B x y z) _ _ (below→not-below x (lineOfSide A B z) (lineOfSide A B y) h) ∙ cond-yes (under A B x z y) _ _ h
 
@@ -93,7 +93,7 @@ module _ {L : ℕ} {A B : Trapezoid} (ha : FitFor L A) (hb : FitFor L B) (x : Fr
   abbrev cut : Option ℕ → List ℕ → List Segment
   cut g zs = groups A B x fa fb g zs
 
-  under-ordered : Ordered (under A B x) (λ (i : ℕ). Unit {0})
+  under-ordered : StrictWeakOrder (under A B x) (λ (i : ℕ). Unit {0})
   under-ordered =
       record {
         asymmetric = λ i j. below→not-below x (lineOfSide A B i) (lineOfSide A B j);
@@ -135,7 +135,7 @@ module _ {L : ℕ} {A B : Trapezoid} (ha : FitFor L A) (hb : FitFor L B) (x : Fr
       level l = ap (λ (w : ℕ). cut g (w ∷ zs)) (number-total ha hb x fa fb y z l)
 
   -- a present side of the least number goes to the same place in the groups as in the order
-  insert-present : (y : ℕ) → T (presentBy fa fb y) → (g : Option ℕ) → T (above (under A B x) g y) → (zs : List ℕ) → All (λ (z : ℕ). T (ltb y z)) zs → cut g (insert less y zs) ≡ insert (lower lineOf x) (sideOf A B y) (cut g zs)
+  insert-present : (y : ℕ) → T (presentBy fa fb y) → (g : Option ℕ) → T (above (under A B x) g y) → (zs : List ℕ) → All (λ (z : ℕ). T (ltb y z)) zs → cut g (insert less y zs) ≡ insert (lower segmentLine x) (sideOf A B y) (cut g zs)
   unfolding insert groups
   insert-present y hy g a [] n = groups-new A B x fa fb g y [] hy a
   insert-present y hy g a (z ∷ zs) n =
@@ -145,7 +145,7 @@ module _ {L : ℕ} {A B : Trapezoid} (ha : FitFor L A) (hb : FitFor L B) (x : Fr
       (λ l. let e = number-total ha hb x fa fb y z l in let k = ltb→lt y z (n .0) in absurd (omega arith))
     where
       into : List Segment → List Segment
-      into gs = insert (lower lineOf x) (sideOf A B y) gs
+      into gs = insert (lower segmentLine x) (sideOf A B y) gs
 
       before : T (less y z) → cut g (y ∷ z ∷ zs) ≡ into (cut g (z ∷ zs))
       before h = groups-new A B x fa fb g y (z ∷ zs) hy a ∙ elim (yes-or-no (presentBy fa fb z)) [ inl k ↦ here k | inr k ↦ end k ]
@@ -184,7 +184,7 @@ module _ {L : ℕ} {A B : Trapezoid} (ha : FitFor L A) (hb : FitFor L B) (x : Fr
     spans-present i = side-spans A B x i ∙ sym (ap₂ (λ (s t : Bool). presentBy s t i) ea eb)
 
     -- in the order of rising numbers
-    groups-numbered : (is : List ℕ) → Pairs (λ (i j : ℕ). T (ltb i j)) is → cut none (levels less is) ≡ levels (lower lineOf x) (keep (spans x) (sidesOf A B is))
+    groups-numbered : (is : List ℕ) → Pairs (λ (i j : ℕ). T (ltb i j)) is → cut none (levels less is) ≡ levels (lower segmentLine x) (keep (spans x) (sidesOf A B is))
     unfolding levels keep groups
     groups-numbered [] r = refl
     groups-numbered (i ∷ is) r =
@@ -197,16 +197,16 @@ module _ {L : ℕ} {A B : Trapezoid} (ha : FitFor L A) (hb : FitFor L B) (x : Fr
           | inr k ↦ (let e : spans x (sideOf A B i) ≡ false = spans-present i ∙ false-is k in insert-absent i k none (levels less is) ∙ rw (e, ih))
         ]
 
-    groups-exact : cut none (orderAt A B x fa fb) ≡ levels (lower lineOf x) (spanning (λ (s : Segment). s) x (sides A B))
+    groups-exact : cut none (orderAt A B x fa fb) ≡ levels (lower segmentLine x) (spanning (λ (s : Segment). s) x (sides A B))
     unfolding orderAt
-    groups-exact = groups-numbered sideNumbers ((tt, (tt, (tt, tt))), ((tt, (tt, tt)), ((tt, tt), (tt, tt)))) ∙ ap (λ (ss : List Segment). levels (lower lineOf x) (keep (spans x) ss)) (sym (sides-numbered A B))
+    groups-exact = groups-numbered sideNumbers ((tt, (tt, (tt, tt))), ((tt, (tt, tt)), ((tt, tt), (tt, tt)))) ∙ ap (λ (ss : List Segment). levels (lower segmentLine x) (keep (spans x) ss)) (sym (sides-numbered A B))
 
 -- ---- the flags
 unequal : (i j : ℕ) → T (not (eqb i j)) → i ≡ j → ⊥
 unequal i j n e = T-not (eqb i j) n (subst (λ (k : ℕ). T (eqb i k)) e (eqb-refl i))
 
 module _ {L : ℕ} {A B : Trapezoid} (ha : FitFor L A) (hb : FitFor L B) (x : Fraction) (fa fb : Bool) where
-  o : Ordered (numberLess A B x fa fb) (λ (i : ℕ). Unit {0})
+  o : StrictWeakOrder (numberLess A B x fa fb) (λ (i : ℕ). Unit {0})
   o = number-ordered ha hb x fa fb
 
   not-itself : (i : ℕ) → numberLess A B x fa fb i i ≡ false

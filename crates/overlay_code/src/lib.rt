@@ -101,8 +101,8 @@ fn fill_column(
         if !columns_code::present(in_a, in_b, z) {
             return Fill::Written(n);
         }
-        let bottom = columns_code::side(a, b, lower);
-        let top = columns_code::side(a, b, z);
+        let bottom = columns_code::line_of_side(a, b, lower);
+        let top = columns_code::line_of_side(a, b, z);
         let rises = geometry_code::is_below(bottom, top, at);
         let yes = wanted(rises, inside_a, inside_b, tag);
         let t = Trapezoid {

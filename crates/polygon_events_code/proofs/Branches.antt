@@ -13,7 +13,7 @@ use Rattle.geometry.specs.declared.Line.{Line}
 use Rattle.geometry.specs.declared.Base.{Base}
 use Rattle.geometry.specs.declared.Position.{Position}
 use Rattle.geometry.specs.declared.Crossing.{Crossing}
-use Rattle.geometry.specs.declared.Crossing.the-variants.{Parallel, At}
+use Rattle.geometry.specs.declared.Crossing.the-variants.{Nowhere, At}
 use Rattle.geometry.specs.Positions.{crosses, meet, position}
 use Rattle.sweep.specs.Segments.{spans, inside, crossInside}
 use Rattle.sweep.specs.declared.Event.{Event}
@@ -22,7 +22,7 @@ use Rattle.fracture.specs.declared.Span.{Span}
 use Rattle.fracture.specs.Polygons.{whole}
 use Rattle.fracture.specs.Fracture.{axis, lineBy, mark}
 use Rattle.fracture.proofs.Marks.{mark-cases, mark-position}
-use Rattle.geometry_code.specs.Code.{fractionOf, Small}
+use Rattle.geometry_code.specs.Code.{fractionOf, SmallPosition}
 use Rattle.sweep_code.specs.Events.{EventOf, NextPlaced, Better}
 use Rattle.polygon_events_code.specs.Code.{PlacedAt, MarkOf, SpanOf, lineSegment, baseOf, CrossingInside, WithPair}
 
@@ -83,22 +83,22 @@ module _ (p : Position) (l : Line) (s : Span) (h : SpanOf l s) where
 
 -- ---- crossings
 module _ (l m : Line) where
-  pub cross-parallel : crosses l m ≡ false → CrossingInside l m Parallel
+  pub cross-parallel : crosses l m ≡ false → CrossingInside l m Nowhere
   unfolding crossInside
   cross-parallel e = rw e
 
-  module _ (p : Position) (h : (crosses l m ≡ true) × (fractionOf p ≡ meet l m) × Small p) where
+  module _ (p : Position) (h : (crosses l m ≡ true) × (fractionOf p ≡ meet l m) × SmallPosition p) where
     at-first : inside (meet l m) (lineSegment l) ≡ inside (fractionOf p) (lineSegment l)
     at-first = ap (λ (x : Fraction). inside x (lineSegment l)) (sym (h .1))
 
     at-second : inside (meet l m) (lineSegment m) ≡ inside (fractionOf p) (lineSegment m)
     at-second = ap (λ (x : Fraction). inside x (lineSegment m)) (sym (h .1))
 
-    pub cross-first : inside (fractionOf p) (lineSegment l) ≡ false → CrossingInside l m Parallel
+    pub cross-first : inside (fractionOf p) (lineSegment l) ≡ false → CrossingInside l m Nowhere
     unfolding crossInside
     cross-first e = rw (h .0, at-first ∙ e)
 
-    pub cross-second : inside (fractionOf p) (lineSegment l) ≡ true → inside (fractionOf p) (lineSegment m) ≡ false → CrossingInside l m Parallel
+    pub cross-second : inside (fractionOf p) (lineSegment l) ≡ true → inside (fractionOf p) (lineSegment m) ≡ false → CrossingInside l m Nowhere
     unfolding crossInside
     cross-second e f = rw (h .0, at-first ∙ e, at-second ∙ f)
 
@@ -110,7 +110,7 @@ module _ (l m : Line) where
     cross-both e f = (cross-yes e f, record { is = h .1; small = h .2 })
 
   module _ (r : Crossing) (h : CrossingInside l m r) (best : Next) (g : Option Base) where
-    pub pair-none : r ≡ Parallel → NextPlaced best → WithPair best g l m best
+    pub pair-none : r ≡ Nowhere → NextPlaced best → WithPair best g l m best
     pair-none e k = record { is = rw (subst (CrossingInside l m) e h); placed = k }
 
     pub pair-at : (p : Position) → r ≡ At p → (e : Event) → e .base ≡ baseOf l m → e .at ≡ p → EventOf e

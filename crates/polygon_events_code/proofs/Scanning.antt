@@ -17,13 +17,13 @@ use Rattle.sweep.specs.Sweep.{earlier}
 use Rattle.sweep.specs.declared.Event.{Event}
 use Rattle.sweep.specs.declared.Next.{Next}
 use Rattle.sweep.specs.declared.Next.the-variants.{Nothing}
-use Rattle.fracture.specs.declared.Side.{Side}
-use Rattle.fracture.specs.declared.Sides.{Sides}
+use Rattle.fracture.specs.declared.StoredEdge.{StoredEdge}
+use Rattle.fracture.specs.declared.EdgeList.{EdgeList}
 use Rattle.fracture.specs.Polygons.{Edge}
-use Rattle.fracture.specs.Fracture.{mark, marks, crossing, edgesCross, crossingsWith, crossings}
+use Rattle.fracture.specs.Fracture.{mark, marks, edgeCrossing, edgesCross, edgeCrossingsWith, edgeCrossings}
 use Rattle.geometry_code.specs.Polygons.{polygonOf}
 use Rattle.sweep_code.specs.Events.{NextPlaced, optionOf, Better, NextAmong}
-use Rattle.polygon_events_code.specs.Code.{MarkOf, WithPair, edgeOf, edgesOf, inUse, SideOnGrid, WellFormed, WithPairs}
+use Rattle.polygon_events_code.specs.Code.{MarkOf, WithPair, edgeOf, edgesOf, edgesInUse, EdgeOnGrid, WellFormed, WithPairs}
 
 -- ---- marks
 pub two-words : (ws : List ℤ) (k : ℕ) → k + 1 < length ws → drop k ws ≡ getD ws k (pos 0) ∷ getD ws (k + 1) (pos 0) ∷ drop (k + 2) ws
@@ -84,21 +84,21 @@ module _ (g : Option Base) where
   scan-if false best k ks = refl
 
   scan-with : (best : Option Base) (d e : Edge) (es : List Edge)
-      → seen best (crossingsWith d (e ∷ es)) ≡ seen (cond (edgesCross d e) (lesser (earlier position) best (candidate (earlier position) g (crossing d e))) best) (crossingsWith d es)
-  unfolding crossingsWith
-  scan-with best d e es = scan-if (edgesCross d e) best (crossing d e) (crossingsWith d es)
+      → seen best (edgeCrossingsWith d (e ∷ es)) ≡ seen (cond (edgesCross d e) (lesser (earlier position) best (candidate (earlier position) g (edgeCrossing d e))) best) (edgeCrossingsWith d es)
+  unfolding edgeCrossingsWith
+  scan-with best d e es = scan-if (edgesCross d e) best (edgeCrossing d e) (edgeCrossingsWith d es)
 
-  scan-crossings : (best : Option Base) (d : Edge) (es : List Edge) → seen best (crossings (d ∷ es)) ≡ seen (seen best (crossingsWith d es)) (crossings es)
-  unfolding crossings
-  scan-crossings best d es = scan-append best (crossingsWith d es) (crossings es)
+  scan-crossings : (best : Option Base) (d : Edge) (es : List Edge) → seen best (edgeCrossings (d ∷ es)) ≡ seen (seen best (edgeCrossingsWith d es)) (edgeCrossings es)
+  unfolding edgeCrossings
+  scan-crossings best d es = scan-append best (edgeCrossingsWith d es) (edgeCrossings es)
 
 -- of the edges from number `first` on those before number j have been tried
-pub record Pairing (v : Sides) (g : Option Base) (d : Side) (best : Next) (first : ℕ) (r : Next) (j : ℕ) : Type 0 where
-  pub same : scan (earlier position) (optionOf best) g (crossingsWith (edgeOf d) (edgesOf (drop first (inUse v)))) ≡ scan (earlier position) (optionOf r) g (crossingsWith (edgeOf d) (edgesOf (drop j (inUse v))))
+pub record Pairing (v : EdgeList) (g : Option Base) (d : StoredEdge) (best : Next) (first : ℕ) (r : Next) (j : ℕ) : Type 0 where
+  pub same : scan (earlier position) (optionOf best) g (edgeCrossingsWith (edgeOf d) (edgesOf (drop first (edgesInUse v)))) ≡ scan (earlier position) (optionOf r) g (edgeCrossingsWith (edgeOf d) (edgesOf (drop j (edgesInUse v))))
   pub placed : NextPlaced r
   pub well : WellFormed v
 
-module _ (v : Sides) (g : Option Base) (d : Side) (best : Next) (first : ℕ) where
+module _ (v : EdgeList) (g : Option Base) (d : StoredEdge) (best : Next) (first : ℕ) where
   pub pairing-start : WellFormed v → NextPlaced best → Pairing v g d best first best first
   pairing-start w p = record { same = refl; placed = p; well = w }
 
@@ -106,53 +106,53 @@ module _ (v : Sides) (g : Option Base) (d : Side) (best : Next) (first : ℕ) wh
     enough : v .n ≤ length (v .list)
     enough = omega (arith, h .well .few, h .well .long)
 
-    pub pairing-last : v .n ≤ j → WithPairs best g (edgeOf d) (edgesOf (drop first (inUse v))) r
-    unfolding scan crossingsWith
+    pub pairing-last : v .n ≤ j → WithPairs best g (edgeOf d) (edgesOf (drop first (edgesInUse v))) r
+    unfolding scan edgeCrossingsWith
     pairing-last l = record { is = sym (h .same ∙ rw (first-end (v .n) (v .list) enough j l)); placed = h .placed }
 
-    pub pairing-grid : (o : Side) → j < v .n → SideOnGrid (getD (v .list) j o)
-    pairing-grid o l = first-at (v .n) (v .list) enough SideOnGrid j o l (h .well .grid)
+    pub pairing-grid : (o : StoredEdge) → j < v .n → EdgeOnGrid (getD (v .list) j o)
+    pairing-grid o l = first-at (v .n) (v .list) enough EdgeOnGrid j o l (h .well .grid)
 
-    pub pairing-next : (o : Side) → j < v .n → (s : Next) → WithPair r g (d .line) (getD (v .list) j o .line) s → Pairing v g d best first s (j + 1)
+    pub pairing-next : (o : StoredEdge) → j < v .n → (s : Next) → WithPair r g (d .line) (getD (v .list) j o .line) s → Pairing v g d best first s (j + 1)
     pairing-next o l s w =
         record {
           same = h .same
-              ∙ ap (λ (ss : List Side). scan (earlier position) (optionOf r) g (crossingsWith (edgeOf d) (edgesOf ss))) (first-next (v .n) (v .list) enough j o l)
-              ∙ scan-with g (optionOf r) (edgeOf d) (edgeOf (getD (v .list) j o)) (edgesOf (drop (j + 1) (inUse v)))
-              ∙ ap (λ (b : Option Base). scan (earlier position) b g (crossingsWith (edgeOf d) (edgesOf (drop (j + 1) (inUse v))))) (sym (w .is));
+              ∙ ap (λ (ss : List StoredEdge). scan (earlier position) (optionOf r) g (edgeCrossingsWith (edgeOf d) (edgesOf ss))) (first-next (v .n) (v .list) enough j o l)
+              ∙ scan-with g (optionOf r) (edgeOf d) (edgeOf (getD (v .list) j o)) (edgesOf (drop (j + 1) (edgesInUse v)))
+              ∙ ap (λ (b : Option Base). scan (earlier position) b g (edgeCrossingsWith (edgeOf d) (edgesOf (drop (j + 1) (edgesInUse v))))) (sym (w .is));
           placed = w .placed;
           well = h .well;
         }
 
 -- the marks, and the crossings of the edges before number i, have been looked at
-pub record Meeting (v : Sides) (g : Option Base) (ms : List Base) (best : Next) (i : ℕ) : Type 0 where
-  pub same : scan (earlier position) none g (ms ++ crossings (edgesOf (inUse v))) ≡ scan (earlier position) (optionOf best) g (crossings (edgesOf (drop i (inUse v))))
+pub record Meeting (v : EdgeList) (g : Option Base) (ms : List Base) (best : Next) (i : ℕ) : Type 0 where
+  pub same : scan (earlier position) none g (ms ++ edgeCrossings (edgesOf (edgesInUse v))) ≡ scan (earlier position) (optionOf best) g (edgeCrossings (edgesOf (drop i (edgesInUse v))))
   pub placed : NextPlaced best
   pub well : WellFormed v
 
-module _ (v : Sides) (g : Option Base) (ms : List Base) where
+module _ (v : EdgeList) (g : Option Base) (ms : List Base) where
   pub meeting-start : WellFormed v → (best : Next) → NextAmong ms g best → Meeting v g ms best 0
   meeting-start w best h =
-      record { same = scan-append g none ms (crossings (edgesOf (inUse v))) ∙ ap (λ (b : Option Base). scan (earlier position) b g (crossings (edgesOf (inUse v)))) (sym (h .is)); placed = h .placed; well = w }
+      record { same = scan-append g none ms (edgeCrossings (edgesOf (edgesInUse v))) ∙ ap (λ (b : Option Base). scan (earlier position) b g (edgeCrossings (edgesOf (edgesInUse v)))) (sym (h .is)); placed = h .placed; well = w }
 
   module _ (best : Next) (i : ℕ) (h : Meeting v g ms best i) where
     meeting-enough : v .n ≤ length (v .list)
     meeting-enough = omega (arith, h .well .few, h .well .long)
 
-    pub meeting-last : v .n ≤ i → NextAmong (ms ++ crossings (edgesOf (inUse v))) g best
-    unfolding scan crossings
+    pub meeting-last : v .n ≤ i → NextAmong (ms ++ edgeCrossings (edgesOf (edgesInUse v))) g best
+    unfolding scan edgeCrossings
     meeting-last l = record { is = sym (h .same ∙ rw (first-end (v .n) (v .list) meeting-enough i l)); placed = h .placed }
 
-    pub meeting-grid : (o : Side) → i < v .n → SideOnGrid (getD (v .list) i o)
-    meeting-grid o l = first-at (v .n) (v .list) meeting-enough SideOnGrid i o l (h .well .grid)
+    pub meeting-grid : (o : StoredEdge) → i < v .n → EdgeOnGrid (getD (v .list) i o)
+    meeting-grid o l = first-at (v .n) (v .list) meeting-enough EdgeOnGrid i o l (h .well .grid)
 
-    pub meeting-next : (o : Side) → i < v .n → (s : Next) → WithPairs best g (edgeOf (getD (v .list) i o)) (edgesOf (drop (i + 1) (inUse v))) s → Meeting v g ms s (i + 1)
+    pub meeting-next : (o : StoredEdge) → i < v .n → (s : Next) → WithPairs best g (edgeOf (getD (v .list) i o)) (edgesOf (drop (i + 1) (edgesInUse v))) s → Meeting v g ms s (i + 1)
     meeting-next o l s w =
         record {
           same = h .same
-              ∙ ap (λ (ss : List Side). scan (earlier position) (optionOf best) g (crossings (edgesOf ss))) (first-next (v .n) (v .list) meeting-enough i o l)
-              ∙ scan-crossings g (optionOf best) (edgeOf (getD (v .list) i o)) (edgesOf (drop (i + 1) (inUse v)))
-              ∙ ap (λ (b : Option Base). scan (earlier position) b g (crossings (edgesOf (drop (i + 1) (inUse v))))) (sym (w .is));
+              ∙ ap (λ (ss : List StoredEdge). scan (earlier position) (optionOf best) g (edgeCrossings (edgesOf ss))) (first-next (v .n) (v .list) meeting-enough i o l)
+              ∙ scan-crossings g (optionOf best) (edgeOf (getD (v .list) i o)) (edgesOf (drop (i + 1) (edgesInUse v)))
+              ∙ ap (λ (b : Option Base). scan (earlier position) b g (edgeCrossings (edgesOf (drop (i + 1) (edgesInUse v))))) (sym (w .is));
           placed = w .placed;
           well = h .well;
         }

@@ -1,6 +1,6 @@
 -- How the functions' structs stand for what the definitions speak of.
 use mathlib.Core.Path.{_≡_}
-use mathlib.Core.Bool.{Bool, true, false, not, cond}
+use mathlib.Core.Bool.{Bool, true, false, cond}
 use mathlib.Core.List.{List, [], _∷_}
 use mathlib.Core.Option.{Option}
 use Prim.Native.Nat.{ℕ, _≤_}
@@ -13,25 +13,25 @@ use Rattle.geometry.specs.declared.Line.{Line}
 use Rattle.geometry.specs.declared.Base.{Base}
 use Rattle.geometry.specs.declared.Position.{Position}
 use Rattle.geometry.specs.declared.Crossing.{Crossing}
-use Rattle.geometry.specs.declared.Crossing.the-variants.{Parallel, At}
+use Rattle.geometry.specs.declared.Crossing.the-variants.{Nowhere, At}
 use Rattle.geometry.specs.Limit.{coordinateLimit, OnGrid}
 use Rattle.geometry.specs.Positions.{position}
-use Rattle.sweep.specs.Segments.{Segment, spans, crossInside}
+use Rattle.sweep.specs.Segments.{Segment, crossInside}
 use Rattle.sweep.specs.Sweep.{earlier}
 use Rattle.sweep.specs.declared.Event.{Event}
 use Rattle.sweep.specs.declared.Next.{Next}
 use Rattle.fracture.specs.declared.Span.{Span}
-use Rattle.fracture.specs.declared.Side.{Side}
-use Rattle.fracture.specs.declared.Sides.{Sides}
-use Rattle.fracture.specs.Polygons.{Edge, edges, whole}
-use Rattle.fracture.specs.Fracture.{mark, crossingsWith}
-use Rattle.geometry_code.specs.Code.{fractionOf, Small, PositionOf}
+use Rattle.fracture.specs.declared.StoredEdge.{StoredEdge}
+use Rattle.fracture.specs.declared.EdgeList.{EdgeList}
+use Rattle.fracture.specs.Polygons.{Edge, whole}
+use Rattle.fracture.specs.Fracture.{mark, edgeCrossingsWith}
+use Rattle.geometry_code.specs.Code.{fractionOf, SmallPosition, PositionOf}
 use Rattle.sweep_code.specs.Events.{EventOf, NextPlaced, optionOf}
 
 -- p stands for x
 pub record PlacedAt (x : Fraction) (p : Position) : Type 0 where
   pub is : fractionOf p ≡ x
-  pub small : Small p
+  pub small : SmallPosition p
 
 pub record MarkOf (L : ℕ) (k : ℤ) (e : Event) : Type 0 where
   pub base : e .base ≡ mark L k
@@ -51,7 +51,7 @@ baseOf l m = record { first = l; second = m }
 
 -- where two lines cross strictly inside both spans, or that they do not
 abbrev pub CrossingInside : Line → Line → Crossing → Type 0
-CrossingInside l m Parallel = crossInside (lineSegment l) (lineSegment m) ≡ false
+CrossingInside l m Nowhere = crossInside (lineSegment l) (lineSegment m) ≡ false
 CrossingInside l m (At p) = (crossInside (lineSegment l) (lineSegment m) ≡ true) × PositionOf (baseOf l m) p
 
 -- the lesser of the best so far and of the crossing, if it is one and is right of g
@@ -63,25 +63,25 @@ pub record WithPair (best : Next) (g : Option Base) (l m : Line) (r : Next) : Ty
 abbrev pub directionBy : Bool → ℤ
 directionBy rightward = cond rightward (pos 1) (negsuc 0)
 
-abbrev pub edgeOf : Side → Edge
+abbrev pub edgeOf : StoredEdge → Edge
 edgeOf s = record { line = s .line; direction = directionBy (s .rightward) }
 
-abbrev pub edgesOf : List Side → List Edge
+abbrev pub edgesOf : List StoredEdge → List Edge
 edgesOf [] = []
 edgesOf (s ∷ ss) = edgeOf s ∷ edgesOf ss
 
-abbrev pub inUse : Sides → List Side
-inUse v = take (v .n) (v .list)
+abbrev pub edgesInUse : EdgeList → List StoredEdge
+edgesInUse v = take (v .n) (v .list)
 
-abbrev pub SideOnGrid : Side → Type 0
-SideOnGrid s = OnGrid coordinateLimit (s .line)
+abbrev pub EdgeOnGrid : StoredEdge → Type 0
+EdgeOnGrid s = OnGrid coordinateLimit (s .line)
 
-pub record WellFormed (v : Sides) : Type 0 where
+pub record WellFormed (v : EdgeList) : Type 0 where
   pub long : length (v .list) ≡ 32
   pub few : v .n ≤ 32
-  pub grid : All SideOnGrid (inUse v)
+  pub grid : All EdgeOnGrid (edgesInUse v)
 
 -- the best so far, and the crossings of d with es
 pub record WithPairs (best : Next) (g : Option Base) (d : Edge) (es : List Edge) (r : Next) : Type 0 where
-  pub is : optionOf r ≡ scan (earlier position) (optionOf best) g (crossingsWith d es)
+  pub is : optionOf r ≡ scan (earlier position) (optionOf best) g (edgeCrossingsWith d es)
   pub placed : NextPlaced r

@@ -1,7 +1,7 @@
 // The events of a polygon: the marks of its vertices and the crossings of its edges.
-use fracture::Side;
-use fracture::Sides;
+use fracture::EdgeList;
 use fracture::Span;
+use fracture::StoredEdge;
 use geometry::Base;
 use geometry::Crossing;
 use geometry::Line;
@@ -18,11 +18,11 @@ ghost use Rattle.geometry.specs.Limit.{coordinateLimit, OnGrid};
 ghost use Rattle.geometry.specs.Polygons.{PolygonOnGrid};
 ghost use Rattle.sweep.specs.Segments.{spans, inside};
 ghost use Rattle.fracture.specs.Polygons.{whole};
-ghost use Rattle.fracture.specs.Fracture.{mark, marks, crossings};
-ghost use Rattle.geometry_code.specs.Code.{fractionOf, Small};
+ghost use Rattle.fracture.specs.Fracture.{mark, marks, edgeCrossings};
+ghost use Rattle.geometry_code.specs.Code.{fractionOf, SmallPosition};
 ghost use Rattle.geometry_code.specs.Polygons.{polygonOf};
 ghost use Rattle.sweep_code.specs.Events.{EventOf, NextPlaced, after, NextAmong};
-ghost use Rattle.polygon_events_code.specs.Code.{PlacedAt, MarkOf, SpanOf, lineSegment, CrossingInside, WithPair, edgeOf, edgesOf, inUse, WellFormed, WithPairs};
+ghost use Rattle.polygon_events_code.specs.Code.{PlacedAt, MarkOf, SpanOf, lineSegment, CrossingInside, WithPair, edgeOf, edgesOf, edgesInUse, WellFormed, WithPairs};
 
 // The position x.
 fn whole_position(x: Int) -> Position
@@ -89,7 +89,7 @@ fn span_of(l: Line) -> Span
 
 // Whether a position is strictly inside a line's span.
 fn is_inside(p: Position, l: Line) -> bool
-    requires { ⌜ Small p × OnGrid coordinateLimit l ⌝ }
+    requires { ⌜ SmallPosition p × OnGrid coordinateLimit l ⌝ }
     ensures { λ r. ⌜ r ≡ inside (fractionOf p) (lineSegment l) ⌝ }
 {
     let s = span_of(l);
@@ -101,7 +101,7 @@ fn is_inside(p: Position, l: Line) -> bool
 
 // Whether a line's span holds a position.
 pub fn is_spanning(p: Position, l: Line) -> bool
-    requires { ⌜ Small p × OnGrid coordinateLimit l ⌝ }
+    requires { ⌜ SmallPosition p × OnGrid coordinateLimit l ⌝ }
     ensures { λ r. ⌜ r ≡ spans (fractionOf p) (lineSegment l) ⌝ }
 {
     let s = span_of(l);
@@ -111,21 +111,21 @@ pub fn is_spanning(p: Position, l: Line) -> bool
     geometry_code::is_before(p, s.to)
 }
 
-// Where two lines cross strictly inside both spans; `Parallel` if they do not.
+// Where two lines cross strictly inside both spans; `Nowhere` if they do not.
 fn crossing_inside(l: Line, m: Line) -> Crossing
     requires { ⌜ OnGrid coordinateLimit l × OnGrid coordinateLimit m ⌝ }
     ensures { λ r. ⌜ CrossingInside l m r ⌝ }
 {
     let c = geometry_code::crossing_of(l, m);
     let Crossing::At(p) = c else {
-        return Crossing::Parallel;
+        return Crossing::Nowhere;
     };
     if is_inside(p, l) {
         if is_inside(p, m) {
             return Crossing::At(p);
         }
     }
-    Crossing::Parallel
+    Crossing::Nowhere
 }
 
 // The lefter of the best so far and of the crossing of two lines, if that is an event right of g, or anywhere where nothing has been started.
@@ -164,9 +164,9 @@ fn next_mark(words: &[i32], limit: u32, started: bool, g: Event) -> Next
 }
 
 // The lefter of the best so far and of the crossings of an edge with those from a number on.
-fn with_pairs(best: Next, started: bool, g: Event, d: Side, v: Sides, first: usize) -> Next
+fn with_pairs(best: Next, started: bool, g: Event, d: StoredEdge, v: EdgeList, first: usize) -> Next
     requires { ⌜ NextPlaced best × EventOf g × OnGrid coordinateLimit (d .line) × WellFormed v ⌝ }
-    ensures { λ r. ⌜ WithPairs best (after started g) (edgeOf d) (edgesOf (drop first (inUse v))) r ⌝ }
+    ensures { λ r. ⌜ WithPairs best (after started g) (edgeOf d) (edgesOf (drop first (edgesInUse v))) r ⌝ }
 {
     let list = v.list;
     let n = v.n;
@@ -181,9 +181,9 @@ fn with_pairs(best: Next, started: bool, g: Event, d: Side, v: Sides, first: usi
 }
 
 // The first event right of g, or the first of all where nothing has been started.
-pub fn next_event(words: &[i32], v: Sides, limit: u32, started: bool, g: Event) -> Next
+pub fn next_event(words: &[i32], v: EdgeList, limit: u32, started: bool, g: Event) -> Next
     requires { ⌜ PolygonOnGrid limit (polygonOf (now words)) × (limit ≤ coordinateLimit) × WellFormed v × EventOf g ⌝ }
-    ensures { λ r. ⌜ NextAmong (marks limit (polygonOf (now (words .entry))) ++ crossings (edgesOf (inUse v))) (after started g) r ⌝ }
+    ensures { λ r. ⌜ NextAmong (marks limit (polygonOf (now (words .entry))) ++ edgeCrossings (edgesOf (edgesInUse v))) (after started g) r ⌝ }
 {
     let list = v.list;
     let n = v.n;

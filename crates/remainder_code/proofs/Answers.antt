@@ -22,8 +22,9 @@ use Rattle.geometry.proofs.Trapezoids.{trapezoid-faithful}
 use Rattle.geometry.specs.declared.Fill.{Fill}
 use Rattle.geometry.specs.declared.Fill.the-variants.{NoRoom, Written}
 use Rattle.boolean.specs.declared.Folded.{Folded}
-use Rattle.boolean.specs.declared.Folded.the-variants.{Short, Done}
-use Rattle.boolean.specs.Space.{Mark, held, overlaysOf, overlaid, addition, Space, enough, short, plus, space}
+use Rattle.boolean.specs.declared.Folded.the-variants.{Done}
+use Rattle.boolean.specs.declared.Folded.the-variants as folded
+use Rattle.boolean.specs.Space.{Stage, sizeOf, overlaysOf, overlaid, addition, Space, enough, no-room, plus, space}
 use Rattle.trapezoids_code.specs.Tails.{FilledAs}
 use Rattle.remainder_code.specs.Code.{withOverlays, OverlaysWithin, Remaining, FoldedAs}
 use Rattle.remainder_code.specs.Code as code
@@ -31,40 +32,40 @@ use Rattle.remainder_code.specs.Code as code
 -- ---- the number of overlays
 abbrev pub overlaysIn : Space → ℕ
 overlaysIn (enough c) = c
-overlaysIn (short c) = c
+overlaysIn (no-room c) = c
 
 overlays-plus : (n : ℕ) (s : Space) → overlaysIn (plus n s) ≡ n + overlaysIn s
 overlays-plus n (enough c) = refl
-overlays-plus n (short c) = refl
+overlays-plus n (no-room c) = refl
 
-mark-one : (m : Mark) → overlaysOf m ≤ 1
-mark-one (overlaid n) = omega arith
-mark-one (addition n) = omega arith
+stage-one : (m : Stage) → overlaysOf m ≤ 1
+stage-one (overlaid n) = omega arith
+stage-one (addition n) = omega arith
 
--- at most one for each mark
-pub overlays-upto : (room : ℕ) (ms : List Mark) → overlaysIn (space room ms) ≤ length ms
+-- at most one for each stage
+pub overlays-upto : (room : ℕ) (ms : List Stage) → overlaysIn (space room ms) ≤ length ms
 unfolding space
 overlays-upto room [] = omega arith
-overlays-upto room (m ∷ ms) = go (ltb room (held m)) (space room ms) (overlays-upto room ms)
+overlays-upto room (m ∷ ms) = go (ltb room (sizeOf m)) (space room ms) (overlays-upto room ms)
   where
-    go : (t : Bool) (s : Space) → overlaysIn s ≤ length ms → overlaysIn (cond t (short (overlaysOf m)) (plus (overlaysOf m) s)) ≤ length (m ∷ ms)
-    go true s h = omega (arith, mark-one m)
-    go false s h = omega (arith, overlays-plus (overlaysOf m) s, mark-one m, h)
+    go : (t : Bool) (s : Space) → overlaysIn s ≤ length ms → overlaysIn (cond t (no-room (overlaysOf m)) (plus (overlaysOf m) s)) ≤ length (m ∷ ms)
+    go true s h = omega (arith, stage-one m)
+    go false s h = omega (arith, overlays-plus (overlaysOf m) s, stage-one m, h)
 
-pub folded-within : (n room : ℕ) (ts : List Trapezoid) (ms : List Mark) (r : Folded) (d : List ℤ) → FoldedAs n room ts ms r d → OverlaysWithin (length ms) r
-folded-within n room ts ms (Short c) d g = let e : overlaysIn (space room ms) ≡ c = ap overlaysIn (g .0) in omega (arith, e, overlays-upto room ms)
+pub folded-within : (n room : ℕ) (ts : List Trapezoid) (ms : List Stage) (r : Folded) (d : List ℤ) → FoldedAs n room ts ms r d → OverlaysWithin (length ms) r
+folded-within n room ts ms (folded.NoRoom c) d g = let e : overlaysIn (space room ms) ≡ c = ap overlaysIn (g .0) in omega (arith, e, overlays-upto room ms)
 folded-within n room ts ms (Done p c) d g = let e : overlaysIn (space room ms) ≡ c = ap overlaysIn (g .0) in omega (arith, e, overlays-upto room ms)
 
 pub within-least : (m n : ℕ) (r : Folded) → m ≤ n → OverlaysWithin m r → OverlaysWithin n r
-within-least m n (Short c) l h = omega (arith, l, h)
+within-least m n (folded.NoRoom c) l h = omega (arith, l, h)
 within-least m n (Done p c) l h = omega (arith, l, h)
 
 pub within-more : (m n k : ℕ) (r : Folded) → k ≤ n → OverlaysWithin m r → OverlaysWithin (n + m) (withOverlays k r)
-within-more m n k (Short c) l h = omega (arith, l, h)
+within-more m n k (folded.NoRoom c) l h = omega (arith, l, h)
 within-more m n k (Done p c) l h = omega (arith, l, h)
 
-pub within-short : (m c : ℕ) (r : Folded) → r ≡ Short c → OverlaysWithin m r → c ≤ m
-within-short m c r e h = subst (OverlaysWithin m) e h
+pub within-no-room : (m c : ℕ) (r : Folded) → r ≡ folded.NoRoom c → OverlaysWithin m r → c ≤ m
+within-no-room m c r e h = subst (OverlaysWithin m) e h
 
 pub within-done : (m p c : ℕ) (r : Folded) → r ≡ Done p c → OverlaysWithin m r → c ≤ m
 within-done m p c r e h = subst (OverlaysWithin m) e h
@@ -80,7 +81,7 @@ space-overlaid room k l = rw (le-ltb room k l) refl
 
 -- ---- one overlay, as a fold
 abbrev pub once : Fill → Folded
-once NoRoom = Short 1
+once NoRoom = folded.NoRoom 1
 once (Written n) = Done n 1
 
 pub once-folded : (n room : ℕ) (ts : List Trapezoid) (f : Fill) (d : List ℤ) → FilledAs n room ts f d → FoldedAs n room ts (overlaid (length ts) ∷ []) (once f) d
@@ -89,14 +90,14 @@ once-folded n room ts NoRoom d g = (rw (lt-ltb room (length ts) (g .0)) refl, g 
 once-folded n room ts (Written m) d g = (space-overlaid room (length ts) (g .1), g)
 
 -- ---- the tail
-pub filled-held : (n room : ℕ) (ts : List Trapezoid) (p : ℕ) (t : List ℤ) → FilledAs n room ts (Written p) t → code.held t p ≡ ts
-filled-held n room ts p t g =
+pub filled-leading : (n room : ℕ) (ts : List Trapezoid) (p : ℕ) (t : List ℤ) → FilledAs n room ts (Written p) t → code.leading t p ≡ ts
+filled-leading n room ts p t g =
     ap (λ (q : ℕ). recordsFrom trapezoidCodec q t 0) (g .0) ∙ ap (λ (u : List ℤ). recordsFrom trapezoidCodec (length ts) u 0) (g .2)
     ∙ image-records trapezoidCodec trapezoid-faithful n ts (all-of (λ (t : Trapezoid). Unit {0}) (λ t. tt) ts)
 
 pub filled-remaining : (n room : ℕ) (ts : List Trapezoid) (p : ℕ) (t : List ℤ) → FilledAs n room ts (Written p) t → length t ≡ n → memoryWidth * room ≤ n → All (FitFor coordinateLimit) ts → Remaining t p room
 filled-remaining n room ts p t g l w f =
-    let d = filled-held n room ts p t g in
+    let d = filled-leading n room ts p t g in
     record {
       is = g .2 ∙ (λ j. image trapezoidCodec (sym l j) (sym d j));
       fit = subst (All (FitFor coordinateLimit)) (sym d) f;
@@ -105,5 +106,5 @@ filled-remaining n room ts p t g l w f =
     }
 
 -- what it holds at its front
-pub held-filled : (d : List ℤ) (n room : ℕ) → d ≡ image trapezoidCodec (length d) (code.held d n) → n ≤ room → FilledAs (length d) room (code.held d n) (Written n) d
-held-filled d n room e l = let m = length-from trapezoidCodec n d 0 in (sym m, omega (arith, m, l), e)
+pub leading-filled : (d : List ℤ) (n room : ℕ) → d ≡ image trapezoidCodec (length d) (code.leading d n) → n ≤ room → FilledAs (length d) room (code.leading d n) (Written n) d
+leading-filled d n room e l = let m = length-from trapezoidCodec n d 0 in (sym m, omega (arith, m, l), e)

@@ -12,12 +12,12 @@ use Rattle.geometry.specs.declared.Trapezoid.{Trapezoid}
 use Rattle.geometry.specs.Trapezoids.{trapezoidCodec, layerOf}
 use Rattle.overlay.specs.Overlaps.{overlaps}
 use Rattle.overlay.specs.Overlay.{overlay, tagged}
-use Rattle.boolean.specs.Operations.{less, lessAll}
-use Rattle.boolean.specs.Space.{overlaid, enough, plus, space, lessMarks, lessAllMarks}
+use Rattle.boolean.specs.Operations.{minus, minusAll}
+use Rattle.boolean.specs.Space.{overlaid, enough, plus, space, minusStages, minusAllStages}
 use Rattle.boolean.proofs.Space.{plus-none, plus-plus, space-enough}
 use Rattle.remainder_code.specs.Code.{from, overlapsAny, apartBefore}
-use Rattle.remainder_code.proofs.Reducing.{all-one, all-marks-one}
-use Rattle.remainder_code.proofs.Lessening.{less-none, less-one, marks-none, marks-one}
+use Rattle.remainder_code.proofs.Reducing.{all-one, all-stages-one}
+use Rattle.remainder_code.proofs.MinusFold.{minus-none, minus-one, stages-none, stages-one}
 use Rattle.remainder_code.proofs.Answers.{space-overlaid}
 use Rattle.remainder_code.proofs.Walking.{Walking, walk-stop, walk-here, walk-turn}
 
@@ -31,30 +31,30 @@ unfolding overlay tagged
 common-apart a b e = rw e refl
 
 -- where none overlaps b, all stand
-pub less-apart : (rs : List Trapezoid) (b : Trapezoid) → overlapsAny rs b ≡ false → less rs b ≡ rs
-less-apart [] b e = less-none b
-less-apart (r ∷ rs) b e =
+pub minus-apart : (rs : List Trapezoid) (b : Trapezoid) → overlapsAny rs b ≡ false → minus rs b ≡ rs
+minus-apart [] b e = minus-none b
+minus-apart (r ∷ rs) b e =
     let h = either-false (overlaps r b) (overlapsAny rs b) e in
-    less-one r b rs ∙ (λ j. part-apart r b (h .0) j ++ less-apart rs b (h .1) j)
+    minus-one r b rs ∙ (λ j. part-apart r b (h .0) j ++ minus-apart rs b (h .1) j)
 
 -- and there is room if there was before
-pub marks-apart : (room k : ℕ) (rs : List Trapezoid) (b : Trapezoid) → overlapsAny rs b ≡ false → k + length rs ≤ room → space room (lessMarks k rs b) ≡ enough (length rs)
-marks-apart room k [] b e l = marks-none room k b
-marks-apart room k (r ∷ rs) b e l =
+pub stages-apart : (room k : ℕ) (rs : List Trapezoid) (b : Trapezoid) → overlapsAny rs b ≡ false → k + length rs ≤ room → space room (minusStages k rs b) ≡ enough (length rs)
+stages-apart room k [] b e l = stages-none room k b
+stages-apart room k (r ∷ rs) b e l =
     let h = either-false (overlaps r b) (overlapsAny rs b) e in
     let n : length (tagged 1 (overlay r b)) ≡ 1 = ap length (part-apart r b (h .0)) in
     let z : 1 + length rs ≡ length (r ∷ rs) = omega arith in
     let p = tagged 1 (overlay r b) in
-    ap (space room) (marks-one k r b rs) ∙ space-enough room 1 (overlaid (k + length p + length rs) ∷ []) (lessMarks (k + length p) rs b) (space-overlaid room (k + length p + length rs) (omega (arith, n, l)))
-    ∙ ap (plus 1) (marks-apart room (k + length p) rs b (h .1) (omega (arith, n, l))) ∙ ap enough z
+    ap (space room) (stages-one k r b rs) ∙ space-enough room 1 (overlaid (k + length p + length rs) ∷ []) (minusStages (k + length p) rs b) (space-overlaid room (k + length p + length rs) (omega (arith, n, l)))
+    ∙ ap (plus 1) (stages-apart room (k + length p) rs b (h .1) (omega (arith, n, l))) ∙ ap enough z
 
 -- ---- a alone is in hand: those before the first that overlaps it leave it whole
 module _ (a : Trapezoid) where
   alone : (b : Trapezoid) → overlaps a b ≡ false → overlapsAny (a ∷ []) b ≡ false
   alone b e = ap (λ (x : Bool). x || false) e
 
-  stands : (b : Trapezoid) → overlaps a b ≡ false → less (a ∷ []) b ≡ a ∷ []
-  stands b e = less-apart (a ∷ []) b (alone b e)
+  stands : (b : Trapezoid) → overlaps a b ≡ false → minus (a ∷ []) b ≡ a ∷ []
+  stands b e = minus-apart (a ∷ []) b (alone b e)
 
   pub apart-upto : (B : List Trapezoid) → apartBefore a B ≤ length B
   apart-upto [] = omega arith
@@ -64,28 +64,28 @@ module _ (a : Trapezoid) where
       go true h = omega arith
       go false h = omega (arith, h)
 
-  pub all-apart : (B : List Trapezoid) → lessAll (a ∷ []) B ≡ lessAll (a ∷ []) (drop (apartBefore a B) B)
+  pub all-apart : (B : List Trapezoid) → minusAll (a ∷ []) B ≡ minusAll (a ∷ []) (drop (apartBefore a B) B)
   all-apart [] = refl
   all-apart (b ∷ bs) = go (overlaps a b) refl (all-apart bs)
     where
-      go : (t : Bool) → overlaps a b ≡ t → lessAll (a ∷ []) bs ≡ lessAll (a ∷ []) (drop (apartBefore a bs) bs)
-          → lessAll (a ∷ []) (b ∷ bs) ≡ lessAll (a ∷ []) (drop (cond t 0 (suc (apartBefore a bs))) (b ∷ bs))
+      go : (t : Bool) → overlaps a b ≡ t → minusAll (a ∷ []) bs ≡ minusAll (a ∷ []) (drop (apartBefore a bs) bs)
+          → minusAll (a ∷ []) (b ∷ bs) ≡ minusAll (a ∷ []) (drop (cond t 0 (suc (apartBefore a bs))) (b ∷ bs))
       go true e h = refl
-      go false e h = all-one (a ∷ []) bs b ∙ ap (λ (ts : List Trapezoid). lessAll ts bs) (stands b e) ∙ h
+      go false e h = all-one (a ∷ []) bs b ∙ ap (λ (ts : List Trapezoid). minusAll ts bs) (stands b e) ∙ h
 
-  pub all-marks-apart : (room : ℕ) → 1 ≤ room → (B : List Trapezoid) → space room (lessAllMarks 0 (a ∷ []) B) ≡ plus (apartBefore a B) (space room (lessAllMarks 0 (a ∷ []) (drop (apartBefore a B) B)))
-  all-marks-apart room l [] = sym (plus-none (space room (lessAllMarks 0 (a ∷ []) [])))
-  all-marks-apart room l (b ∷ bs) = go (overlaps a b) refl (all-marks-apart room l bs)
+  pub all-stages-apart : (room : ℕ) → 1 ≤ room → (B : List Trapezoid) → space room (minusAllStages 0 (a ∷ []) B) ≡ plus (apartBefore a B) (space room (minusAllStages 0 (a ∷ []) (drop (apartBefore a B) B)))
+  all-stages-apart room l [] = sym (plus-none (space room (minusAllStages 0 (a ∷ []) [])))
+  all-stages-apart room l (b ∷ bs) = go (overlaps a b) refl (all-stages-apart room l bs)
     where
-      go : (t : Bool) → overlaps a b ≡ t → space room (lessAllMarks 0 (a ∷ []) bs) ≡ plus (apartBefore a bs) (space room (lessAllMarks 0 (a ∷ []) (drop (apartBefore a bs) bs)))
-          → space room (lessAllMarks 0 (a ∷ []) (b ∷ bs)) ≡ plus (cond t 0 (suc (apartBefore a bs))) (space room (lessAllMarks 0 (a ∷ []) (drop (cond t 0 (suc (apartBefore a bs))) (b ∷ bs))))
-      go true e h = sym (plus-none (space room (lessAllMarks 0 (a ∷ []) (b ∷ bs))))
+      go : (t : Bool) → overlaps a b ≡ t → space room (minusAllStages 0 (a ∷ []) bs) ≡ plus (apartBefore a bs) (space room (minusAllStages 0 (a ∷ []) (drop (apartBefore a bs) bs)))
+          → space room (minusAllStages 0 (a ∷ []) (b ∷ bs)) ≡ plus (cond t 0 (suc (apartBefore a bs))) (space room (minusAllStages 0 (a ∷ []) (drop (cond t 0 (suc (apartBefore a bs))) (b ∷ bs))))
+      go true e h = sym (plus-none (space room (minusAllStages 0 (a ∷ []) (b ∷ bs))))
       go false e h =
-          let rest = space room (lessAllMarks 0 (a ∷ []) (drop (apartBefore a bs) bs)) in
+          let rest = space room (minusAllStages 0 (a ∷ []) (drop (apartBefore a bs) bs)) in
           let z : 1 + apartBefore a bs ≡ suc (apartBefore a bs) = omega arith in
-          ap (space room) (all-marks-one 0 (a ∷ []) bs b)
-          ∙ space-enough room 1 (lessMarks 0 (a ∷ []) b) (lessAllMarks 0 (less (a ∷ []) b) bs) (marks-apart room 0 (a ∷ []) b (alone b e) (omega (arith, l)))
-          ∙ ap (λ (ts : List Trapezoid). plus 1 (space room (lessAllMarks 0 ts bs))) (stands b e)
+          ap (space room) (all-stages-one 0 (a ∷ []) bs b)
+          ∙ space-enough room 1 (minusStages 0 (a ∷ []) b) (minusAllStages 0 (minus (a ∷ []) b) bs) (stages-apart room 0 (a ∷ []) b (alone b e) (omega (arith, l)))
+          ∙ ap (λ (ts : List Trapezoid). plus 1 (space room (minusAllStages 0 ts bs))) (stands b e)
           ∙ ap (plus 1) h
           ∙ plus-plus 1 (apartBefore a bs) rest
           ∙ ap (λ (m : ℕ). plus m rest) z

@@ -1,5 +1,5 @@
 -- A fold over the trapezoids of a layer, built in a buffer. Before turn i: the buffer holds `done`, the fold of the rest of the layer from there is the
--- goal, and the marks of the rest, past the overlays made, decide the space.
+-- goal, and the stages of the rest, past the overlays made, decide the space.
 use mathlib.Core.Path.{_≡_, refl, sym, _∙_, ap, subst}
 use mathlib.Core.List.{List, [], _∷_, _++_, append-nil, append-assoc}
 use Prim.Native.Nat.{ℕ, _+_, _*_, _-_, _<_, _≤_}
@@ -20,34 +20,34 @@ use Rattle.geometry.specs.declared.Fill.{Fill}
 use Rattle.geometry.specs.declared.Fill.the-variants.{Written}
 use Rattle.geometry.proofs.Trapezoids.{trapezoid-faithful}
 use Rattle.boolean.specs.declared.Folded.{Folded}
-use Rattle.boolean.specs.declared.Folded.the-variants.{Short, Done}
-use Rattle.boolean.specs.Space.{Mark, overlaid, enough, short, plus, space}
-use Rattle.boolean.proofs.Space.{plus-none, plus-plus, space-enough, space-short}
+use Rattle.boolean.specs.declared.Folded.the-variants.{NoRoom, Done}
+use Rattle.boolean.specs.Space.{Stage, overlaid, enough, no-room, plus, space}
+use Rattle.boolean.proofs.Space.{plus-none, plus-plus, space-enough, space-no-room}
 use Rattle.trapezoids_code.specs.Tails.{Borrowed, FilledAs}
 use Rattle.trapezoids_code.proofs.Writing.{tail, Writing, fill-nothing, write-stop, write-borrowed, write-turn}
-use Rattle.remainder_code.specs.Code.{from, held, FoldedAs}
-use Rattle.remainder_code.proofs.Answers.{once, once-folded, filled-held}
+use Rattle.remainder_code.specs.Code.{from, leading, FoldedAs}
+use Rattle.remainder_code.proofs.Answers.{once, once-folded, filled-leading}
 
 -- ---- a fold, step by step
--- from what stands, the result and the marks of a list; one turn makes `next` of what stands, and has the marks `turn` with so many trapezoids after it
+-- from what stands, the result and the stages of a list; one turn makes `next` of what stands, and has the stages `turn` with so many trapezoids after it
 pub record Fold : Type 0 where
   pub result : List Trapezoid → List Trapezoid → List Trapezoid
-  pub marks : List Trapezoid → List Trapezoid → List Mark
+  pub stages : List Trapezoid → List Trapezoid → List Stage
   pub next : List Trapezoid → Trapezoid → List Trapezoid
-  pub turn : List Trapezoid → Trapezoid → ℕ → List Mark
+  pub turn : List Trapezoid → Trapezoid → ℕ → List Stage
 
 pub record Steps (F : Fold) : Type 0 where
   pub none : (done : List Trapezoid) → F .result done [] ≡ done
   pub one : (done ts : List Trapezoid) (t : Trapezoid) → F .result done (t ∷ ts) ≡ F .result (F .next done t) ts
-  pub no-marks : (room : ℕ) (done : List Trapezoid) → space room (F .marks done []) ≡ enough 0
-  pub one-marks : (done ts : List Trapezoid) (t : Trapezoid) → F .marks done (t ∷ ts) ≡ F .turn done t (length ts) ++ F .marks (F .next done t) ts
+  pub no-stages : (room : ℕ) (done : List Trapezoid) → space room (F .stages done []) ≡ enough 0
+  pub one-stages : (done ts : List Trapezoid) (t : Trapezoid) → F .stages done (t ∷ ts) ≡ F .turn done t (length ts) ++ F .stages (F .next done t) ts
 
 -- ---- the loop
-pub record Folding (F : Fold) (W room : ℕ) (goal : List Trapezoid) (ms : List Mark) (layer out : List ℤ) (k overlays i : ℕ) : Type 0 where
+pub record Folding (F : Fold) (W room : ℕ) (goal : List Trapezoid) (ms : List Stage) (layer out : List ℤ) (k overlays i : ℕ) : Type 0 where
   pub steps : Steps F
   pub done : List Trapezoid
   pub yields : goal ≡ F .result done (from layer i)
-  pub marks : space room ms ≡ plus overlays (space room (F .marks done (from layer i)))
+  pub stages : space room ms ≡ plus overlays (space room (F .stages done (from layer i)))
   pub upto : i ≤ count trapezoidCodec layer
   pub fit : All (FitFor coordinateLimit) (from layer i)
   pub size : k ≡ length done
@@ -58,14 +58,14 @@ pub record Folding (F : Fold) (W room : ℕ) (goal : List Trapezoid) (ms : List 
 
 module _ (F : Fold) (steps : Steps F) (room : ℕ) (layer d : List ℤ) where
   -- from number i on
-  pub fold-from : (done : List Trapezoid) (ms : List Mark) (k i : ℕ) → FilledAs (length d) room done (Written k) d → memoryWidth * room ≤ length d → ms ≡ F .marks done (from layer i)
+  pub fold-from : (done : List Trapezoid) (ms : List Stage) (k i : ℕ) → FilledAs (length d) room done (Written k) d → memoryWidth * room ≤ length d → ms ≡ F .stages done (from layer i)
       → i ≤ count trapezoidCodec layer → All (FitFor coordinateLimit) (from layer i) → Folding F (length d) room (F .result done (from layer i)) ms layer d k 0 i
   fold-from done ms k i h w e l f =
       record {
         steps = steps;
         done = done;
         yields = refl;
-        marks = ap (space room) e ∙ sym (plus-none (space room (F .marks done (from layer i))));
+        stages = ap (space room) e ∙ sym (plus-none (space room (F .stages done (from layer i))));
         upto = l;
         fit = f;
         size = h .0;
@@ -75,36 +75,36 @@ module _ (F : Fold) (steps : Steps F) (room : ℕ) (layer d : List ℤ) where
         long = refl;
       }
 
-  pub fold-start : (done : List Trapezoid) (ms : List Mark) (k : ℕ) → FilledAs (length d) room done (Written k) d → memoryWidth * room ≤ length d → ms ≡ F .marks done (layerOf layer)
+  pub fold-start : (done : List Trapezoid) (ms : List Stage) (k : ℕ) → FilledAs (length d) room done (Written k) d → memoryWidth * room ≤ length d → ms ≡ F .stages done (layerOf layer)
       → All (FitFor coordinateLimit) (layerOf layer) → Folding F (length d) room (F .result done (layerOf layer)) ms layer d k 0 0
   fold-start done ms k h w e f =
       let s : layerOf layer ≡ from layer 0 = sym (from-start trapezoidCodec (count trapezoidCodec layer) layer) in
       subst (λ (ts : List Trapezoid). Folding F (length d) room (F .result done ts) ms layer d k 0 0) (sym s)
-      (fold-from done ms k 0 h w (e ∙ ap (F .marks done) s) (omega arith) (subst (All (FitFor coordinateLimit)) s f))
+      (fold-from done ms k 0 h w (e ∙ ap (F .stages done) s) (omega arith) (subst (All (FitFor coordinateLimit)) s f))
 
   -- in a blank buffer
-  pub blank-start : Borrowed d room → All (FitFor coordinateLimit) (layerOf layer) → Folding F (length d) room (F .result [] (layerOf layer)) (F .marks [] (layerOf layer)) layer d 0 0 0
-  blank-start h f = fold-start [] (F .marks [] (layerOf layer)) 0 (fill-nothing d room h) (h .wide) refl f
+  pub blank-start : Borrowed d room → All (FitFor coordinateLimit) (layerOf layer) → Folding F (length d) room (F .result [] (layerOf layer)) (F .stages [] (layerOf layer)) layer d 0 0 0
+  blank-start h f = fold-start [] (F .stages [] (layerOf layer)) 0 (fill-nothing d room h) (h .wide) refl f
 
 -- ---- one turn
-module _ {F : Fold} {W room : ℕ} {goal : List Trapezoid} {ms : List Mark} {layer out : List ℤ} {k overlays i : ℕ} (h : Folding F W room goal ms layer out k overlays i) where
+module _ {F : Fold} {W room : ℕ} {goal : List Trapezoid} {ms : List Stage} {layer out : List ℤ} {k overlays i : ℕ} (h : Folding F W room goal ms layer out k overlays i) where
   pub fold-words : memoryWidth * k ≤ length out
   fold-words = omega (arith, h .within, h .wide, h .long)
 
-  pub fold-held : held out k ≡ h .done
-  fold-held = filled-held W room (h .done) k out (h .size, omega (arith, h .size, h .within), h .laid)
+  pub fold-leading : leading out k ≡ h .done
+  fold-leading = filled-leading W room (h .done) k out (h .size, omega (arith, h .size, h .within), h .laid)
 
   -- what stands stays
-  pub fold-stands : F .result (h .done) (from layer i) ≡ h .done → space room (F .marks (h .done) (from layer i)) ≡ enough 0 → (n : ℕ) → overlays ≡ n → FoldedAs W room goal ms (Done k n) out
+  pub fold-stands : F .result (h .done) (from layer i) ≡ h .done → space room (F .stages (h .done) (from layer i)) ≡ enough 0 → (n : ℕ) → overlays ≡ n → FoldedAs W room goal ms (Done k n) out
   fold-stands e u n is =
       let y : goal ≡ h .done = h .yields ∙ e in
       let z : overlays + 0 ≡ n = omega (arith, is) in
-      (h .marks ∙ ap (plus overlays) u ∙ ap enough z, rw y (h .size, omega (arith, h .size, h .within), h .laid))
+      (h .stages ∙ ap (plus overlays) u ∙ ap enough z, rw y (h .size, omega (arith, h .size, h .within), h .laid))
 
   pub fold-stop : count trapezoidCodec layer ≤ i → (n : ℕ) → overlays ≡ n → FoldedAs W room goal ms (Done k n) out
   fold-stop l n is =
       let e : from layer i ≡ [] = from-none trapezoidCodec (count trapezoidCodec layer) layer i l in
-      fold-stands (ap (F .result (h .done)) e ∙ h .steps .none (h .done)) (ap (λ (ts : List Trapezoid). space room (F .marks (h .done) ts)) e ∙ h .steps .no-marks room (h .done)) n is
+      fold-stands (ap (F .result (h .done)) e ∙ h .steps .none (h .done)) (ap (λ (ts : List Trapezoid). space room (F .stages (h .done) ts)) e ∙ h .steps .no-stages room (h .done)) n is
 
   writing : (more : List Trapezoid) → Writing W room (h .done ++ more) more out k
   writing more = record { done = h .done; all = refl; laid = h .laid; size = h .size; upto = h .within; wide = h .wide; long = h .long }
@@ -128,19 +128,19 @@ module _ {F : Fold} {W room : ℕ} {goal : List Trapezoid} {ms : List Mark} {lay
     pub fold-fit : FitFor coordinateLimit a
     fold-fit = subst (All (FitFor coordinateLimit)) step (h .fit) .0
 
-    abbrev pub here : List Mark
+    abbrev pub here : List Stage
     here = F .turn (h .done) a (count trapezoidCodec layer - (i + 1))
 
-    abbrev later : List Mark
-    later = F .marks (F .next (h .done) a) (from layer (i + 1))
+    abbrev later : List Stage
+    later = F .stages (F .next (h .done) a) (from layer (i + 1))
 
     unrolled : space room ms ≡ plus overlays (space room (here ++ later))
     unrolled =
-        h .marks ∙ ap (λ (ts : List Trapezoid). plus overlays (space room (F .marks (h .done) ts))) step ∙ ap (λ (ns : List Mark). plus overlays (space room ns)) (h .steps .one-marks (h .done) (from layer (i + 1)) a)
+        h .stages ∙ ap (λ (ts : List Trapezoid). plus overlays (space room (F .stages (h .done) ts))) step ∙ ap (λ (ns : List Stage). plus overlays (space room ns)) (h .steps .one-stages (h .done) (from layer (i + 1)) a)
         ∙ ap (λ (n : ℕ). plus overlays (space room (F .turn (h .done) a n ++ later))) (length-from trapezoidCodec (count trapezoidCodec layer - (i + 1)) layer (i + 1))
 
-    pub fold-short : (c : ℕ) → space room here ≡ short c → space room ms ≡ short (overlays + c)
-    fold-short c e = unrolled ∙ ap (plus overlays) (space-short room c here later e)
+    pub fold-no-room : (c : ℕ) → space room here ≡ no-room c → space room ms ≡ no-room (overlays + c)
+    fold-no-room c e = unrolled ∙ ap (plus overlays) (space-no-room room c here later e)
 
     pub fold-next : (m c : ℕ) (d : List ℤ) → space room here ≡ enough c → FilledAs W room (F .next (h .done) a) (Written m) d → Folding F W room goal ms layer d m (overlays + c) (i + 1)
     fold-next m c d e g =
@@ -148,7 +148,7 @@ module _ {F : Fold} {W room : ℕ} {goal : List Trapezoid} {ms : List Mark} {lay
           steps = h .steps;
           done = F .next (h .done) a;
           yields = h .yields ∙ ap (F .result (h .done)) step ∙ h .steps .one (h .done) (from layer (i + 1)) a;
-          marks = unrolled ∙ ap (plus overlays) (space-enough room c here later e) ∙ plus-plus overlays c (space room later);
+          stages = unrolled ∙ ap (plus overlays) (space-enough room c here later e) ∙ plus-plus overlays c (space room later);
           upto = omega (arith, l);
           fit = subst (All (FitFor coordinateLimit)) step (h .fit) .1;
           size = g .0;
@@ -159,28 +159,28 @@ module _ {F : Fold} {W room : ℕ} {goal : List Trapezoid} {ms : List Mark} {lay
         }
 
 -- ---- a turn whose parts are appended
--- with room for `free` in the tail, `parts` and the marks `ns` are what the turn adds
-pub record Part (F : Fold) (room : ℕ) (done : List Trapezoid) (a : Trapezoid) (left free : ℕ) (parts : List Trapezoid) (ns : List Mark) : Type 0 where
+-- with room for `free` in the tail, `parts` and the stages `ns` are what the turn adds
+pub record Part (F : Fold) (room : ℕ) (done : List Trapezoid) (a : Trapezoid) (left free : ℕ) (parts : List Trapezoid) (ns : List Stage) : Type 0 where
   pub next : F .next done a ≡ done ++ parts
   pub same : space room (F .turn done a left) ≡ space free ns
   pub within : length done + free ≤ room
 
-module _ {F : Fold} {W room : ℕ} {goal : List Trapezoid} {ms : List Mark} {layer out : List ℤ} {k overlays i : ℕ} (h : Folding F W room goal ms layer out k overlays i) where
+module _ {F : Fold} {W room : ℕ} {goal : List Trapezoid} {ms : List Stage} {layer out : List ℤ} {k overlays i : ℕ} (h : Folding F W room goal ms layer out k overlays i) where
   -- what an answer says of the loop, when the tail comes back as t
   pub record Turned (free : ℕ) (f : Folded) (t : List ℤ) : Type 0 where
-    pub full : (c : ℕ) → f ≡ Short c → space room ms ≡ short (overlays + c)
+    pub full : (c : ℕ) → f ≡ NoRoom c → space room ms ≡ no-room (overlays + c)
     pub fits : (m c : ℕ) → f ≡ Done m c → m ≤ free
     pub keeps : (m c : ℕ) → f ≡ Done m c → Folding F W room goal ms layer (putMid (memoryWidth * k) (length out - memoryWidth * k) out t) (k + m) (overlays + c) (i + 1)
 
-  pub fold-turn : (l : i < count trapezoidCodec layer) (a : Trapezoid) → a ≡ recordAt trapezoidCodec layer i → {free : ℕ} {parts : List Trapezoid} {ns : List Mark}
+  pub fold-turn : (l : i < count trapezoidCodec layer) (a : Trapezoid) → a ≡ recordAt trapezoidCodec layer i → {free : ℕ} {parts : List Trapezoid} {ns : List Stage}
       → Part F room (h .done) a (count trapezoidCodec layer - (i + 1)) free parts ns → (f : Folded) (t : List ℤ) → FoldedAs (length (tail out k)) free parts ns f t → Turned free f t
   fold-turn l a is {free} {parts} {ns} p f t g = record { full = full; fits = fits; keeps = keeps }
     where
       known : (r : Folded) → f ≡ r → FoldedAs (length (tail out k)) free parts ns r t
       known r e = subst (λ (x : Folded). FoldedAs (length (tail out k)) free parts ns x t) e g
 
-      full : (c : ℕ) → f ≡ Short c → space room ms ≡ short (overlays + c)
-      full c e = fold-short h l a is c (p .same ∙ known (Short c) e .0)
+      full : (c : ℕ) → f ≡ NoRoom c → space room ms ≡ no-room (overlays + c)
+      full c e = fold-no-room h l a is c (p .same ∙ known (NoRoom c) e .0)
 
       fits : (m c : ℕ) → f ≡ Done m c → m ≤ free
       fits m c e = let g = known (Done m c) e .1 in omega (arith, g .0, g .1)
@@ -198,16 +198,16 @@ module _ {F : Fold} {W room : ℕ} {goal : List Trapezoid} {ms : List Mark} {lay
   fill-turn l a is {free} {parts} p f t g = fold-turn l a is p (once f) t (once-folded (length (tail out k)) free parts f t g)
 
 -- ---- a fold that appends the same parts whatever stands
-module _ (result : List Trapezoid → List Trapezoid) (marks : ℕ → List Trapezoid → List Mark) (part : Trapezoid → List Trapezoid) (turn : ℕ → Trapezoid → ℕ → List Mark) where
+module _ (result : List Trapezoid → List Trapezoid) (stages : ℕ → List Trapezoid → List Stage) (part : Trapezoid → List Trapezoid) (turn : ℕ → Trapezoid → ℕ → List Stage) where
   abbrev pub appending : Fold
-  appending = record { result = λ done ts. done ++ result ts; marks = λ done ts. marks (length done) ts; next = λ done t. done ++ part t; turn = λ done t left. turn (length done) t left }
+  appending = record { result = λ done ts. done ++ result ts; stages = λ done ts. stages (length done) ts; next = λ done t. done ++ part t; turn = λ done t left. turn (length done) t left }
 
-  pub appending-steps : result [] ≡ [] → ((t : Trapezoid) (ts : List Trapezoid) → result (t ∷ ts) ≡ part t ++ result ts) → ((room k : ℕ) → space room (marks k []) ≡ enough 0)
-      → ((k : ℕ) (t : Trapezoid) (ts : List Trapezoid) → marks k (t ∷ ts) ≡ turn k t (length ts) ++ marks (k + length (part t)) ts) → Steps appending
-  appending-steps none one no-marks one-marks =
+  pub appending-steps : result [] ≡ [] → ((t : Trapezoid) (ts : List Trapezoid) → result (t ∷ ts) ≡ part t ++ result ts) → ((room k : ℕ) → space room (stages k []) ≡ enough 0)
+      → ((k : ℕ) (t : Trapezoid) (ts : List Trapezoid) → stages k (t ∷ ts) ≡ turn k t (length ts) ++ stages (k + length (part t)) ts) → Steps appending
+  appending-steps none one no-stages one-stages =
       record {
         none = λ done. ap (λ (ts : List Trapezoid). done ++ ts) none ∙ append-nil done;
         one = λ done ts t. ap (λ (us : List Trapezoid). done ++ us) (one t ts) ∙ sym (append-assoc done (part t) (result ts));
-        no-marks = λ room done. no-marks room (length done);
-        one-marks = λ done ts t. one-marks (length done) t ts ∙ ap (λ (k : ℕ). turn (length done) t (length ts) ++ marks k ts) (sym (length-append done (part t)));
+        no-stages = λ room done. no-stages room (length done);
+        one-stages = λ done ts t. one-stages (length done) t ts ∙ ap (λ (k : ℕ). turn (length done) t (length ts) ++ stages k ts) (sym (length-append done (part t)));
       }

@@ -1,9 +1,9 @@
 pub mod Folding
 pub mod Walking
-pub mod Lessening
+pub mod MinusFold
 pub mod Apart
 pub mod Moving
 pub mod Reducing
 pub mod Answers
 pub mod One
-pub mod Held
+pub mod Leading

@@ -19,27 +19,27 @@ use Rattle.geometry.specs.Fitness.{FitFor}
 use Rattle.geometry.specs.Trapezoids.{trapezoidCodec, layerOf}
 use Rattle.boolean.specs.declared.Folded.{Folded}
 use Rattle.boolean.specs.declared.Folded.the-variants.{Done}
-use Rattle.boolean.specs.Operations.{less}
-use Rattle.boolean.specs.Space.{enough, lessMarks}
+use Rattle.boolean.specs.Operations.{minus}
+use Rattle.boolean.specs.Space.{enough, minusStages}
 use Rattle.trapezoids_code.specs.Tails.{Borrowed}
-use Rattle.remainder_code.specs.Code.{held, Remaining, FoldedAs, overlapsAny}
-use Rattle.remainder_code.proofs.Apart.{less-apart, marks-apart}
-use Rattle.remainder_code.proofs.Held.{held-fits, rest-blanks, front-held}
+use Rattle.remainder_code.specs.Code.{leading, Remaining, FoldedAs, overlapsAny}
+use Rattle.remainder_code.proofs.Apart.{minus-apart, stages-apart}
+use Rattle.remainder_code.proofs.Leading.{leading-fits, rest-blanks, front-leading}
 
 -- ---- none overlaps b: they stand
 module _ (d : List ℤ) (n room : ℕ) (h : Remaining d n room) where
   pub standing-length : memoryWidth * n ≡ length (take (memoryWidth * n) d)
-  standing-length = sym (length-take-le (memoryWidth * n) d (held-fits d n room h))
+  standing-length = sym (length-take-le (memoryWidth * n) d (leading-fits d n room h))
 
   pub standing-fit : All (FitFor coordinateLimit) (layerOf (take (memoryWidth * n) d))
-  standing-fit = subst (All (FitFor coordinateLimit)) (sym (front-held d n room h)) (h .fit)
+  standing-fit = subst (All (FitFor coordinateLimit)) (sym (front-leading d n room h)) (h .fit)
 
-  pub standing-folded : (b : Trapezoid) → overlapsAny (layerOf (take (memoryWidth * n) d)) b ≡ false → FoldedAs (length d) room (less (held d n) b) (lessMarks 0 (held d n) b) (Done n n) d
+  pub standing-folded : (b : Trapezoid) → overlapsAny (layerOf (take (memoryWidth * n) d)) b ≡ false → FoldedAs (length d) room (minus (leading d n) b) (minusStages 0 (leading d n) b) (Done n n) d
   standing-folded b e =
-      let e : overlapsAny (held d n) b ≡ false = ap (λ (ts : List Trapezoid). overlapsAny ts b) (sym (front-held d n room h)) ∙ e in
-      let m : length (held d n) ≡ n = length-from trapezoidCodec n d 0 in
-      let y : less (held d n) b ≡ held d n = less-apart (held d n) b e in (
-        marks-apart room 0 (held d n) b e (omega (arith, m, h .within)) ∙ ap enough m,
+      let e : overlapsAny (leading d n) b ≡ false = ap (λ (ts : List Trapezoid). overlapsAny ts b) (sym (front-leading d n room h)) ∙ e in
+      let m : length (leading d n) ≡ n = length-from trapezoidCodec n d 0 in
+      let y : minus (leading d n) b ≡ leading d n = minus-apart (leading d n) b e in (
+        stages-apart room 0 (leading d n) b e (omega (arith, m, h .within)) ∙ ap enough m,
         (sym (ap length y ∙ m), omega (arith, ap length y, m, h .within), h .is ∙ ap (image trapezoidCodec (length d)) (sym y)),
       )
 
@@ -50,7 +50,7 @@ module _ (d w d' w' : List ℤ) (n room : ℕ) (h : Remaining d n room) (blank :
   end = memoryWidth * n
 
   pub remainder-words : memoryWidth * n ≤ length d
-  remainder-words = held-fits d n room h
+  remainder-words = leading-fits d n room h
 
   pub remainder-scratch : memoryWidth * n ≤ length w
   remainder-scratch = omega (arith, remainder-words, same)
@@ -64,8 +64,8 @@ module _ (d w d' w' : List ℤ) (n room : ℕ) (h : Remaining d n room) (blank :
   pub remainder-length : memoryWidth * n ≡ length (take (memoryWidth * n) w')
   remainder-length = sym (ap length moved ∙ first-words)
 
-  pub remainder-layer : layerOf (take (memoryWidth * n) w') ≡ held d n
-  remainder-layer = ap layerOf moved ∙ front-held d n room h
+  pub remainder-layer : layerOf (take (memoryWidth * n) w') ≡ leading d n
+  remainder-layer = ap layerOf moved ∙ front-leading d n room h
 
   pub remainder-fit : All (FitFor coordinateLimit) (layerOf (take (memoryWidth * n) w'))
   remainder-fit = subst (All (FitFor coordinateLimit)) (sym remainder-layer) (h .fit)
@@ -94,8 +94,8 @@ module _ (d w d' w' : List ℤ) (n room : ℕ) (h : Remaining d n room) (blank :
       blank-of (pos 0) (t ++ drop end w') (end + (length w - end)) (ap (λ (u : List ℤ). u ++ drop end w') g ∙ ap (λ (u : List ℤ). replicate end (pos 0) ++ u) f ∙ replicate-append-replicate end (length w - end) (pos 0))
 
   pub remainder-folded : (b : Trapezoid) (r : Folded) (t : List ℤ)
-      → FoldedAs (length d') room (less (layerOf (take (memoryWidth * n) w')) b) (lessMarks 0 (layerOf (take (memoryWidth * n) w')) b) r t
-      → FoldedAs (length d) room (less (held d n) b) (lessMarks 0 (held d n) b) r t
+      → FoldedAs (length d') room (minus (layerOf (take (memoryWidth * n) w')) b) (minusStages 0 (layerOf (take (memoryWidth * n) w')) b) r t
+      → FoldedAs (length d) room (minus (leading d n) b) (minusStages 0 (leading d n) b) r t
   remainder-folded b r t g =
-      subst (λ (m : ℕ). FoldedAs m room (less (held d n) b) (lessMarks 0 (held d n) b) r t) remainder-out
-      (subst (λ (ts : List Trapezoid). FoldedAs (length d') room (less ts b) (lessMarks 0 ts b) r t) remainder-layer g)
+      subst (λ (m : ℕ). FoldedAs m room (minus (leading d n) b) (minusStages 0 (leading d n) b) r t) remainder-out
+      (subst (λ (ts : List Trapezoid). FoldedAs (length d') room (minus ts b) (minusStages 0 ts b) r t) remainder-layer g)

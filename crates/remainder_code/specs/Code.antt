@@ -14,46 +14,46 @@ use Rattle.geometry.specs.Fitness.{FitFor}
 use Rattle.geometry.specs.Trapezoids.{trapezoidCodec}
 use Rattle.geometry.specs.declared.Fill.the-variants.{Written}
 use Rattle.overlay.specs.Overlaps.{overlaps}
-use Rattle.boolean.specs.Operations.{less, lessAll}
+use Rattle.boolean.specs.Operations.{minus, minusAll}
 use Rattle.boolean.specs.declared.Folded.{Folded}
-use Rattle.boolean.specs.declared.Folded.the-variants.{Short, Done}
-use Rattle.boolean.specs.Space.{Mark, enough, short, space, lessMarks, lessAllMarks, oneMarks}
+use Rattle.boolean.specs.declared.Folded.the-variants.{NoRoom, Done}
+use Rattle.boolean.specs.Space.{Stage, enough, no-room, space, minusStages, minusAllStages, oneStages}
 use Rattle.trapezoids_code.specs.Tails.{FilledAs}
 
--- of a tail of n words, for a fold with the result ts and the marks ms: the space was short after so many overlays, and the tail is blank; or
+-- of a tail of n words, for a fold with the result ts and the stages ms: there was no room after so many overlays, and the tail is blank; or
 -- the tail holds ts and is blank past them
-abbrev pub FoldedAs : ℕ → ℕ → List Trapezoid → List Mark → Folded → List ℤ → Type 0
-FoldedAs n room ts ms (Short overlays) d = (space room ms ≡ short overlays) × (d ≡ replicate n (pos 0))
+abbrev pub FoldedAs : ℕ → ℕ → List Trapezoid → List Stage → Folded → List ℤ → Type 0
+FoldedAs n room ts ms (NoRoom overlays) d = (space room ms ≡ no-room overlays) × (d ≡ replicate n (pos 0))
 FoldedAs n room ts ms (Done trapezoids overlays) d = (space room ms ≡ enough overlays) × FilledAs n room ts (Written trapezoids) d
 
--- the trapezoids rs less b, the trapezoids rs less all of bs, and one trapezoid a less all of bs and added, written into a tail that was d₀
-abbrev pub LessWritten : List ℤ → ℕ → List Trapezoid → Trapezoid → Folded → List ℤ → Type 0
-LessWritten d₀ room rs b r d = FoldedAs (length d₀) room (less rs b) (lessMarks 0 rs b) r d
+-- the trapezoids rs minus b, the trapezoids rs minus all of bs, and one trapezoid a minus all of bs and added, written into a tail that was d₀
+abbrev pub MinusWritten : List ℤ → ℕ → List Trapezoid → Trapezoid → Folded → List ℤ → Type 0
+MinusWritten d₀ room rs b r d = FoldedAs (length d₀) room (minus rs b) (minusStages 0 rs b) r d
 
-abbrev pub LessAllWritten : List ℤ → ℕ → List Trapezoid → List Trapezoid → Folded → List ℤ → Type 0
-LessAllWritten d₀ room rs bs r d = FoldedAs (length d₀) room (lessAll rs bs) (lessAllMarks 0 rs bs) r d
+abbrev pub MinusAllWritten : List ℤ → ℕ → List Trapezoid → List Trapezoid → Folded → List ℤ → Type 0
+MinusAllWritten d₀ room rs bs r d = FoldedAs (length d₀) room (minusAll rs bs) (minusAllStages 0 rs bs) r d
 
 abbrev pub OneWritten : List ℤ → ℕ → Trapezoid → List Trapezoid → Folded → List ℤ → Type 0
-OneWritten d₀ room a bs r d = FoldedAs (length d₀) room (lessAll (a ∷ []) bs) (oneMarks 0 a bs) r d
+OneWritten d₀ room a bs r d = FoldedAs (length d₀) room (minusAll (a ∷ []) bs) (oneStages 0 a bs) r d
 
 -- a scratch area that is blank and as long as the output
 abbrev pub ScratchFor : List ℤ → List ℤ → Type 0
 ScratchFor out scratch = Blank (pos 0) scratch × (length scratch ≡ length out)
 
 -- the first n trapezoids of a buffer
-abbrev pub held : List ℤ → ℕ → List Trapezoid
-held d n = recordsFrom trapezoidCodec n d 0
+abbrev pub leading : List ℤ → ℕ → List Trapezoid
+leading d n = recordsFrom trapezoidCodec n d 0
 
 -- a buffer that takes `room` trapezoids holds n of them, which are fit, and is blank past them
 pub record Remaining (d : List ℤ) (n room : ℕ) : Type 0 where
-  pub is : d ≡ image trapezoidCodec (length d) (held d n)
-  pub fit : All (FitFor coordinateLimit) (held d n)
+  pub is : d ≡ image trapezoidCodec (length d) (leading d n)
+  pub fit : All (FitFor coordinateLimit) (leading d n)
   pub within : n ≤ room
   pub wide : memoryWidth * room ≤ length d
 
 -- a buffer that takes `room` trapezoids holds n of them, and is blank past them
 pub record Holding (d : List ℤ) (n room : ℕ) : Type 0 where
-  pub is : d ≡ image trapezoidCodec (length d) (held d n)
+  pub is : d ≡ image trapezoidCodec (length d) (leading d n)
   pub within : n ≤ room
   pub wide : memoryWidth * room ≤ length d
 
@@ -92,9 +92,9 @@ maxOverlays = 2 * overlaysOfLayer
 
 -- an answer with n more
 abbrev pub withOverlays : ℕ → Folded → Folded
-withOverlays n (Short overlays) = Short (n + overlays)
+withOverlays n (NoRoom overlays) = NoRoom (n + overlays)
 withOverlays n (Done trapezoids overlays) = Done trapezoids (n + overlays)
 
 abbrev pub OverlaysWithin : ℕ → Folded → Type 0
-OverlaysWithin m (Short overlays) = overlays ≤ m
+OverlaysWithin m (NoRoom overlays) = overlays ≤ m
 OverlaysWithin m (Done trapezoids overlays) = overlays ≤ m

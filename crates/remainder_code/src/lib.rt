@@ -1,4 +1,4 @@
-// What remains of trapezoids less others, with room for so many.
+// What remains of trapezoids minus others, with room for so many.
 use boolean::Folded;
 use geometry::Fill;
 use geometry::Placed;
@@ -11,18 +11,18 @@ ghost use Rattle.lists.specs.Lists.{All};
 ghost use Rattle.records.specs.Limits.{memoryWidth, maxRecords};
 ghost use Rattle.records.specs.Records.{count, Blank};
 ghost use Rattle.geometry.specs.Limit.{coordinateLimit};
-ghost use Rattle.geometry.specs.Fitness.{FitFor, Layer};
+ghost use Rattle.geometry.specs.Fitness.{FitFor, FitLayer};
 ghost use Rattle.geometry.specs.Trapezoids.{trapezoidCodec, layerOf};
 ghost use Rattle.boolean.specs.Space.{addition};
 ghost use Rattle.trapezoids_code.specs.Placed.{PlacedAs, Pair};
 ghost use Rattle.trapezoids_code.specs.Tails.{Borrowed};
-ghost use Rattle.remainder_code.specs.Code.{from, maxOverlays, withOverlays, OverlaysWithin, held, Remaining, FoldedAs, overlapsAny, apartBefore, LessWritten, LessAllWritten, ScratchFor};
+ghost use Rattle.remainder_code.specs.Code.{from, maxOverlays, withOverlays, OverlaysWithin, leading, Remaining, FoldedAs, overlapsAny, apartBefore, MinusWritten, MinusAllWritten, ScratchFor};
 
 // Each trapezoid of the remainder, in order, replaced by its parts that are not in b. Those not yet reached count against the room.
-pub fn less_into(remainder: &[i32], b: Placed, out: &mut [i32], room: usize) -> Folded
+pub fn minus_into(remainder: &[i32], b: Placed, out: &mut [i32], room: usize) -> Folded
     requires { ⌜ All (FitFor coordinateLimit) (layerOf (now remainder)) × (count trapezoidCodec (now remainder) ≤ room + 1) ⌝ }
     requires { ⌜ PlacedAs (b .shape) b × Borrowed (now out) room ⌝ }
-    ensures { λ r. ⌜ LessWritten (now (out .entry)) room (layerOf (now (remainder .entry))) (b .shape) r (now (out .exit)) ⌝ }
+    ensures { λ r. ⌜ MinusWritten (now (out .entry)) room (layerOf (now (remainder .entry))) (b .shape) r (now (out .exit)) ⌝ }
 {
     let n = remainder.len() / records::MEMORY_WIDTH;
     let mut k = 0;
@@ -34,7 +34,7 @@ pub fn less_into(remainder: &[i32], b: Placed, out: &mut [i32], room: usize) -> 
         let f = overlay_code::overlay_into(a, b, 1, &mut out[records::MEMORY_WIDTH * k..], free);
         let Fill::Written(m) = f else {
             records_code::clear(out);
-            return Folded::Short(i + 1);
+            return Folded::NoRoom(i + 1);
         };
         k += m;
         i += 1;
@@ -74,10 +74,10 @@ fn any_overlapping(layer: &[i32], b: Placed) -> bool
 }
 
 // The n trapezoids that `out` holds are the remainder: each replaced by its parts that are not in b. They stand if none overlaps b.
-pub fn lessen(b: Placed, n: usize, out: &mut [i32], scratch: &mut [i32], room: usize) -> Folded
+pub fn reduce(b: Placed, n: usize, out: &mut [i32], scratch: &mut [i32], room: usize) -> Folded
     requires { ⌜ PlacedAs (b .shape) b × Remaining (now out) n room ⌝ }
     requires { ⌜ ScratchFor (now out) (now scratch) ⌝ }
-    ensures { λ r. ⌜ LessWritten (now (out .entry)) room (held (now (out .entry)) n) (b .shape) r (now (out .exit)) ⌝ }
+    ensures { λ r. ⌜ MinusWritten (now (out .entry)) room (leading (now (out .entry)) n) (b .shape) r (now (out .exit)) ⌝ }
     ensures { λ _. ⌜ Blank (pos 0) (now (scratch .exit)) ⌝ }
 {
     let end = records::MEMORY_WIDTH * n;
@@ -88,13 +88,13 @@ pub fn lessen(b: Placed, n: usize, out: &mut [i32], scratch: &mut [i32], room: u
         };
     }
     move_into(out, scratch, n);
-    let f = less_into(&scratch[..end], b, out, room);
+    let f = minus_into(&scratch[..end], b, out, room);
     records_code::clear(&mut scratch[..end]);
     f
 }
 
-// The n trapezoids that `out` holds, less the trapezoids of a layer from number `start` on, until none remains.
-pub fn lessen_by_rest(
+// The n trapezoids that `out` holds, minus the trapezoids of a layer from number `start` on, until none remains.
+pub fn reduce_by_rest(
     layer: &[i32],
     start: usize,
     n: usize,
@@ -102,9 +102,9 @@ pub fn lessen_by_rest(
     scratch: &mut [i32],
     room: usize,
 ) -> Folded
-    requires { ⌜ Layer (now layer) × (start ≤ count trapezoidCodec (now layer)) × Remaining (now out) n room × (room ≤ maxRecords) ⌝ }
+    requires { ⌜ FitLayer (now layer) × (start ≤ count trapezoidCodec (now layer)) × Remaining (now out) n room × (room ≤ maxRecords) ⌝ }
     requires { ⌜ ScratchFor (now out) (now scratch) ⌝ }
-    ensures { λ r. ⌜ LessAllWritten (now (out .entry)) room (held (now (out .entry)) n) (from (now (layer .entry)) start) r (now (out .exit)) ⌝ }
+    ensures { λ r. ⌜ MinusAllWritten (now (out .entry)) room (leading (now (out .entry)) n) (from (now (layer .entry)) start) r (now (out .exit)) ⌝ }
     ensures { λ r. ⌜ OverlaysWithin (maxRecords * (maxRecords - start)) r ⌝ }
     ensures { λ _. ⌜ Blank (pos 0) (now (scratch .exit)) ⌝ }
 {
@@ -120,10 +120,10 @@ pub fn lessen_by_rest(
             };
         }
         let b = trapezoids_code::placed_at(layer, i);
-        let f = lessen(b, k, out, scratch, room);
+        let f = reduce(b, k, out, scratch, room);
         match f {
-            Folded::Short(overlays) => {
-                return Folded::Short(made + overlays);
+            Folded::NoRoom(overlays) => {
+                return Folded::NoRoom(made + overlays);
             }
             Folded::Done {
                 trapezoids,
@@ -147,7 +147,7 @@ pub fn more_overlays(n: usize, f: Folded) -> Folded
     ensures { λ r. ⌜ r ≡ withOverlays n f ⌝ }
 {
     match f {
-        Folded::Short(overlays) => Folded::Short(n + overlays),
+        Folded::NoRoom(overlays) => Folded::NoRoom(n + overlays),
         Folded::Done {
             trapezoids,
             overlays,
@@ -158,14 +158,14 @@ pub fn more_overlays(n: usize, f: Folded) -> Folded
     }
 }
 
-// One trapezoid less one other.
+// One trapezoid minus one other.
 pub fn first_into(a: Placed, b: Placed, out: &mut [i32], room: usize) -> Folded
     requires { ⌜ Pair a b × Borrowed (now out) room ⌝ }
-    ensures { λ r. ⌜ LessWritten (now (out .entry)) room (a .shape ∷ []) (b .shape) r (now (out .exit)) ⌝ }
+    ensures { λ r. ⌜ MinusWritten (now (out .entry)) room (a .shape ∷ []) (b .shape) r (now (out .exit)) ⌝ }
 {
     let f = overlay_code::overlay_into(a, b, 1, out, room);
     match f {
-        Fill::NoRoom => Folded::Short(1),
+        Fill::NoRoom => Folded::NoRoom(1),
         Fill::Written(n) => Folded::Done {
             trapezoids: n,
             overlays: 1,
@@ -179,7 +179,7 @@ pub fn add_whole(a: Placed, out: &mut [i32], room: usize) -> Folded
     ensures { λ r. ⌜ FoldedAs (length (now (out .entry))) room (a .shape ∷ []) (addition 1 ∷ []) r (now (out .exit)) ⌝ }
 {
     if room == 0 {
-        return Folded::Short(0);
+        return Folded::NoRoom(0);
     }
     trapezoids_code::store(out, a.shape);
     Folded::Done {

@@ -11,7 +11,7 @@ use Rattle.geometry.specs.declared.Checked.the-variants.{Refused}
 use Rattle.geometry.specs.Points.{Point}
 use Rattle.geometry.specs.Trapezoids.{layerOf}
 use Rattle.geometry.specs.Fitness.{firstRefusal}
-use Rattle.calls.specs.Rows.{buffersSized, pointPasses, layersChecked, combineChecked, deoverlapChecked, equalChecked, containsChecked}
+use Rattle.calls.specs.Rows.{buffersSized, pointPasses, bothChecked, combineChecked, deoverlapChecked, equalChecked, containsChecked}
 
 -- ---- the rows, branch by branch
 module _ (L code : ℕ) (a b : List ℤ) (out scratch : ℕ) where
@@ -24,7 +24,7 @@ module _ (L code : ℕ) (a b : List ℤ) (out scratch : ℕ) where
     unfolding combineChecked
     combine-code l = rw (e, le-ltb code 5 l)
 
-    pub combine-layers : code < 5 → layersChecked L a b ≡ combineChecked L code a b out scratch
+    pub combine-layers : code < 5 → bothChecked L a b ≡ combineChecked L code a b out scratch
     unfolding combineChecked
     combine-layers l = rw (e, lt-ltb code 5 l)
 
@@ -42,7 +42,7 @@ module _ (L : ℕ) (a b : List ℤ) (out scratch : ℕ) where
   unfolding equalChecked
   equal-lengths e = rw e
 
-  pub equal-layers : sized (length a) && (sized (length b) && buffersSized out scratch) ≡ true → layersChecked L a b ≡ equalChecked L a b out scratch
+  pub equal-layers : sized (length a) && (sized (length b) && buffersSized out scratch) ≡ true → bothChecked L a b ≡ equalChecked L a b out scratch
   unfolding equalChecked
   equal-layers e = rw e
 
@@ -60,6 +60,6 @@ module _ (L : ℕ) (P : Point) (a b : List ℤ) (code : ℕ) where
     unfolding containsChecked
     contains-point l p = rw (e, lt-ltb code 5 l, p)
 
-    pub contains-layers : code < 5 → pointPasses L P ≡ true → layersChecked L a b ≡ containsChecked L P a b code
+    pub contains-layers : code < 5 → pointPasses L P ≡ true → bothChecked L a b ≡ containsChecked L P a b code
     unfolding containsChecked
     contains-layers l p = rw (e, lt-ltb code 5 l, p)

@@ -10,7 +10,7 @@ ghost use lib.Signed.{leZ};
 ghost use Rattle.records.specs.Limits.{sized, maxWords};
 ghost use Rattle.geometry.specs.Limit.{coordinateLimit};
 ghost use Rattle.calls.specs.Components.{listsSized, componentsChecked};
-ghost use Rattle.calls.specs.Rows.{buffersSized, withinTimes, pointPasses, layersChecked, fractureChecked, combineChecked, deoverlapChecked, equalChecked, containsChecked};
+ghost use Rattle.calls.specs.Rows.{buffersSized, withinTimes, pointPasses, bothChecked, fractureChecked, combineChecked, deoverlapChecked, equalChecked, containsChecked};
 ghost use Rattle.geometry_code.specs.Code.{pointOf};
 
 // Codes run from 0 to CODES - 1.
@@ -98,9 +98,9 @@ fn point_passes(limit: u32, x: Int, y: Int, d: Int) -> bool
 }
 
 // Rows 7 to 11: the trapezoids of the first layer, then those of the second, numbered on.
-fn layers_checked(limit: u32, a: &[i32], b: &[i32]) -> Checked
+fn both_checked(limit: u32, a: &[i32], b: &[i32]) -> Checked
     requires { ⌜ (limit ≤ coordinateLimit) × (length (now a) ≤ maxWords) ⌝ }
-    ensures { λ r. ⌜ r ≡ layersChecked limit (now (a .entry)) (now (b .entry)) ⌝ }
+    ensures { λ r. ⌜ r ≡ bothChecked limit (now (a .entry)) (now (b .entry)) ⌝ }
 {
     let first = fitness_code::first_refused(a, limit, 0);
     match first {
@@ -140,7 +140,7 @@ pub fn combine_checked(
 {
     if both_sized(a.len(), b.len(), out, scratch) {
         if code < CODES {
-            return layers_checked(limit, a, b);
+            return both_checked(limit, a, b);
         }
         return Checked::Refused {
             number: 2,
@@ -173,7 +173,7 @@ pub fn equal_checked(limit: u32, a: &[i32], b: &[i32], out: usize, scratch: usiz
     ensures { λ r. ⌜ r ≡ equalChecked limit (now (a .entry)) (now (b .entry)) out scratch ⌝ }
 {
     if both_sized(a.len(), b.len(), out, scratch) {
-        return layers_checked(limit, a, b);
+        return both_checked(limit, a, b);
     }
     Checked::Refused {
         number: 1,
@@ -197,7 +197,7 @@ pub fn contains_checked(
     if layers_sized(a.len(), b.len()) {
         if code < CODES {
             if point_passes(limit, x, y, d) {
-                return layers_checked(limit, a, b);
+                return both_checked(limit, a, b);
             }
             return Checked::Refused {
                 number: 3,

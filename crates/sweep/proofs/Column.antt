@@ -11,7 +11,7 @@ use Rattle.lists.proofs.Tests.{false-is}
 use Rattle.lists.proofs.Lists.{all-map, all-with, all-both}
 use Rattle.lists.proofs.Members.{all-member, members}
 use Rattle.integer.specs.Fraction.{Fraction, before}
-use Rattle.levels.specs.Levels.{AtMost, Ordered, levels, Rising}
+use Rattle.levels.specs.Levels.{AtMost, StrictWeakOrder, levels, Rising}
 use Rattle.levels.proofs.Laws.{levels-all, levels-rising}
 use Rattle.geometry.specs.declared.Line.{Line}
 use Rattle.geometry.specs.Lines.{IsLine}
@@ -27,7 +27,7 @@ use Rattle.sweep.proofs.Prefix.{value, prefix, Decided, decided, nothin
 use Rattle.sweep.proofs.Slabs.{slabs-count, slabs-all}
 
 -- the order right of a position
-pub lower-order : {A : Type 0} (line : A → Line) (p : Fraction) → Ordered (lower line p) (λ (e : A). IsLine (line e))
+pub lower-order : {A : Type 0} (line : A → Line) (p : Fraction) → StrictWeakOrder (lower line p) (λ (e : A). IsLine (line e))
 lower-order line p = record { asymmetric = λ d e. below→not-below p (line d) (line e); transitive = λ d e k. right-trans p (line d) (line e) (line k) }
 
 module _ {A : Type 0} (line : A → Line) {p q : Fraction} {es : List A} (c : Clear line p q es) where
@@ -38,7 +38,7 @@ module _ {A : Type 0} (line : A → Line) {p q : Fraction} {es : List A} (c : Cl
   pub goods : All Good es
   goods = all-both (λ (e : A). IsLine (line e)) (λ (e : A). Member e es) es (c .lines) (members es)
 
-  pub ordered : Ordered (lower line p) Good
+  pub ordered : StrictWeakOrder (lower line p) Good
   ordered = let o = lower-order line p in record { asymmetric = o .asymmetric; transitive = λ d e k hd he hk. o .transitive d e k (hd .0) (he .0) (hk .0) }
 
   pub groups-good : All Good (levels (lower line p) es)
@@ -69,7 +69,7 @@ module _ {A : Type 0} (line : A → Line) {p q : Fraction} {es : List A} (c : Cl
 
 -- ---- the slabs
 -- W of the last group for which the test holds is the sum of those for which it holds
-value-sum : {A : Type 0} {less : A → A → Bool} {Good : A → Type 0} (o : Ordered less Good) (f : A → Bool) (down : (x y : A) → Good x → Good y → AtMost less x y → T (f y) → T (f x))
+value-sum : {A : Type 0} {less : A → A → Bool} {Good : A → Type 0} (o : StrictWeakOrder less Good) (f : A → Bool) (down : (x y : A) → Good x → Good y → AtMost less x y → T (f y) → T (f x))
     (weight : A → ℤ) (es : List A) → All Good es → value f (λ (g : A). sum weight (λ (e : A). not (less g e)) es) (pos 0) (levels less es) ≡ sum weight f es
 value-sum {A} {less} o f down weight es h = go (decided o f down W (pos 0) es h)
   where

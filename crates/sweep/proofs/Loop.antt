@@ -6,7 +6,7 @@ use mathlib.Core.Option.{Option, none, some}
 use lib.IntN.{ℤ}
 use Rattle.lists.specs.Lists.{All}
 use Rattle.integer.specs.Fraction.{Fraction, Proper}
-use Rattle.levels.specs.Levels.{IfSome, Ordered, levels, next}
+use Rattle.levels.specs.Levels.{IfSome, StrictWeakOrder, levels, next}
 use Rattle.levels.proofs.Next.{beyond}
 use Rattle.levels.proofs.Walk.{beyond-none, next-some, next-none}
 use Rattle.sweep.specs.Segments.{Segment, spanning}
@@ -21,7 +21,7 @@ module _ {A K X : Type 0} (segment : A → Segment) (position : K → Fraction) 
   from p = columns segment position yields es (p ∷ beyond (earlier position) (some p) (levels (earlier position) ks))
 
   module _ (h : All (Placed position) ks) where
-    o : Ordered (earlier position) (Placed position)
+    o : StrictWeakOrder (earlier position) (Placed position)
     o = placed-order position
 
     all-levels : beyond (earlier position) none (levels (earlier position) ks) ≡ levels (earlier position) ks
@@ -49,7 +49,7 @@ module _ {A : Type 0} (less : A → A → Bool) (W : A → ℤ) (es : List A) wh
   abbrev pub past : Option A → Option A → List (Slab A)
   past bottom g = slabs W bottom (beyond less g (levels less es))
 
-  module _ {Good : A → Type 0} (o : Ordered less Good) (goods : All Good es) where
+  module _ {Good : A → Type 0} (o : StrictWeakOrder less Good) (goods : All Good es) where
     pub slabs-stop : (bottom g : Option A) → IfSome Good g → next less g es ≡ none → past bottom g ≡ []
     unfolding slabs
     slabs-stop none g hg e = ap (slabs W none) (next-none less o g es hg goods e)

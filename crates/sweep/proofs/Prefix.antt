@@ -8,7 +8,7 @@ use Rattle.lists.specs.Lists.{All, Any, Member}
 use Rattle.lists.proofs.Tests.{yes-or-no, cond-yes, cond-no, same-test}
 use Rattle.lists.proofs.Lists.{all-map, all-with, any-elim, all-both}
 use Rattle.lists.proofs.Members.{all-member}
-use Rattle.levels.specs.Levels.{AtMost, Level, Ordered, levels, Rising}
+use Rattle.levels.specs.Levels.{AtMost, Level, StrictWeakOrder, levels, Rising}
 use Rattle.levels.proofs.Order.{at-most-refl}
 use Rattle.levels.proofs.Laws.{levels-all, levels-rising, levels-cover}
 
@@ -22,7 +22,7 @@ module _ {A : Type 0} (f : A → Bool) where
   value W z [] = z
   value W z (g ∷ gs) = cond (f g) (value W (W g) gs) z
 
-module _ {A : Type 0} {less : A → A → Bool} {Good : A → Type 0} (o : Ordered less Good) (f : A → Bool)
+module _ {A : Type 0} {less : A → A → Bool} {Good : A → Type 0} (o : StrictWeakOrder less Good) (f : A → Bool)
     (down : (x y : A) → Good x → Good y → AtMost less x y → T (f y) → T (f x)) where
   pub prefix : (gs : List A) → All Good gs → Rising less gs → Prefix f gs
   prefix [] h r = tt

@@ -9,7 +9,7 @@ use native.Mathlib.Nat.{zero-add}
 use lib.Dec.{T}
 use lib.IntN.{ℤ, pos, negsuc}
 use Rattle.lists.specs.Lists.{All, Pairs}
-use Rattle.lists.specs.Tests.{always, bit, count}
+use Rattle.lists.specs.Tests.{always, bit, countIf}
 use Rattle.lists.proofs.Tests.{true-is, false-is, yes-or-no, cond-cases, cond-no}
 use Rattle.sweep.specs.Columns.{isZero, Slab, holds, slabs}
 use Rattle.sweep.proofs.Prefix.{Prefix, value}
@@ -20,8 +20,8 @@ zero-is (pos (suc n)) h = absurd h
 zero-is (negsuc n) h = absurd h
 
 -- 1 where the number is not zero
-abbrev mark : ℤ → ℕ
-mark z = bit (not (isZero z))
+abbrev oneIfNonzero : ℤ → ℕ
+oneIfNonzero z = bit (not (isZero z))
 
 -- to prove something of the slabs of g and the rest: the sum is zero up to g, or is not
 module _ {A : Type 0} (W : A → ℤ) (R : List (Slab A) → Type 0) (g : A) (gs : List A) where
@@ -38,59 +38,59 @@ module _ {A : Type 0} (W : A → ℤ) (f : A → Bool) where
   value-none z [] a = refl
   value-none z (g ∷ gs) a = cond-no (f g) (value f W (W g) gs) z (a .0)
 
-  abbrev held : List (Slab A) → ℕ
-  held ss = count (holds f) ss
+  abbrev holding : List (Slab A) → ℕ
+  holding ss = countIf (holds f) ss
 
   abbrev Outside : Option A → Type 0
   Outside none = Unit {0}
   Outside (some b) = T (not (f b))
 
   -- no slab holds the point if no group is at or below it
-  slabs-none : (o : Option A) (gs : List A) → Outside o → All (λ (g : A). T (not (f g))) gs → held (slabs W o gs) ≡ 0
-  unfolding count slabs
+  slabs-none : (o : Option A) (gs : List A) → Outside o → All (λ (g : A). T (not (f g))) gs → holding (slabs W o gs) ≡ 0
+  unfolding countIf slabs
   slabs-none none [] d a = refl
   slabs-none (some b) [] d a = refl
-  slabs-none none (g ∷ gs) d a = let h = slabs-none none gs tt (a .1) in let k = slabs-none (some g) gs (a .0) (a .1) in outside-cases W (λ (ss : List (Slab A)). held ss ≡ 0) g gs (λ z. h) (λ z. k)
+  slabs-none none (g ∷ gs) d a = let h = slabs-none none gs tt (a .1) in let k = slabs-none (some g) gs (a .0) (a .1) in outside-cases W (λ (ss : List (Slab A)). holding ss ≡ 0) g gs (λ z. h) (λ z. k)
   slabs-none (some b) (g ∷ gs) d a =
       let h = slabs-none none gs tt (a .1) in
       let k = slabs-none (some b) gs d (a .1) in
       let e : f b ≡ false = false-is d in
-      inside-cases W (λ (ss : List (Slab A)). held ss ≡ 0) g gs b (λ z. rw (e, h)) (λ z. k)
+      inside-cases W (λ (ss : List (Slab A)). holding ss ≡ 0) g gs b (λ z. rw (e, h)) (λ z. k)
 
   -- before the rest: outside a slab the sum is zero, inside it is not
   abbrev State : Option A → ℤ → Type 0
   State none z = z ≡ pos 0
   State (some b) z = T (f b) × T (not (isZero z))
 
-  pub slabs-count : (gs : List A) (o : Option A) (z : ℤ) → State o z → Prefix f gs → value always W z gs ≡ pos 0 → held (slabs W o gs) ≡ mark (value f W z gs)
-  unfolding count slabs
+  pub slabs-count : (gs : List A) (o : Option A) (z : ℤ) → State o z → Prefix f gs → value always W z gs ≡ pos 0 → holding (slabs W o gs) ≡ oneIfNonzero (value f W z gs)
+  unfolding countIf slabs
   slabs-count [] none z s p e = rw s
   slabs-count [] (some b) z s p e = absurd (rw e at (s .1))
   slabs-count (g ∷ gs) none z s p e =
-      let h : W g ≡ pos 0 → held (slabs W none gs) ≡ mark (value f W (W g) gs) = λ k. slabs-count gs none (W g) k (p .1) e in
-      let k : T (f g) → T (not (isZero (W g))) → held (slabs W (some g) gs) ≡ mark (value f W (W g) gs) = λ b n. slabs-count gs (some g) (W g) (b, n) (p .1) e in
+      let h : W g ≡ pos 0 → holding (slabs W none gs) ≡ oneIfNonzero (value f W (W g) gs) = λ k. slabs-count gs none (W g) k (p .1) e in
+      let k : T (f g) → T (not (isZero (W g))) → holding (slabs W (some g) gs) ≡ oneIfNonzero (value f W (W g) gs) = λ b n. slabs-count gs (some g) (W g) (b, n) (p .1) e in
       elim (yes-or-no (f g)) [
-        | inl b ↦ (let i : f g ≡ true = true-is b in rw i (outside-cases W (λ (ss : List (Slab A)). held ss ≡ mark (value f W (W g) gs)) g gs h (k b)))
+        | inl b ↦ (let i : f g ≡ true = true-is b in rw i (outside-cases W (λ (ss : List (Slab A)). holding ss ≡ oneIfNonzero (value f W (W g) gs)) g gs h (k b)))
         | inr b ↦ (
             let i : f g ≡ false = false-is b in
-            rw (i, s) (outside-cases W (λ (ss : List (Slab A)). held ss ≡ 0) g gs (λ y. slabs-none none gs tt (p .0 b)) (λ y. slabs-none (some g) gs b (p .0 b)))
+            rw (i, s) (outside-cases W (λ (ss : List (Slab A)). holding ss ≡ 0) g gs (λ y. slabs-none none gs tt (p .0 b)) (λ y. slabs-none (some g) gs b (p .0 b)))
             )
       ]
   slabs-count (g ∷ gs) (some c) z s p e =
-      let h : W g ≡ pos 0 → held (slabs W none gs) ≡ mark (value f W (W g) gs) = λ k. slabs-count gs none (W g) k (p .1) e in
-      let k : T (not (isZero (W g))) → held (slabs W (some c) gs) ≡ mark (value f W (W g) gs) = λ n. slabs-count gs (some c) (W g) (s .0, n) (p .1) e in
+      let h : W g ≡ pos 0 → holding (slabs W none gs) ≡ oneIfNonzero (value f W (W g) gs) = λ k. slabs-count gs none (W g) k (p .1) e in
+      let k : T (not (isZero (W g))) → holding (slabs W (some c) gs) ≡ oneIfNonzero (value f W (W g) gs) = λ n. slabs-count gs (some c) (W g) (s .0, n) (p .1) e in
       let j : f c ≡ true = true-is (s .0) in
       elim (yes-or-no (f g)) [
         | inl b ↦ (
             let i : f g ≡ true = true-is b in
-            rw i (inside-cases W (λ (ss : List (Slab A)). held ss ≡ mark (value f W (W g) gs)) g gs c (λ y. rw (j, i) (zero-add (held (slabs W none gs)) ∙ h y)) k)
+            rw i (inside-cases W (λ (ss : List (Slab A)). holding ss ≡ oneIfNonzero (value f W (W g) gs)) g gs c (λ y. rw (j, i) (zero-add (holding (slabs W none gs)) ∙ h y)) k)
             )
         | inr b ↦ (
             let i : f g ≡ false = false-is b in
             let u : isZero z ≡ false = false-is (s .1) in
-            rw (i, u) (inside-cases W (λ (ss : List (Slab A)). held ss ≡ 1) g gs c
+            rw (i, u) (inside-cases W (λ (ss : List (Slab A)). holding ss ≡ 1) g gs c
             (λ y. rw (j, i, slabs-none none gs tt (p .0 b)))
-            (λ y. let v : isZero (W g) ≡ false = false-is y in k y ∙ ap mark (value-none (W g) gs (p .0 b)) ∙ ap (λ (t : Bool). bit (not t)) v))
+            (λ y. let v : isZero (W g) ≡ false = false-is y in k y ∙ ap oneIfNonzero (value-none (W g) gs (p .0 b)) ∙ ap (λ (t : Bool). bit (not t)) v))
             )
       ]
 

@@ -8,14 +8,14 @@ use native.Mathlib.Nat.{zero-add, add-zero}
 use lib.Dec.{T, T-not, not-T}
 use mir.Facts.{and-yes}
 use Rattle.lists.specs.Lists.{All, Neighbours, Member}
-use Rattle.lists.specs.Tests.{count}
+use Rattle.lists.specs.Tests.{countIf}
 use Rattle.lists.proofs.Tests.{yes-or-no}
 use Rattle.lists.proofs.Lists.{all-append, all-map, all-with, any-elim, all-both}
 use Rattle.lists.proofs.Neighbours.{neighbours-all, neighbours-map, neighbours-of, neighbours-both, pairs-neighbours}
 use Rattle.lists.proofs.Counts.{count-append}
 use Rattle.integer.specs.Fraction.{Fraction, Proper, before}
 use Rattle.integer.proofs.Fraction.{before→at-most, at-most-trans, before-at-most-trans}
-use Rattle.levels.specs.Levels.{Level, Ordered, levels, Rising}
+use Rattle.levels.specs.Levels.{Level, StrictWeakOrder, levels, Rising}
 use Rattle.levels.proofs.Laws.{levels-all, levels-members, levels-rising, levels-cover, none-between}
 use Rattle.sweep.specs.Segments.{Segment, spans, spanning}
 use Rattle.sweep.specs.Sweep.{earlier, columns, sweep, IsEvent, Complete, Column, SweepAll, SweepCount}
@@ -26,14 +26,14 @@ module _ {K : Type 0} (position : K → Fraction) where
   abbrev pub Placed : K → Type 0
   Placed k = Proper (position k)
 
-  pub placed-order : Ordered (earlier position) Placed
+  pub placed-order : StrictWeakOrder (earlier position) Placed
   placed-order = record { asymmetric = λ s t. before→at-most (position s) (position t); transitive = λ s t u hs ht hu. at-most-trans (position s) (position t) (position u) hs ht hu }
 
 module _ {A K : Type 0} (segment : A → Segment) (position : K → Fraction) (es : List A) (ks : List K) (c : Complete segment position es ks) where
   abbrev less : K → K → Bool
   less = earlier position
 
-  o : Ordered less (Placed position)
+  o : StrictWeakOrder less (Placed position)
   o = placed-order position
 
   abbrev ss : List K
@@ -92,7 +92,7 @@ module _ {A K X : Type 0} (segment : A → Segment) (position : K → Fraction) 
 
   -- ---- how many pass a test, where only the column that x is in yields any that do
   module _ (x : Fraction) (hx : Proper x) (f : X → Bool) (n : ℕ)
-      (elsewhere : (p q : K) (ds : List A) → T (before x (position p)) ⊎ T (not (before x (position q))) → count f (yields p q ds) ≡ 0) where
+      (elsewhere : (p q : K) (ds : List A) → T (before x (position p)) ⊎ T (not (before x (position q))) → countIf f (yields p q ds) ≡ 0) where
     abbrev Before : K → Type 0
     Before k = T (before x (position k))
 
@@ -100,8 +100,8 @@ module _ {A K X : Type 0} (segment : A → Segment) (position : K → Fraction) 
     NotBefore k = T (not (before x (position k)))
 
     -- the columns right of x
-    count-after : (ss : List K) → All Before ss → count f (swept ss) ≡ 0
-    unfolding columns count
+    count-after : (ss : List K) → All Before ss → countIf f (swept ss) ≡ 0
+    unfolding columns countIf
     count-after [] a = refl
     count-after (p ∷ []) a = refl
     count-after (p ∷ q ∷ qs) a = count-append f (yielded p q) (swept (q ∷ qs)) ∙ ap₂ _+_ (elsewhere p q (spanning segment (position p) es) (inl (a .0))) (count-after (q ∷ qs) (a .1))
@@ -111,22 +111,22 @@ module _ {A K X : Type 0} (segment : A → Segment) (position : K → Fraction) 
 
     -- the column that x is in has n
     abbrev Counts : K → K → Type 0
-    Counts p q = NotBefore p → Before q → count f (yielded p q) ≡ n
+    Counts p q = NotBefore p → Before q → countIf f (yielded p q) ≡ n
 
     -- from an event at or left of x on
-    count-from : (s : K) (ts : List K) → NotBefore s → All (Placed position) ts → Rising (earlier position) ts → Neighbours Counts (s ∷ ts) → (All NotBefore ts → n ≡ 0) → count f (swept (s ∷ ts)) ≡ n
-    unfolding columns count
+    count-from : (s : K) (ts : List K) → NotBefore s → All (Placed position) ts → Rising (earlier position) ts → Neighbours Counts (s ∷ ts) → (All NotBefore ts → n ≡ 0) → countIf f (swept (s ∷ ts)) ≡ n
+    unfolding columns countIf
     count-from s [] l g r m z = sym (z tt)
     count-from s (t ∷ ts) l g r m z =
-        let k : NotBefore t → count f (swept (t ∷ ts)) ≡ n = λ b. count-from t ts b (g .1) (r .1) (m .1) (λ a. z (b, a)) in
+        let k : NotBefore t → countIf f (swept (t ∷ ts)) ≡ n = λ b. count-from t ts b (g .1) (r .1) (m .1) (λ a. z (b, a)) in
         count-append f (yielded s t) (swept (t ∷ ts))
         ∙ elim (yes-or-no (before x (position t))) [
           | inl b ↦ ap₂ _+_ (m .0 l b) (count-after (t ∷ ts) (all-after t ts (g .0) (g .1) (r .0) b)) ∙ add-zero n
           | inr b ↦ ap₂ _+_ (elsewhere s t (spanning segment (position s) es) (inr b)) (k b) ∙ zero-add n
         ]
 
-    count-columns : (ss : List K) → All (Placed position) ss → Rising (earlier position) ss → Neighbours Counts ss → (All Before ss → n ≡ 0) → (All NotBefore ss → n ≡ 0) → count f (swept ss) ≡ n
-    unfolding columns count
+    count-columns : (ss : List K) → All (Placed position) ss → Rising (earlier position) ss → Neighbours Counts ss → (All Before ss → n ≡ 0) → (All NotBefore ss → n ≡ 0) → countIf f (swept ss) ≡ n
+    unfolding columns countIf
     count-columns [] g r m y z = sym (z tt)
     count-columns (s ∷ ss) g r m y z =
         elim (yes-or-no (before x (position s))) [

@@ -9,7 +9,7 @@ use Prim.Native.Nat.{zero, suc}
 use lib.Dec.{T}
 use lib.IntN.{ℤ, pos, negsuc}
 use Rattle.lists.specs.Lists.{All, Any}
-use Rattle.lists.specs.Tests.{always, bit, count}
+use Rattle.lists.specs.Tests.{always, bit, countIf}
 use Rattle.integer.specs.Fraction.{Fraction, Proper, before}
 use Rattle.levels.specs.Levels.{levels}
 use Rattle.geometry.specs.declared.Line.{Line}
@@ -76,7 +76,7 @@ module _ {A : Type 0} (line : A → Line) where
     abbrev pub ColumnWinding : Type 0
     ColumnWinding =
         (p q : Fraction) (es : List A) (P : Point) → Clear p q es → IsPoint P → T (not (before (at P) p)) → T (before (at P) q) → sum weight always es ≡ pos 0
-        → count (holds (λ (e : A). under P (line e))) (column p es) ≡ bit (not (isZero (winding P es)))
+        → countIf (holds (λ (e : A). under P (line e))) (column p es) ≡ bit (not (isZero (winding P es)))
 
     -- the bottom of a slab is below its top strictly inside the column, and both are of es
     abbrev pub ColumnOpen : Type 0

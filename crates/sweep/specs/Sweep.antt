@@ -7,7 +7,7 @@ use mathlib.Core.Logic.{_⊎_}
 use Prim.Native.Nat.{ℕ}
 use lib.Dec.{T}
 use Rattle.lists.specs.Lists.{All, Any, Pairs}
-use Rattle.lists.specs.Tests.{count}
+use Rattle.lists.specs.Tests.{countIf}
 use Rattle.integer.specs.Fraction.{Fraction, Proper, before}
 use Rattle.levels.specs.Levels.{levels}
 use Rattle.geometry.specs.Lines.{IsLine}
@@ -59,7 +59,7 @@ module _ {A K : Type 0} (segment : A → Segment) (position : K → Fraction) (e
     abbrev pub SweepCount : Fraction → (X → Bool) → ℕ → Type 0
     SweepCount x f n =
         Complete → Proper x
-        → ((p q : K) (ds : List A) → T (before x (position p)) ⊎ T (not (before x (position q))) → count f (yields p q ds) ≡ 0)
+        → ((p q : K) (ds : List A) → T (before x (position p)) ⊎ T (not (before x (position q))) → countIf f (yields p q ds) ≡ 0)
         → (All (λ (e : A). T (not (spans x (segment e)))) es → n ≡ 0)
-        → ((p q : K) → Column p q → T (not (before x (position p))) → T (before x (position q)) → count f (yields p q (spanning segment (position p) es)) ≡ n)
-        → count f (sweep segment position yields es ks) ≡ n
+        → ((p q : K) → Column p q → T (not (before x (position p))) → T (before x (position q)) → countIf f (yields p q (spanning segment (position p) es)) ≡ n)
+        → countIf f (sweep segment position yields es ks) ≡ n

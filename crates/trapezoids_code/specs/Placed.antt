@@ -6,7 +6,7 @@ use Rattle.geometry.specs.Limit.{coordinateLimit}
 use Rattle.geometry.specs.Fitness.{FitFor}
 use Rattle.geometry.specs.declared.Placed.{Placed}
 use Rattle.geometry.specs.Ranges.{commonLeft, commonRight}
-use Rattle.geometry_code.specs.Code.{fractionOf, Small, PositionOf}
+use Rattle.geometry_code.specs.Code.{fractionOf, SmallPosition, PositionOf}
 
 -- a fit trapezoid with the positions of its bases
 pub record PlacedAs (t : Trapezoid) (a : Placed) : Type 0 where
@@ -21,8 +21,8 @@ pub record Pair (a b : Placed) : Type 0 where
 
 pub record CommonLeft (a b : Placed) (p : Position) : Type 0 where
   pub is : fractionOf p ≡ commonLeft (a .shape) (b .shape)
-  pub small : Small p
+  pub small : SmallPosition p
 
 pub record CommonRight (a b : Placed) (p : Position) : Type 0 where
   pub is : fractionOf p ≡ commonRight (a .shape) (b .shape)
-  pub small : Small p
+  pub small : SmallPosition p

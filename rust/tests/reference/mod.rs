@@ -376,7 +376,7 @@ struct Run {
 }
 
 /// The result and the remainder exceed the output.
-struct NoSpace;
+struct NoRoom;
 
 impl Run {
     fn new(room: usize) -> Run {
@@ -392,10 +392,10 @@ impl Run {
     }
 
     /// The space rule, met after each overlay and each addition.
-    fn check_space(&mut self, held: usize) -> Result<(), NoSpace> {
+    fn check_space(&mut self, held: usize) -> Result<(), NoRoom> {
         self.peak = self.peak.max(held);
         if held > self.room {
-            return Err(NoSpace);
+            return Err(NoRoom);
         }
         Ok(())
     }
@@ -406,7 +406,7 @@ impl Run {
     }
 
     /// Adds a whole layer.
-    fn add_all(&mut self, layer: &[Trapezoid]) -> Result<(), NoSpace> {
+    fn add_all(&mut self, layer: &[Trapezoid]) -> Result<(), NoRoom> {
         self.result.extend_from_slice(layer);
         self.check_space(self.result.len())
     }
@@ -418,7 +418,7 @@ impl Run {
         trapezoid: &Trapezoid,
         others: &[Trapezoid],
         held: usize,
-    ) -> Result<(), NoSpace> {
+    ) -> Result<(), NoRoom> {
         self.remainder.clear();
         self.remainder.push(*trapezoid);
         for other in others {
@@ -440,13 +440,13 @@ impl Run {
     }
 
     /// Adds the remainder.
-    fn add_remainder(&mut self) -> Result<(), NoSpace> {
+    fn add_remainder(&mut self) -> Result<(), NoRoom> {
         self.result.append(&mut self.remainder);
         self.check_space(self.result.len())
     }
 
     /// Adds A - B.
-    fn difference(&mut self, a: &[Trapezoid], b: &[Trapezoid]) -> Result<(), NoSpace> {
+    fn difference(&mut self, a: &[Trapezoid], b: &[Trapezoid]) -> Result<(), NoRoom> {
         for trapezoid in a {
             self.subtract(trapezoid, b, self.result.len())?;
             self.add_remainder()?;
@@ -455,7 +455,7 @@ impl Run {
     }
 
     /// Adds what is in both.
-    fn intersection(&mut self, a: &[Trapezoid], b: &[Trapezoid]) -> Result<(), NoSpace> {
+    fn intersection(&mut self, a: &[Trapezoid], b: &[Trapezoid]) -> Result<(), NoRoom> {
         for first in a {
             for second in b {
                 self.overlay(first, second);
@@ -470,7 +470,7 @@ impl Run {
         Ok(())
     }
 
-    fn combine(&mut self, code: u32, a: &[Trapezoid], b: &[Trapezoid]) -> Result<(), NoSpace> {
+    fn combine(&mut self, code: u32, a: &[Trapezoid], b: &[Trapezoid]) -> Result<(), NoRoom> {
         match code {
             0 => {
                 self.add_all(a)?;
@@ -487,7 +487,7 @@ impl Run {
         }
     }
 
-    fn deoverlap(&mut self, a: &[Trapezoid]) -> Result<(), NoSpace> {
+    fn deoverlap(&mut self, a: &[Trapezoid]) -> Result<(), NoRoom> {
         for trapezoid in a {
             let result = std::mem::take(&mut self.result);
             self.subtract(trapezoid, &result, result.len())?;
@@ -497,8 +497,8 @@ impl Run {
         Ok(())
     }
 
-    /// The side on which A and B differ, if they do.
-    fn equal(&mut self, a: &[Trapezoid], b: &[Trapezoid]) -> Result<Option<u8>, NoSpace> {
+    /// The operand with points that the other lacks, if A and B differ.
+    fn equal(&mut self, a: &[Trapezoid], b: &[Trapezoid]) -> Result<Option<u8>, NoRoom> {
         self.difference(a, b)?;
         if !self.result.is_empty() {
             return Ok(Some(0));
@@ -620,11 +620,11 @@ const NO_SPACE: Refusal = Refusal {
 };
 
 /// Writes the result, or nothing on lack of space; all else is zero.
-fn finish(run: Run, space: Result<(), NoSpace>, out: &mut [i32], scratch: &mut [i32]) -> u64 {
+fn finish(run: Run, space: Result<(), NoRoom>, out: &mut [i32], scratch: &mut [i32]) -> u64 {
     out.fill(0);
     scratch.fill(0);
     match space {
-        Err(NoSpace) => refused(NO_SPACE),
+        Err(NoRoom) => refused(NO_SPACE),
         Ok(()) => {
             for (trapezoid, record) in run.result.iter().zip(out.chunks_mut(WORDS)) {
                 trapezoid.write(record);
@@ -666,9 +666,9 @@ pub fn equal(a: &[i32], b: &[i32], out: &mut [i32], scratch: &mut [i32]) -> u64 
     out.fill(0);
     scratch.fill(0);
     match outcome {
-        Err(NoSpace) => refused(NO_SPACE),
+        Err(NoRoom) => refused(NO_SPACE),
         Ok(None) => accepted(0, run.overlays),
-        Ok(Some(side)) => accepted(1 + side as u32, run.overlays),
+        Ok(Some(operand)) => accepted(1 + operand as u32, run.overlays),
     }
 }
 

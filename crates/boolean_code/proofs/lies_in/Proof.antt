@@ -28,23 +28,31 @@ load-requires c κs = omega (arith, c .loop-test .taken)
 
 contains-requires : tie.Need-contains-requires Inv-loop μ-loop
 contains-requires c κs =
-    let s = c .before .before .before in
-    let f = all-record (FitFor coordinateLimit) (s .args .layer .now) (c .before .before .loop .i) (s .pre .0) (c .before .loop-test .taken) in
-    (subst (λ (t : Trapezoid). All (OnGrid coordinateLimit) (linesOf t)) (sym (c .load .ensures)) (f .grid), s .pre .1)
+    let at-start = c .before .before .before in
+    let f = all-record (FitFor coordinateLimit) (at-start .args .layer .now) (c .before .before .loop .i) (at-start .pre .0) (c .before .loop-test .taken) in
+    (subst (λ (t : Trapezoid). All (OnGrid coordinateLimit) (linesOf t)) (sym (c .load .ensures)) (f .grid), at-start .pre .1)
 
 returns : tie.Need-returns Inv-loop μ-loop
 returns c =
-    let k = c .before .before in
-    let a = k .before .before .before .args in
+    let at-contains = c .before in
+    let at-load = at-contains .before in
+    let at-loop-test = at-load .before in
+    let at-loop = at-loop-test .before in
+    let at-start = at-loop .before in
+    let a = at-start .args in
     let P = pointOf (a .x) (a .y) (a .d) in
-    search-found (liesInLayer P) (liesIn P) (λ t ts. refl) (k .before .before .loop .inv) (k .before .loop-test .taken) (k .load .result) (k .load .ensures) (sym (c .before .contains .ensures) ∙ c .if1 .taken)
+    search-found (liesInLayer P) (liesIn P) (λ t ts. refl) (at-loop .loop .inv) (at-loop-test .loop-test .taken) (at-load .load .result) (at-load .load .ensures) (sym (at-contains .contains .ensures) ∙ c .if1 .taken)
 
 loop-again : tie.Need-loop-again Inv-loop μ-loop
 loop-again c =
-    let k = c .before .before in
-    let a = k .before .before .before .args in
+    let at-contains = c .before in
+    let at-load = at-contains .before in
+    let at-loop-test = at-load .before in
+    let at-loop = at-loop-test .before in
+    let at-start = at-loop .before in
+    let a = at-start .args in
     let P = pointOf (a .x) (a .y) (a .d) in
-    search-turn (liesInLayer P) (liesIn P) (λ t ts. refl) (k .before .before .loop .inv) (k .before .loop-test .taken) (k .load .result) (k .load .ensures) (sym (c .before .contains .ensures) ∙ c .if1 .left)
+    search-turn (liesInLayer P) (liesIn P) (λ t ts. refl) (at-loop .loop .inv) (at-loop-test .loop-test .taken) (at-load .load .result) (at-load .load .ensures) (sym (at-contains .contains .ensures) ∙ c .if1 .left)
 
 returns-2 : tie.Need-returns-2 Inv-loop μ-loop
 returns-2 c = sym (walk-stop (c .before .loop .inv) (c .loop-test .left))

@@ -18,10 +18,15 @@ returns-4 c = rw (c .before .if4 .taken) (c .but-not2 .ensures)
 
 returns-5 : tie.Need-returns-5
 returns-5 c =
-    let k = c .before .before .before in
-    let s = k .before .before .before .before in
-    let e : s .args .code ≡ 4 = omega (arith, s .pre, k .before .before .before .if1 .left, k .before .before .if2 .left, k .before .if3 .left, k .if4 .left) in
-    rw (e, ← c .before .before .but-not3 .ensures, ← c .before .but-not4 .ensures) (c .either2 .ensures)
+    let at-but-not4 = c .before in
+    let at-but-not3 = at-but-not4 .before in
+    let at-if4 = at-but-not3 .before in
+    let at-if3 = at-if4 .before in
+    let at-if2 = at-if3 .before in
+    let at-if1 = at-if2 .before in
+    let at-start = at-if1 .before in
+    let e : at-start .args .code ≡ 4 = omega (arith, at-start .pre, at-if1 .if1 .left, at-if2 .if2 .left, at-if3 .if3 .left, at-if4 .if4 .left) in
+    rw (e, ← at-but-not3 .but-not3 .ensures, ← at-but-not4 .but-not4 .ensures) (c .either2 .ensures)
 
 pub says-spec : {M : Type 1} → statement M
 says-spec =

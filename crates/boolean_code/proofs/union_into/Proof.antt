@@ -10,68 +10,73 @@ use Rattle.records.specs.Limits.{memoryWidth}
 use Rattle.records.specs.Records.{count}
 use Rattle.geometry.specs.Trapezoids.{trapezoidCodec, layerOf}
 use Rattle.boolean.specs.Operations.{difference}
-use Rattle.boolean.specs.Space.{differenceMarks}
-use Rattle.boolean_code.proofs.Combining.{copied-short, copied-long, copied-holding, copied-folded}
+use Rattle.boolean.specs.Space.{differenceStages}
+use Rattle.boolean_code.proofs.Combining.{copied-no-room, copied-long, copied-holding, copied-folded}
 use Rattle.boolean_code.proofs.union_into.Statement.{statement}
 use Rattle.boolean_code.proofs.union_into.Tie as tie
 
 returns : tie.Need-returns
 returns c =
-    let s = c .before in
-    let a = s .args in
+    let at-start = c .before in
+    let a = at-start .args in
     let A = layerOf (a .first .now) in
     let B = layerOf (a .second .now) in
-    (copied-short (a .first .now) (a .out .now) (a .room) (s .pre .0 .2) (A ++ difference B A) (λ (k : ℕ). differenceMarks k B A) (c .if1 .taken), (omega arith, s .pre .1 .0))
+    (copied-no-room (a .first .now) (a .out .now) (a .room) (at-start .pre .0 .2) (A ++ difference B A) (λ (k : ℕ). differenceStages k B A) (c .if1 .taken), (omega arith, at-start .pre .1 .0))
 
 slice-aggregate-copy : tie.Need-slice-aggregate-copy
 slice-aggregate-copy c =
-    let s = c .before .before in
-    sym (length-take-le (memoryWidth * count trapezoidCodec (s .args .first .now)) (s .args .first .now) (omega arith))
+    let at-start = c .before .before in
+    sym (length-take-le (memoryWidth * count trapezoidCodec (at-start .args .first .now)) (at-start .args .first .now) (omega arith))
 
 slice-relend-prefix-copy : tie.Need-slice-relend-prefix-copy
 slice-relend-prefix-copy c =
-    let s = c .before .before in
-    omega (arith, s .pre .0 .2 .wide, c .before .if1 .left)
+    let at-start = c .before .before in
+    omega (arith, at-start .pre .0 .2 .wide, c .before .if1 .left)
 
 slice-aggregate-copy-2 : tie.Need-slice-aggregate-copy-2
 slice-aggregate-copy-2 c =
-    let s = c .before .before .before in
-    sym (length-take-le (memoryWidth * count trapezoidCodec (s .args .first .now)) (s .args .out .now) (omega (arith, s .pre .0 .2 .wide, c .before .before .if1 .left)))
+    let at-start = c .before .before .before in
+    sym (length-take-le (memoryWidth * count trapezoidCodec (at-start .args .first .now)) (at-start .args .out .now) (omega (arith, at-start .pre .0 .2 .wide, c .before .before .if1 .left)))
 
 copy-requires : tie.Need-copy-requires
 copy-requires c κs =
-    let s = c .before .before .before in
-    let n = memoryWidth * count trapezoidCodec (s .args .first .now) in
-    length-take-le n (s .args .first .now) (omega arith) ∙ sym (length-take-le n (s .args .out .now) (omega (arith, s .pre .0 .2 .wide, c .before .before .if1 .left)))
+    let at-start = c .before .before .before in
+    let n = memoryWidth * count trapezoidCodec (at-start .args .first .now) in
+    length-take-le n (at-start .args .first .now) (omega arith) ∙ sym (length-take-le n (at-start .args .out .now) (omega (arith, at-start .pre .0 .2 .wide, c .before .before .if1 .left)))
 
 difference-into-requires : tie.Need-difference-into-requires
 difference-into-requires c κs =
-    let s = c .before .before .before .before .before .before .before in
-    let a = s .args in
+    let at-copy = c .before .before .before in
+    let at-if1 = at-copy .before .before .before in
+    let at-start = at-if1 .before in
+    let a = at-start .args in
     let A = layerOf (a .first .now) in
     let B = layerOf (a .second .now) in
-    let p = c .before .before .before .copy in
-    let l : count trapezoidCodec (a .first .now) ≤ a .room = omega (arith, c .before .before .before .before .before .before .if1 .left) in
+    let p = at-copy .copy in
+    let l : count trapezoidCodec (a .first .now) ≤ a .room = omega (arith, at-if1 .if1 .left) in
     let w : p .last .1 .0 ++ drop (memoryWidth * count trapezoidCodec (a .first .now)) (a .out .now) ≡ take (memoryWidth * count trapezoidCodec (a .first .now)) (a .first .now) ++ drop (memoryWidth * count trapezoidCodec (a .first .now)) (a .out .now)
     = ap (λ (u : List ℤ). u ++ drop (memoryWidth * count trapezoidCodec (a .first .now)) (a .out .now)) (p .ensures) in
     let t = p .last .1 .0 ++ drop (memoryWidth * count trapezoidCodec (a .first .now)) (a .out .now) in (
-      (s .pre .0 .1, s .pre .0 .0, copied-holding (a .first .now) (a .out .now) (a .room) (s .pre .0 .2) l t w, s .pre .0 .3),
-      (s .pre .1 .0, s .pre .1 .1 ∙ sym (copied-long (a .first .now) (a .out .now) (a .room) (s .pre .0 .2) l t w)),
+      (at-start .pre .0 .1, at-start .pre .0 .0, copied-holding (a .first .now) (a .out .now) (a .room) (at-start .pre .0 .2) l t w, at-start .pre .0 .3),
+      (at-start .pre .1 .0, at-start .pre .1 .1 ∙ sym (copied-long (a .first .now) (a .out .now) (a .room) (at-start .pre .0 .2) l t w)),
     )
 
 returns-2 : tie.Need-returns-2
 returns-2 c =
-    let s = c .before .before .before .before .before .before .before .before .before .before in
-    let a = s .args in
+    let at-difference-into = c .before .before in
+    let at-copy = at-difference-into .before .before .before .before in
+    let at-if1 = at-copy .before .before .before in
+    let at-start = at-if1 .before in
+    let a = at-start .args in
     let A = layerOf (a .first .now) in
     let B = layerOf (a .second .now) in
-    let p = c .before .before .before .before .before .before .copy in
-    let l : count trapezoidCodec (a .first .now) ≤ a .room = omega (arith, c .before .before .before .before .before .before .before .before .before .if1 .left) in
+    let p = at-copy .copy in
+    let l : count trapezoidCodec (a .first .now) ≤ a .room = omega (arith, at-if1 .if1 .left) in
     let w : p .last .1 .0 ++ drop (memoryWidth * count trapezoidCodec (a .first .now)) (a .out .now) ≡ take (memoryWidth * count trapezoidCodec (a .first .now)) (a .first .now) ++ drop (memoryWidth * count trapezoidCodec (a .first .now)) (a .out .now)
     = ap (λ (u : List ℤ). u ++ drop (memoryWidth * count trapezoidCodec (a .first .now)) (a .out .now)) (p .ensures) in
     let t = p .last .1 .0 ++ drop (memoryWidth * count trapezoidCodec (a .first .now)) (a .out .now) in
-    let r = c .before .before .difference-into in
-    (copied-folded (a .first .now) (a .out .now) (a .room) (s .pre .0 .2) l t w (difference B A) (λ (k : ℕ). differenceMarks k B A) (r .result) (r .last .1 .1 .1 .0) (r .ensures .0), r .ensures .1)
+    let r = at-difference-into .difference-into in
+    (copied-folded (a .first .now) (a .out .now) (a .room) (at-start .pre .0 .2) l t w (difference B A) (λ (k : ℕ). differenceStages k B A) (r .result) (r .last .1 .1 .1 .0) (r .ensures .0), r .ensures .1)
 
 pub union-into-spec : {M : Type 1} → statement M
 union-into-spec =

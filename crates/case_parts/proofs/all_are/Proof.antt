@@ -1,3 +1,4 @@
+-- Before each turn: `at` is at most the number of words.
 use Prim.Native.Nat.{_-_, _≤_}
 use lib.ListN.{length}
 use borrow.Author.Needs.{needs}

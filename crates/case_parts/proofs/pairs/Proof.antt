@@ -1,3 +1,4 @@
+-- Before turn i: the file is as long as it was.
 use mathlib.Core.Path.{_≡_, refl}
 use Prim.Native.Nat.{_-_}
 use lib.ListN.{length}

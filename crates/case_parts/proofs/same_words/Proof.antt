@@ -1,3 +1,4 @@
+-- Before turn i: i is at most the number of words of `a`.
 use Prim.Native.Nat.{_-_, _≤_}
 use lib.ListN.{length}
 use borrow.Author.Needs.{needs}

@@ -1,3 +1,4 @@
+-- Before turn i: there are as many words as there were, and i is at least `start`.
 use mathlib.Core.Path.{_≡_, refl}
 use Prim.Native.Nat.{_-_, _≤_}
 use native.Mathlib.Omega.{arith}

@@ -1,3 +1,4 @@
+-- Before turn i: the file is as long as it was.
 use mathlib.Core.Path.{_≡_, refl, _∙_}
 use Prim.Native.Nat.{_-_}
 use lib.ListN.{length}
@@ -15,7 +16,10 @@ loop-holds : tie.Need-loop-holds Inv-loop μ-loop
 loop-holds c = refl
 
 loop-again : tie.Need-loop-again Inv-loop μ-loop
-loop-again c = c .before .before .put-word .kept .0 ∙ c .before .before .before .before .before .before .loop .inv
+loop-again c =
+    let at-put-word = c .before .before in
+    let at-loop = at-put-word .before .before .before .before in
+    at-put-word .put-word .kept .0 ∙ at-loop .loop .inv
 
 same-length : tie.Need-same-length Inv-loop μ-loop
 same-length c = c .before .loop .inv

@@ -11,25 +11,47 @@ in-range-requires-2 : tie.Need-in-range-requires-2
 in-range-requires-2 c κs = let h = c .before .pre in (h .0 .second, h .1)
 
 exchange-requires : tie.Need-exchange-requires
-exchange-requires c κs = let h = c .before .before .before .before .before .pre in ((h .0 .first .fit, h .0 .second .fit, h .1), (h .2 .long, omega arith, omega arith))
+exchange-requires c κs =
+    let at-start = c .before .before .before .before .before in
+    let h = at-start .pre in ((h .0 .first .fit, h .0 .second .fit, h .1), (h .2 .long, omega arith, omega arith))
 
 exchange-requires-2 : tie.Need-exchange-requires-2
-exchange-requires-2 c κs = let h = c .before .before .before .before .before .before .pre in ((h .0 .first .fit, h .0 .second .fit, h .1), (exchange-long (c .exchange .ensures) (h .2 .long), omega arith, omega arith))
+exchange-requires-2 c κs =
+    let at-start = c .before .before .before .before .before .before in
+    let h = at-start .pre in ((h .0 .first .fit, h .0 .second .fit, h .1), (exchange-long (c .exchange .ensures) (h .2 .long), omega arith, omega arith))
 
 exchange-requires-3 : tie.Need-exchange-requires-3
-exchange-requires-3 c κs = let h = c .before .before .before .before .before .before .before .pre in ((h .0 .first .fit, h .0 .second .fit, h .1), (exchange-long (c .exchange2 .ensures) (exchange-long (c .before .exchange .ensures) (h .2 .long)), omega arith, omega arith))
+exchange-requires-3 c κs =
+    let at-exchange = c .before in
+    let at-start = at-exchange .before .before .before .before .before .before in
+    let h = at-start .pre in ((h .0 .first .fit, h .0 .second .fit, h .1), (exchange-long (c .exchange2 .ensures) (exchange-long (at-exchange .exchange .ensures) (h .2 .long)), omega arith, omega arith))
 
 exchange-requires-4 : tie.Need-exchange-requires-4
-exchange-requires-4 c κs = let h = c .before .before .before .before .before .before .before .before .pre in ((h .0 .first .fit, h .0 .second .fit, h .1), (exchange-long (c .exchange3 .ensures) (exchange-long (c .before .exchange2 .ensures) (exchange-long (c .before .before .exchange .ensures) (h .2 .long))), omega arith, omega arith))
+exchange-requires-4 c κs =
+    let at-exchange2 = c .before in
+    let at-exchange = at-exchange2 .before in
+    let at-start = at-exchange .before .before .before .before .before .before in
+    let h = at-start .pre in ((h .0 .first .fit, h .0 .second .fit, h .1), (exchange-long (c .exchange3 .ensures) (exchange-long (at-exchange2 .exchange2 .ensures) (exchange-long (at-exchange .exchange .ensures) (h .2 .long))), omega arith, omega arith))
 
 exchange-requires-5 : tie.Need-exchange-requires-5
-exchange-requires-5 c κs = let h = c .before .before .before .before .before .before .before .before .before .pre in ((h .0 .first .fit, h .0 .second .fit, h .1), (exchange-long (c .exchange4 .ensures) (exchange-long (c .before .exchange3 .ensures) (exchange-long (c .before .before .exchange2 .ensures) (exchange-long (c .before .before .before .exchange .ensures) (h .2 .long)))), omega arith, omega arith))
+exchange-requires-5 c κs =
+    let at-exchange3 = c .before in
+    let at-exchange2 = at-exchange3 .before in
+    let at-exchange = at-exchange2 .before in
+    let at-start = at-exchange .before .before .before .before .before .before in
+    let h = at-start .pre in ((h .0 .first .fit, h .0 .second .fit, h .1), (exchange-long (c .exchange4 .ensures) (exchange-long (at-exchange3 .exchange3 .ensures) (exchange-long (at-exchange2 .exchange2 .ensures) (exchange-long (at-exchange .exchange .ensures) (h .2 .long)))), omega arith, omega arith))
 
 returns : tie.Need-returns
 returns c =
-    let s = c .before .before .before .before .before .before .before .before .before .before in
-    column-exact (s .pre .0 .first .fit) (s .pre .0 .second .fit) (fractionOf (s .args .at)) (record { order = s .args .c .order; in_a = c .before .before .before .before .before .before .before .before .before .in-range .result; in_b = c .before .before .before .before .before .before .before .before .in-range2 .result }) (c .before .before .before .before .exchange .result) (c .before .before .before .exchange2 .result) (c .before .before .exchange3 .result) (c .before .exchange4 .result) (c .exchange5 .result)
-    (s .pre .2) (c .before .before .before .before .before .before .before .before .before .in-range .ensures) (c .before .before .before .before .before .before .before .before .in-range2 .ensures) (c .before .before .before .before .exchange .ensures) (c .before .before .before .exchange2 .ensures) (c .before .before .exchange3 .ensures) (c .before .exchange4 .ensures) (c .exchange5 .ensures)
+    let at-exchange4 = c .before in
+    let at-exchange3 = at-exchange4 .before in
+    let at-exchange2 = at-exchange3 .before in
+    let at-exchange = at-exchange2 .before in
+    let at-in-range2 = at-exchange .before .before .before .before in
+    let at-in-range = at-in-range2 .before in
+    let at-start = at-in-range .before in
+    column-exact (at-start .pre .0 .first .fit) (at-start .pre .0 .second .fit) (fractionOf (at-start .args .at)) (record { order = at-start .args .c .order; in_a = at-in-range .in-range .result; in_b = at-in-range2 .in-range2 .result }) (at-exchange .exchange .result) (at-exchange2 .exchange2 .result) (at-exchange3 .exchange3 .result) (at-exchange4 .exchange4 .result) (c .exchange5 .result)
+    (at-start .pre .2) (at-in-range .in-range .ensures) (at-in-range2 .in-range2 .ensures) (at-exchange .exchange .ensures) (at-exchange2 .exchange2 .ensures) (at-exchange3 .exchange3 .ensures) (at-exchange4 .exchange4 .ensures) (c .exchange5 .ensures)
 
 pub column-at-spec : {M : Type 1} → statement M
 column-at-spec =

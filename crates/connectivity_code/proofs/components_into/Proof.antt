@@ -10,18 +10,19 @@ number-each-requires c κs = c .before .before .pre .1
 
 join-all-requires : tie.Need-join-all-requires
 join-all-requires c κs =
-    let k = c .before .before .before in
-    let h = k .before .before .before .pre in
-    record { fit = h .0 .fit; one-each = k .number-each .kept .0 ∙ h .0 .one-each }
+    let at-number-each = c .before .before .before in
+    let at-start = at-number-each .before .before .before in
+    let h = at-start .pre in
+    record { fit = h .0 .fit; one-each = at-number-each .number-each .kept .0 ∙ h .0 .one-each }
 
 returns : tie.Need-returns
 returns c =
-    let j = c .before .before .before .before in
-    let n = j .before .before .before .before in
-    let s = n .before .before .before in
-    let l = numbers-length (s .args .layer .now) (s .args .numbers .now) (s .pre .0 .one-each) (n .number-each .ensures) (j .join-all .ensures) in (
-      numbers-are (s .args .layer .now) (s .args .numbers .now) (s .pre .0 .one-each) (n .number-each .ensures) (j .join-all .ensures),
-      (count-is (s .args .layer .now) (s .args .numbers .now) (s .pre .0 .one-each) (n .number-each .ensures) (j .join-all .ensures) (c .count-own .ensures .0), omega (arith, c .count-own .ensures .1, l, s .pre .0 .one-each, s .pre .1)),
+    let at-join-all = c .before .before .before .before in
+    let at-number-each = at-join-all .before .before .before .before in
+    let at-start = at-number-each .before .before .before in
+    let l = numbers-length (at-start .args .layer .now) (at-start .args .numbers .now) (at-start .pre .0 .one-each) (at-number-each .number-each .ensures) (at-join-all .join-all .ensures) in (
+      numbers-are (at-start .args .layer .now) (at-start .args .numbers .now) (at-start .pre .0 .one-each) (at-number-each .number-each .ensures) (at-join-all .join-all .ensures),
+      (count-is (at-start .args .layer .now) (at-start .args .numbers .now) (at-start .pre .0 .one-each) (at-number-each .number-each .ensures) (at-join-all .join-all .ensures) (c .count-own .ensures .0), omega (arith, c .count-own .ensures .1, l, at-start .pre .0 .one-each, at-start .pre .1)),
     )
 
 pub components-into-spec : {M : Type 1} → statement M

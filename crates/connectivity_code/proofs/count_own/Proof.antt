@@ -1,3 +1,4 @@
+-- Before turn i: of the first i places n have their own number, so that n is at most i.
 use Prim.Native.Nat.{_-_}
 use native.Mathlib.Omega.{arith}
 use lib.ListN.{length}
@@ -16,10 +17,16 @@ loop-holds : tie.Need-loop-holds Inv-loop μ-loop
 loop-holds c = count-start (c .before .args .numbers .now)
 
 one-more-requires : tie.Need-one-more-requires Inv-loop μ-loop
-one-more-requires c κs = let k = c .before .before in omega (arith, k .before .before .pre, k .loop .inv .most, c .before .loop-test .taken)
+one-more-requires c κs =
+    let at-loop-test = c .before in
+    let at-loop = at-loop-test .before in
+    let at-start = at-loop .before .before in
+    omega (arith, at-start .pre, at-loop .loop .inv .most, at-loop-test .loop-test .taken)
 
 loop-again : tie.Need-loop-again Inv-loop μ-loop
-loop-again c = let k = c .before .before in count-turn (k .before .loop .inv) (k .loop-test .taken) (c .one-more .ensures)
+loop-again c =
+    let at-loop-test = c .before .before in
+    count-turn (at-loop-test .before .loop .inv) (at-loop-test .loop-test .taken) (c .one-more .ensures)
 
 returns : tie.Need-returns Inv-loop μ-loop
 returns c = count-stop (c .before .loop .inv) (c .loop-test .left)

@@ -1,3 +1,4 @@
+-- Before turn i: each of the first i trapezoids in turn has been joined with those before it that it touches.
 use mathlib.Core.Path.{_∙_}
 use Prim.Native.Nat.{_-_}
 use borrow.Author.Needs.{needs}
@@ -22,14 +23,20 @@ placed-at-requires c κs = (c .before .before .before .pre .fit, c .loop-test .t
 
 join-earlier-requires : tie.Need-join-earlier-requires Inv-loop μ-loop
 join-earlier-requires c κs =
-    let k = c .before .before in
-    let h = k .before .before .before .pre in
-    (record { fit = h .fit; one-each = k .before .loop .inv .long ∙ h .one-each }, (k .loop-test .taken, c .before .placed-at .ensures))
+    let at-placed-at = c .before in
+    let at-loop-test = at-placed-at .before in
+    let at-loop = at-loop-test .before in
+    let at-start = at-loop .before .before in
+    let h = at-start .pre in
+    (record { fit = h .fit; one-each = at-loop .loop .inv .long ∙ h .one-each }, (at-loop-test .loop-test .taken, at-placed-at .placed-at .ensures))
 
 loop-again : tie.Need-loop-again Inv-loop μ-loop
 loop-again c =
-    let t = c .before .before .before .before .before in
-    turned-turn (touchingAt (layerOf (t .before .before .before .args .layer .now))) (t .before .loop .inv) (t .loop-test .taken) (c .before .before .join-earlier .ensures)
+    let at-join-earlier = c .before .before in
+    let at-loop-test = at-join-earlier .before .before .before in
+    let at-loop = at-loop-test .before in
+    let at-start = at-loop .before .before in
+    turned-turn (touchingAt (layerOf (at-start .args .layer .now))) (at-loop .loop .inv) (at-loop-test .loop-test .taken) (at-join-earlier .join-earlier .ensures)
 
 same-length : tie.Need-same-length Inv-loop μ-loop
 same-length c = c .before .loop .inv .long

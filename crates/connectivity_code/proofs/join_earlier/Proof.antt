@@ -1,3 +1,4 @@
+-- Before turn j: trapezoid i has been joined with each of the first j that it touches, in order; j is at most i.
 use mathlib.Core.Path.{_∙_, ap}
 use Prim.Native.Nat.{_-_}
 use native.Mathlib.Omega.{arith}
@@ -30,20 +31,24 @@ touching-at-requires c κs =
 
 join-if-requires : tie.Need-join-if-requires Inv-loop μ-loop
 join-if-requires c κs =
-    let k = c .before .before in
-    let h = k .before .before .before .pre in
+    let at-loop-test = c .before .before in
+    let at-loop = at-loop-test .before in
+    let at-start = at-loop .before .before in
+    let h = at-start .pre in
     let l = h .1 .0 in
-    (omega (arith, l, h .0 .one-each, k .before .loop .inv .long), omega (arith, l, h .0 .one-each, k .before .loop .inv .long, k .loop-test .taken))
+    (omega (arith, l, h .0 .one-each, at-loop .loop .inv .long), omega (arith, l, h .0 .one-each, at-loop .loop .inv .long, at-loop-test .loop-test .taken))
 
 loop-again : tie.Need-loop-again Inv-loop μ-loop
 loop-again c =
-    let k = c .before .before .before .before in
-    let t = k .before in
-    let s = t .before .before .before in
-    let l = s .pre .1 .0 in
-    earlier-turn (touchingAt (layerOf (s .args .layer .now))) (t .before .loop .inv) (t .loop-test .taken)
-    (k .touching-at .ensures ∙ ap (λ (u : Trapezoid). touches u (recordAt trapezoidCodec (s .args .layer .now) (t .before .loop .j))) (s .pre .1 .1 .shape) ∙ touching-record (s .args .layer .now) (s .args .i) (t .before .loop .j) l (omega (arith, l, t .loop-test .taken)))
-    (c .before .before .join-if .ensures)
+    let at-join-if = c .before .before in
+    let at-touching-at = at-join-if .before .before in
+    let at-loop-test = at-touching-at .before in
+    let at-loop = at-loop-test .before in
+    let at-start = at-loop .before .before in
+    let l = at-start .pre .1 .0 in
+    earlier-turn (touchingAt (layerOf (at-start .args .layer .now))) (at-loop .loop .inv) (at-loop-test .loop-test .taken)
+    (at-touching-at .touching-at .ensures ∙ ap (λ (u : Trapezoid). touches u (recordAt trapezoidCodec (at-start .args .layer .now) (at-loop .loop .j))) (at-start .pre .1 .1 .shape) ∙ touching-record (at-start .args .layer .now) (at-start .args .i) (at-loop .loop .j) l (omega (arith, l, at-loop-test .loop-test .taken)))
+    (at-join-if .join-if .ensures)
 
 same-length : tie.Need-same-length Inv-loop μ-loop
 same-length c = c .before .loop .inv .long

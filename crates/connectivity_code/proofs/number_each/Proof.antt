@@ -1,3 +1,4 @@
+-- Before turn i: the first i numbers are 0 to i − 1, and the rest are as they were.
 use Prim.Native.Nat.{_-_}
 use native.Mathlib.Omega.{arith}
 use lib.ListN.{length}

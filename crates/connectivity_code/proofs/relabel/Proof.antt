@@ -1,3 +1,4 @@
+-- Before turn i: in the first i numbers each `from` is now `to`, and the rest are as they were.
 use Prim.Native.Nat.{_-_}
 use lib.ListN.{length}
 use borrow.Author.Needs.{needs}
@@ -15,7 +16,9 @@ loop-holds : tie.Need-loop-holds Inv-loop μ-loop
 loop-holds c = let s = c .before .args in relabel-start (s .from) (s .to) (s .numbers .now)
 
 loop-again : tie.Need-loop-again Inv-loop μ-loop
-loop-again c = let k = c .before .before in relabel-turn (k .before .loop .inv) (k .loop-test .taken) (c .renamed .ensures)
+loop-again c =
+    let at-loop-test = c .before .before in
+    relabel-turn (at-loop-test .before .loop .inv) (at-loop-test .loop-test .taken) (c .renamed .ensures)
 
 same-length : tie.Need-same-length Inv-loop μ-loop
 same-length c = c .before .loop .inv .long

@@ -23,47 +23,71 @@ is-before-requires c κs = (c .common-right .ensures .small, c .before .common-l
 
 returns : tie.Need-returns
 returns c =
-    let k = c .before .before in
-    common k (between-apart (k .before .before .args .a .shape) (k .before .before .args .b .shape) (fractionOf (k .before .common-left .result)) (fractionOf (k .common-right .result)) (sym (c .before .is-before .ensures) ∙ c .if1 .taken))
+    let at-is-before = c .before in
+    let at-common-right = at-is-before .before in
+    let at-common-left = at-common-right .before in
+    let at-start = at-common-left .before in
+    common at-common-right (between-apart (at-start .args .a .shape) (at-start .args .b .shape) (fractionOf (at-common-left .common-left .result)) (fractionOf (at-common-right .common-right .result)) (sym (at-is-before .is-before .ensures) ∙ c .if1 .taken))
 
 touches-at-requires : tie.Need-touches-at-requires
-touches-at-requires c κs = let h = c .before .before .before .before .before .before .pre in (h .first .fit, h .second .fit, c .before .before .before .before .before .common-left .ensures .small)
+touches-at-requires c κs =
+    let at-common-left = c .before .before .before .before .before in
+    let at-start = at-common-left .before in
+    let h = at-start .pre in (h .first .fit, h .second .fit, at-common-left .common-left .ensures .small)
 
 returns-2 : tie.Need-returns-2
 returns-2 c =
-    let f = c .before .before .before .before in
-    let k = f .before .before in
-    common k
-    (between-start (k .before .before .args .a .shape) (k .before .before .args .b .shape) (fractionOf (k .before .common-left .result)) (fractionOf (k .common-right .result)) (sym (f .before .is-before .ensures) ∙ f .if1 .left) (sym (c .before .touches-at .ensures) ∙ c .if2 .taken))
+    let at-touches-at = c .before in
+    let at-if1 = at-touches-at .before .before .before in
+    let at-is-before = at-if1 .before in
+    let at-common-right = at-is-before .before in
+    let at-common-left = at-common-right .before in
+    let at-start = at-common-left .before in
+    common at-common-right
+    (between-start (at-start .args .a .shape) (at-start .args .b .shape) (fractionOf (at-common-left .common-left .result)) (fractionOf (at-common-right .common-right .result)) (sym (at-is-before .is-before .ensures) ∙ at-if1 .if1 .left) (sym (at-touches-at .touches-at .ensures) ∙ c .if2 .taken))
 
 touches-from-requires : tie.Need-touches-from-requires
 touches-from-requires c κs =
-    let k = c .before .before .before .before .before .before in
-    let h = k .before .before .pre in
-    (h .first .fit, h .second .fit, bottom-grid (h .first .fit), top-grid (h .second .fit), k .before .common-left .ensures .small, k .common-right .ensures .small)
+    let at-common-right = c .before .before .before .before .before .before in
+    let at-common-left = at-common-right .before in
+    let at-start = at-common-left .before in
+    let h = at-start .pre in
+    (h .first .fit, h .second .fit, bottom-grid (h .first .fit), top-grid (h .second .fit), at-common-left .common-left .ensures .small, at-common-right .common-right .ensures .small)
 
 returns-3 : tie.Need-returns-3
 returns-3 c =
-    let g = c .before .before in
-    let f = g .before .before .before .before in
-    let k = f .before .before in
-    common k
-    (between-first (k .before .before .args .a .shape) (k .before .before .args .b .shape) (fractionOf (k .before .common-left .result)) (fractionOf (k .common-right .result)) (sym (f .before .is-before .ensures) ∙ f .if1 .left) (sym (g .before .touches-at .ensures) ∙ g .if2 .left) (sym (c .before .touches-from .ensures) ∙ c .if3 .taken))
+    let at-touches-from = c .before in
+    let at-if2 = at-touches-from .before in
+    let at-touches-at = at-if2 .before in
+    let at-if1 = at-touches-at .before .before .before in
+    let at-is-before = at-if1 .before in
+    let at-common-right = at-is-before .before in
+    let at-common-left = at-common-right .before in
+    let at-start = at-common-left .before in
+    common at-common-right
+    (between-first (at-start .args .a .shape) (at-start .args .b .shape) (fractionOf (at-common-left .common-left .result)) (fractionOf (at-common-right .common-right .result)) (sym (at-is-before .is-before .ensures) ∙ at-if1 .if1 .left) (sym (at-touches-at .touches-at .ensures) ∙ at-if2 .if2 .left) (sym (at-touches-from .touches-from .ensures) ∙ c .if3 .taken))
 
 touches-from-requires-2 : tie.Need-touches-from-requires-2
 touches-from-requires-2 c κs =
-    let k = c .before .before .before .before .before .before .before .before in
-    let h = k .before .before .pre in
-    (h .first .fit, h .second .fit, bottom-grid (h .second .fit), top-grid (h .first .fit), k .before .common-left .ensures .small, k .common-right .ensures .small)
+    let at-common-right = c .before .before .before .before .before .before .before .before in
+    let at-common-left = at-common-right .before in
+    let at-start = at-common-left .before in
+    let h = at-start .pre in
+    (h .first .fit, h .second .fit, bottom-grid (h .second .fit), top-grid (h .first .fit), at-common-left .common-left .ensures .small, at-common-right .common-right .ensures .small)
 
 returns-4 : tie.Need-returns-4
 returns-4 c =
-    let d = c .before in
-    let g = d .before .before in
-    let f = g .before .before .before .before in
-    let k = f .before .before in
-    common k
-    (between-second (k .before .before .args .a .shape) (k .before .before .args .b .shape) (fractionOf (k .before .common-left .result)) (fractionOf (k .common-right .result)) (sym (f .before .is-before .ensures) ∙ f .if1 .left) (sym (g .before .touches-at .ensures) ∙ g .if2 .left) (sym (d .before .touches-from .ensures) ∙ d .if3 .left) (c .touches-from2 .ensures))
+    let at-if3 = c .before in
+    let at-touches-from = at-if3 .before in
+    let at-if2 = at-touches-from .before in
+    let at-touches-at = at-if2 .before in
+    let at-if1 = at-touches-at .before .before .before in
+    let at-is-before = at-if1 .before in
+    let at-common-right = at-is-before .before in
+    let at-common-left = at-common-right .before in
+    let at-start = at-common-left .before in
+    common at-common-right
+    (between-second (at-start .args .a .shape) (at-start .args .b .shape) (fractionOf (at-common-left .common-left .result)) (fractionOf (at-common-right .common-right .result)) (sym (at-is-before .is-before .ensures) ∙ at-if1 .if1 .left) (sym (at-touches-at .touches-at .ensures) ∙ at-if2 .if2 .left) (sym (at-touches-from .touches-from .ensures) ∙ at-if3 .if3 .left) (c .touches-from2 .ensures))
 
 pub touching-spec : {M : Type 1} → statement M
 touching-spec =

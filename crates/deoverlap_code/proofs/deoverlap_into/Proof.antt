@@ -28,56 +28,75 @@ placed-at-requires c κs =
 
 one-by-front-requires : tie.Need-one-by-front-requires Inv-loop μ-loop
 one-by-front-requires c κs =
-    let l = c .before .before .before .before in
-    let h = l .loop .inv in
-    ((placed-own (c .before .before .placed-at .ensures), h .buffer, l .before .pre .1 .0 .1), h .scratch-for)
+    let at-placed-at = c .before .before in
+    let at-loop = at-placed-at .before .before in
+    let at-start = at-loop .before in
+    let h = at-loop .loop .inv in
+    ((placed-own (at-placed-at .placed-at .ensures), h .buffer, at-start .pre .1 .0 .1), h .scratch-for)
 
--- number i less what stands
-turn : (o : tie.After-one-by-front Inv-loop μ-loop) → Deoverlapped (o .before .before .before .before .before .loop .inv) (o .one-by-front .result) (o .one-by-front .last .1 .1 .0) (o .one-by-front .last .1 .1 .1 .0)
+-- number i minus what stands
+turn : (o : tie.After-one-by-front Inv-loop μ-loop) → let at-loop = o .before .before .before .before .before in Deoverlapped (at-loop .loop .inv) (o .one-by-front .result) (o .one-by-front .last .1 .1 .0) (o .one-by-front .last .1 .1 .1 .0)
 turn o =
+    let at-placed-at = o .before .before .before in
+    let at-loop-test = at-placed-at .before in
+    let at-loop = at-loop-test .before in
     let f = o .one-by-front in
-    let p = o .before .before .before in
-    deoverlap-turn (p .before .before .loop .inv) (p .before .loop-test .taken) (p .placed-at .result .shape) (p .placed-at .ensures .shape) (f .result) (f .last .1 .1 .0) (f .last .1 .1 .1 .0)
+    deoverlap-turn (at-loop .loop .inv) (at-loop-test .loop-test .taken) (at-placed-at .placed-at .result .shape) (at-placed-at .placed-at .ensures .shape) (f .result) (f .last .1 .1 .0) (f .last .1 .1 .1 .0)
     (f .ensures .0) (f .ensures .1 .1 .0) (f .ensures .1 .0) (f .ensures .1 .1 .1) (f .kept .1 .1 .1 .0)
 
 add-t23 : tie.Need-add-t23 Inv-loop μ-loop
 add-t23 c =
-    let o = c .before .before .before .before .before .before .before .before in
-    let q = o .before .before .before .before in
-    omega (arith, turn o .full-few _ (c .before .before .before .before .f .given .1), q .loop-test .taken, q .before .before .pre .0 .few)
+    let at-f = c .before .before .before .before in
+    let at-one-by-front = at-f .before .before .before .before in
+    let at-loop-test = at-one-by-front .before .before .before .before in
+    let at-start = at-loop-test .before .before in
+    omega (arith, turn at-one-by-front .full-few _ (at-f .f .given .1), at-loop-test .loop-test .taken, at-start .pre .0 .few)
 
 same-length : tie.Need-same-length Inv-loop μ-loop
 same-length c =
-    let o = c .before .before .before .before .before .before .before .before in
-    c .before .clear .kept .0 ∙ o .one-by-front .kept .1 .1 .0 ∙ o .before .before .before .before .before .loop .inv .folding .long
+    let at-clear = c .before in
+    let at-one-by-front = at-clear .before .before .before .before .before .before .before in
+    let at-loop = at-one-by-front .before .before .before .before .before in
+    at-clear .clear .kept .0 ∙ at-one-by-front .one-by-front .kept .1 .1 .0 ∙ at-loop .loop .inv .folding .long
 
 same-length-2 : tie.Need-same-length-2 Inv-loop μ-loop
 same-length-2 c =
-    let o = c .before .before .before .before .before .before .before .before in
-    let l = o .before .before .before .before .before in
-    o .one-by-front .kept .1 .1 .1 .0 ∙ l .loop .inv .scratch-for .1 ∙ l .loop .inv .folding .long ∙ sym (l .before .pre .1 .1 .1)
+    let at-one-by-front = c .before .before .before .before .before .before .before .before in
+    let at-loop = at-one-by-front .before .before .before .before .before in
+    let at-start = at-loop .before in
+    at-one-by-front .one-by-front .kept .1 .1 .1 .0 ∙ at-loop .loop .inv .scratch-for .1 ∙ at-loop .loop .inv .folding .long ∙ sym (at-start .pre .1 .1 .1)
 
 returns : tie.Need-returns Inv-loop μ-loop
 returns c =
-    let o = c .before .before .before .before .before .before .before .before in
-    let q = o .before .before .before .before in
-    let e = c .before .before .before .before .f .given .1 in
-    let z = c .before .clear .ensures ∙ ap (λ (n : ℕ). replicate n (pos 0)) (o .one-by-front .kept .1 .1 .0 ∙ q .before .loop .inv .folding .long) in
-    ((turn o .full _ e, z), (omega (arith, turn o .full-few _ e, q .loop-test .taken, q .before .before .pre .0 .few), o .one-by-front .ensures .1 .1 .1))
+    let at-clear = c .before in
+    let at-f = at-clear .before .before .before in
+    let at-one-by-front = at-f .before .before .before .before in
+    let at-loop-test = at-one-by-front .before .before .before .before in
+    let at-loop = at-loop-test .before in
+    let at-start = at-loop .before in
+    let e = at-f .f .given .1 in
+    let z = at-clear .clear .ensures ∙ ap (λ (n : ℕ). replicate n (pos 0)) (at-one-by-front .one-by-front .kept .1 .1 .0 ∙ at-loop .loop .inv .folding .long) in
+    ((turn at-one-by-front .full _ e, z), (omega (arith, turn at-one-by-front .full-few _ e, at-loop-test .loop-test .taken, at-start .pre .0 .few), at-one-by-front .one-by-front .ensures .1 .1 .1))
 
 add-k : tie.Need-add-k Inv-loop μ-loop
 add-k c =
-    let o = c .before .before .before .before .before in
-    omega (arith, turn o .fits _ _ (c .before .f2 .given .1), o .before .before .before .before .before .before .pre .1 .0 .1)
+    let at-f2 = c .before in
+    let at-one-by-front = at-f2 .before .before .before .before in
+    let at-start = at-one-by-front .before .before .before .before .before .before in
+    omega (arith, turn at-one-by-front .fits _ _ (at-f2 .f2 .given .1), at-start .pre .1 .0 .1)
 
 add-sum : tie.Need-add-sum Inv-loop μ-loop
 add-sum c =
-    let o = c .before .before .before .before .before in
-    omega (arith, deoverlap-few (turn o .keeps _ _ (c .before .f2 .given .1)) (o .before .before .before .before .before .before .pre .0 .few))
+    let at-f2 = c .before in
+    let at-one-by-front = at-f2 .before .before .before .before in
+    let at-start = at-one-by-front .before .before .before .before .before .before in
+    omega (arith, deoverlap-few (turn at-one-by-front .keeps _ _ (at-f2 .f2 .given .1)) (at-start .pre .0 .few))
 
 loop-again : tie.Need-loop-again Inv-loop μ-loop
 loop-again c =
-    turn (c .before .before .before .before .before) .keeps _ _ (c .before .f2 .given .1)
+    let at-f2 = c .before in
+    let at-one-by-front = at-f2 .before .before .before .before in
+    turn at-one-by-front .keeps _ _ (at-f2 .f2 .given .1)
 
 same-length-3 : tie.Need-same-length-3 Inv-loop μ-loop
 same-length-3 c =
@@ -85,8 +104,8 @@ same-length-3 c =
 
 same-length-4 : tie.Need-same-length-4 Inv-loop μ-loop
 same-length-4 c =
-    let l = c .before in
-    l .loop .inv .scratch-for .1 ∙ l .loop .inv .folding .long ∙ sym (l .before .pre .1 .1 .1)
+    let at-loop = c .before in
+    at-loop .loop .inv .scratch-for .1 ∙ at-loop .loop .inv .folding .long ∙ sym (at-loop .before .pre .1 .1 .1)
 
 returns-2 : tie.Need-returns-2 Inv-loop μ-loop
 returns-2 c =

@@ -5,52 +5,57 @@ use borrow.Author.Needs.{needs}
 use Rattle.records.specs.Limits.{maxRecords}
 use Rattle.remainder_code.specs.Code.{overlaysOfOne, maxOverlays, OverlaysWithin}
 use Rattle.remainder_code.proofs.Answers.{within-least, within-more}
-use Rattle.remainder_code.proofs.Held.{held-fits, front-length}
+use Rattle.remainder_code.proofs.Leading.{leading-fits, front-length}
 use Rattle.deoverlap_code.proofs.Past.{front-layer, past-start, past-upto, past-skip}
 use Rattle.deoverlap_code.proofs.one_by_front.Statement.{statement}
 use Rattle.deoverlap_code.proofs.one_by_front.Tie as tie
 
 returns : tie.Need-returns
 returns c =
-    let f = c .before .before .one-past in
-    let s = c .before .before .before .before .before .before in
-    let a = s .args in
-    (past-start (a .out .now) (a .k) (a .room) (s .pre .0 .1) (a .a .shape) (f .result) _ (f .ensures .0), (f .ensures .1 .0, (f .ensures .1 .1 .0, f .ensures .1 .1 .1)))
+    let at-one-past = c .before .before in
+    let at-start = at-one-past .before .before .before .before in
+    let f = at-one-past .one-past in
+    let a = at-start .args in
+    (past-start (a .out .now) (a .k) (a .room) (at-start .pre .0 .1) (a .a .shape) (f .result) _ (f .ensures .0), (f .ensures .1 .0, (f .ensures .1 .1 .0, f .ensures .1 .1 .1)))
 
 slice-aggregate-first-overlapping : tie.Need-slice-aggregate-first-overlapping
 slice-aggregate-first-overlapping c =
-    let s = c .before .before in
-    let a = s .args in
-    sym (front-length (a .out .now) (a .k) (held-fits (a .out .now) (a .k) (a .room) (s .pre .0 .1)))
+    let at-start = c .before .before in
+    let a = at-start .args in
+    sym (front-length (a .out .now) (a .k) (leading-fits (a .out .now) (a .k) (a .room) (at-start .pre .0 .1)))
 
 first-overlapping-requires : tie.Need-first-overlapping-requires
 first-overlapping-requires c κs =
-    let s = c .before .before in
-    let a = s .args in
-    (s .pre .0 .0, front-layer (a .out .now) (a .k) (a .room) (s .pre .0 .1) (s .pre .0 .2) .fit)
+    let at-start = c .before .before in
+    let a = at-start .args in
+    (at-start .pre .0 .0, front-layer (a .out .now) (a .k) (a .room) (at-start .pre .0 .1) (at-start .pre .0 .2) .fit)
 
 more-overlays-requires : tie.Need-more-overlays-requires
 more-overlays-requires c κs =
-    let f = c .before .before .one-past2 in
-    let v = c .before .before .before .before .before .first-overlapping in
-    let s = c .before .before .before .before .before .before .before .before in
-    let a = s .args in
-    (omega (arith, past-upto (a .out .now) (a .k) (a .room) (s .pre .0 .1) (a .a .shape) (v .result) (v .ensures), s .pre .0 .1 .within, s .pre .0 .2), within-least (maxRecords * (maxRecords - v .result) + 1) maxOverlays (f .result) (omega arith) (f .ensures .1 .1 .0))
+    let at-one-past2 = c .before .before in
+    let at-first-overlapping = at-one-past2 .before .before .before in
+    let at-start = at-first-overlapping .before .before .before in
+    let f = at-one-past2 .one-past2 in
+    let v = at-first-overlapping .first-overlapping in
+    let a = at-start .args in
+    (omega (arith, past-upto (a .out .now) (a .k) (a .room) (at-start .pre .0 .1) (a .a .shape) (v .result) (v .ensures), at-start .pre .0 .1 .within, at-start .pre .0 .2), within-least (maxRecords * (maxRecords - v .result) + 1) maxOverlays (f .result) (omega arith) (f .ensures .1 .1 .0))
 
 returns-2 : tie.Need-returns-2
 returns-2 c =
+    let at-one-past2 = c .before .before .before in
+    let at-first-overlapping = at-one-past2 .before .before .before in
+    let at-if1 = at-first-overlapping .before .before in
+    let at-start = at-if1 .before in
     let r = c .more-overlays .ensures in
-    let f = c .before .before .before .one-past2 in
-    let v = c .before .before .before .before .before .before .first-overlapping in
-    let i = c .before .before .before .before .before .before .before .before in
-    let s = i .before in
-    let a = s .args in
-    let u = past-upto (a .out .now) (a .k) (a .room) (s .pre .0 .1) (a .a .shape) (v .result) (v .ensures) in
-    let g = past-skip (a .out .now) (a .k) (a .room) (s .pre .0 .1) (a .a .shape) (v .result) (v .ensures) (omega (arith, i .if1 .left)) (f .result) _ (f .ensures .0) in
+    let f = at-one-past2 .one-past2 in
+    let v = at-first-overlapping .first-overlapping in
+    let a = at-start .args in
+    let u = past-upto (a .out .now) (a .k) (a .room) (at-start .pre .0 .1) (a .a .shape) (v .result) (v .ensures) in
+    let g = past-skip (a .out .now) (a .k) (a .room) (at-start .pre .0 .1) (a .a .shape) (v .result) (v .ensures) (omega (arith, at-if1 .if1 .left)) (f .result) _ (f .ensures .0) in
     let m = maxRecords * (maxRecords - v .result) + 1 in
     let w = within-more m (v .result) (v .result) (f .result) (omega arith) (f .ensures .1 .1 .0) in (
       rw r g,
-      (f .ensures .1 .0, (within-least (v .result + m) overlaysOfOne (c .more-overlays .result) (omega (arith, u, s .pre .0 .1 .within, s .pre .0 .2)) (subst (OverlaysWithin (v .result + m)) (sym r) w), f .ensures .1 .1 .1)),
+      (f .ensures .1 .0, (within-least (v .result + m) overlaysOfOne (c .more-overlays .result) (omega (arith, u, at-start .pre .0 .1 .within, at-start .pre .0 .2)) (subst (OverlaysWithin (v .result + m)) (sym r) w), f .ensures .1 .1 .1)),
     )
 
 pub one-by-front-spec : {M : Type 1} → statement M

@@ -6,122 +6,135 @@ use lib.ListN.{length}
 use borrow.Author.Needs.{needs}
 use borrow.Rule.Slice.PartMut.{same-len-mid}
 use Rattle.records.specs.Limits.{memoryWidth, maxRecords}
-use Rattle.geometry.specs.Fitness.{Layer}
+use Rattle.geometry.specs.Fitness.{FitLayer}
 use Rattle.boolean.specs.Space.{addition}
 use Rattle.trapezoids_code.proofs.Writing.{tail}
 use Rattle.remainder_code.specs.Code.{maxOverlays, OverlaysWithin}
 use Rattle.trapezoids_code.proofs.Placed.{placed-own}
 use Rattle.remainder_code.proofs.Answers.{folded-within, within-least, within-more, within-done}
-use Rattle.remainder_code.proofs.Held.{held-fits, front-length, front-count}
+use Rattle.remainder_code.proofs.Leading.{leading-fits, front-length, front-count}
 use Rattle.deoverlap_code.proofs.Past.{front-layer, past-borrowed, past-whole, past-few, past-refused, past-front, past-remaining, past-folded}
 use Rattle.deoverlap_code.proofs.one_past.Statement.{statement}
 use Rattle.deoverlap_code.proofs.one_past.Tie as tie
 
 add-whole-requires : tie.Need-add-whole-requires
 add-whole-requires c κs =
-    let s = c .before .before in
-    let a = s .args in
-    past-borrowed (a .out .now) (a .k) (a .room) (s .pre .0 .1)
+    let at-start = c .before .before in
+    let a = at-start .args in
+    past-borrowed (a .out .now) (a .k) (a .room) (at-start .pre .0 .1)
 
 returns : tie.Need-returns
 returns c =
-    let s = c .before .before .before .before in
-    let a = s .args in
+    let at-add-whole = c .before in
+    let at-if1 = at-add-whole .before .before in
+    let at-start = at-if1 .before in
+    let a = at-start .args in
     let d = a .out .now in
-    let w = c .before .add-whole in
+    let w = at-add-whole .add-whole in
     let t = w .last .1 .0 in (
-      past-whole d (a .k) (a .room) (s .pre .0 .1) (a .a .shape) (a .j) (c .before .before .before .if1 .taken) (w .result) t (w .ensures),
+      past-whole d (a .k) (a .room) (at-start .pre .0 .1) (a .a .shape) (a .j) (at-if1 .if1 .taken) (w .result) t (w .ensures),
       (
-        past-front d (a .k) (a .room) (s .pre .0 .1) t,
-        (within-least 1 (maxRecords * (maxRecords - a .j) + 1) (w .result) (omega arith) (folded-within (length (tail d (a .k))) (a .room - a .k) (a .a .shape ∷ []) (addition 1 ∷ []) (w .result) t (w .ensures)), s .pre .1 .0),
+        past-front d (a .k) (a .room) (at-start .pre .0 .1) t,
+        (within-least 1 (maxRecords * (maxRecords - a .j) + 1) (w .result) (omega arith) (folded-within (length (tail d (a .k))) (a .room - a .k) (a .a .shape ∷ []) (addition 1 ∷ []) (w .result) t (w .ensures)), at-start .pre .1 .0),
       ),
     )
 
 slice-aggregate-placed-at : tie.Need-slice-aggregate-placed-at
 slice-aggregate-placed-at c =
-    let s = c .before .before in
-    let a = s .args in
-    sym (front-length (a .out .now) (a .k) (held-fits (a .out .now) (a .k) (a .room) (s .pre .0 .1)))
+    let at-start = c .before .before in
+    let a = at-start .args in
+    sym (front-length (a .out .now) (a .k) (leading-fits (a .out .now) (a .k) (a .room) (at-start .pre .0 .1)))
 
 placed-at-requires : tie.Need-placed-at-requires
 placed-at-requires c κs =
-    let s = c .before .before in
-    let a = s .args in
-    let n = front-count (a .out .now) (a .k) (held-fits (a .out .now) (a .k) (a .room) (s .pre .0 .1)) in
-    (front-layer (a .out .now) (a .k) (a .room) (s .pre .0 .1) (s .pre .0 .2) .fit, omega (arith, n, c .before .if1 .left))
+    let at-start = c .before .before in
+    let a = at-start .args in
+    let n = front-count (a .out .now) (a .k) (leading-fits (a .out .now) (a .k) (a .room) (at-start .pre .0 .1)) in
+    (front-layer (a .out .now) (a .k) (a .room) (at-start .pre .0 .1) (at-start .pre .0 .2) .fit, omega (arith, n, c .before .if1 .left))
 
 first-into-requires : tie.Need-first-into-requires
 first-into-requires c κs =
-    let s = c .before .before .before .before in
-    let a = s .args in
-    (record { first = s .pre .0 .0; second = placed-own (c .before .placed-at .ensures) }, past-borrowed (a .out .now) (a .k) (a .room) (s .pre .0 .1))
+    let at-placed-at = c .before in
+    let at-start = at-placed-at .before .before .before in
+    let a = at-start .args in
+    (record { first = at-start .pre .0 .0; second = placed-own (at-placed-at .placed-at .ensures) }, past-borrowed (a .out .now) (a .k) (a .room) (at-start .pre .0 .1))
 
 returns-2 : tie.Need-returns-2
 returns-2 c =
-    let f = c .before .before .before .first-into in
-    let p = c .before .before .before .before .before .placed-at in
-    let i = c .before .before .before .before .before .before .before in
-    let s = i .before in
-    let a = s .args in
+    let at-first-into = c .before .before .before in
+    let at-placed-at = at-first-into .before .before in
+    let at-if1 = at-placed-at .before .before in
+    let at-start = at-if1 .before in
+    let f = at-first-into .first-into in
+    let p = at-placed-at .placed-at in
+    let a = at-start .args in
     let d = a .out .now in
     let t = f .last .1 .1 .0 in
-    let l : a .j < a .k = omega (arith, i .if1 .left) in (
-      past-refused d (a .k) (a .room) (s .pre .0 .1) (a .a .shape) (a .j) l (p .result .shape) (p .ensures .shape) (f .result) t (f .ensures) _ (c .enum-told .given .1),
+    let l : a .j < a .k = omega (arith, at-if1 .if1 .left) in (
+      past-refused d (a .k) (a .room) (at-start .pre .0 .1) (a .a .shape) (a .j) l (p .result .shape) (p .ensures .shape) (f .result) t (f .ensures) _ (c .enum-told .given .1),
       (
-        past-front d (a .k) (a .room) (s .pre .0 .1) t,
-        (within-least 1 (maxRecords * (maxRecords - a .j) + 1) (f .result) (omega arith) (past-few d (a .k) (a .room) (s .pre .0 .1) (a .a .shape) (a .j) l (p .result .shape) (p .ensures .shape) (f .result) t (f .ensures)), s .pre .1 .0),
+        past-front d (a .k) (a .room) (at-start .pre .0 .1) t,
+        (within-least 1 (maxRecords * (maxRecords - a .j) + 1) (f .result) (omega arith) (past-few d (a .k) (a .room) (at-start .pre .0 .1) (a .a .shape) (a .j) l (p .result .shape) (p .ensures .shape) (f .result) t (f .ensures)), at-start .pre .1 .0),
       ),
     )
 
-lessen-by-front-requires : tie.Need-lessen-by-front-requires
-lessen-by-front-requires c κs =
-    let k = c .before .before in
-    let f = k .before .before .before .before .first-into in
-    let p = k .before .before .before .before .before .before .placed-at in
-    let i = k .before .before .before .before .before .before .before .before in
-    let s = i .before in
-    let a = s .args in
+reduce-by-front-requires : tie.Need-reduce-by-front-requires
+reduce-by-front-requires c κs =
+    let at-f = c .before .before .before in
+    let at-first-into = at-f .before .before .before in
+    let at-placed-at = at-first-into .before .before in
+    let at-if1 = at-placed-at .before .before in
+    let at-start = at-if1 .before in
+    let f = at-first-into .first-into in
+    let p = at-placed-at .placed-at in
+    let a = at-start .args in
     let d = a .out .now in
     let t = f .last .1 .1 .0 in
-    let l : a .j < a .k = omega (arith, i .if1 .left) in
-    let e = past-front d (a .k) (a .room) (s .pre .0 .1) t in
+    let l : a .j < a .k = omega (arith, at-if1 .if1 .left) in
+    let e = past-front d (a .k) (a .room) (at-start .pre .0 .1) t in
     let n = same-len-mid (memoryWidth * a .k) (length d - memoryWidth * a .k) d t (f .kept .1 .1 .0) in (
-      (subst Layer (sym e) (front-layer d (a .k) (a .room) (s .pre .0 .1) (s .pre .0 .2)), omega (arith, l), s .pre .0 .1 .within, s .pre .0 .2),
+      (subst FitLayer (sym e) (front-layer d (a .k) (a .room) (at-start .pre .0 .1) (at-start .pre .0 .2)), omega (arith, l), at-start .pre .0 .1 .within, at-start .pre .0 .2),
       (
-        (omega (arith, n, s .pre .0 .1 .wide), past-remaining d (a .k) (a .room) (s .pre .0 .1) (a .a .shape) (a .j) l (p .result .shape) (p .ensures .shape) (f .result) t (f .ensures) (f .kept .1 .1 .0) _ _ (k .before .f .given .1) (s .pre .0 .0 .fit) (p .ensures .fit)),
-        (s .pre .1 .0, s .pre .1 .1 ∙ sym n),
+        (omega (arith, n, at-start .pre .0 .1 .wide), past-remaining d (a .k) (a .room) (at-start .pre .0 .1) (a .a .shape) (a .j) l (p .result .shape) (p .ensures .shape) (f .result) t (f .ensures) (f .kept .1 .1 .0) _ _ (at-f .f .given .1) (at-start .pre .0 .0 .fit) (p .ensures .fit)),
+        (at-start .pre .1 .0, at-start .pre .1 .1 ∙ sym n),
       ),
     )
 
 more-overlays-requires : tie.Need-more-overlays-requires
 more-overlays-requires c κs =
-    let q = c .before .before .lessen-by-front in
-    let k = c .before .before .before .before .before in
-    let f = k .before .before .before .before .first-into in
-    let p = k .before .before .before .before .before .before .placed-at in
-    let i = k .before .before .before .before .before .before .before .before in
-    let s = i .before in
-    let a = s .args in
-    let u = past-few (a .out .now) (a .k) (a .room) (s .pre .0 .1) (a .a .shape) (a .j) (omega (arith, i .if1 .left)) (p .result .shape) (p .ensures .shape) (f .result) (f .last .1 .1 .0) (f .ensures) in
-    (omega (arith, within-done 1 _ _ (f .result) (k .before .f .given .1) u), within-least (maxRecords * (maxRecords - (a .j + 1))) maxOverlays (q .result) (omega arith) (q .ensures .1 .1 .0))
+    let at-reduce-by-front = c .before .before in
+    let at-f = at-reduce-by-front .before .before .before .before in
+    let at-first-into = at-f .before .before .before in
+    let at-placed-at = at-first-into .before .before in
+    let at-if1 = at-placed-at .before .before in
+    let at-start = at-if1 .before in
+    let q = at-reduce-by-front .reduce-by-front in
+    let f = at-first-into .first-into in
+    let p = at-placed-at .placed-at in
+    let a = at-start .args in
+    let u = past-few (a .out .now) (a .k) (a .room) (at-start .pre .0 .1) (a .a .shape) (a .j) (omega (arith, at-if1 .if1 .left)) (p .result .shape) (p .ensures .shape) (f .result) (f .last .1 .1 .0) (f .ensures) in
+    (omega (arith, within-done 1 _ _ (f .result) (at-f .f .given .1) u), within-least (maxRecords * (maxRecords - (a .j + 1))) maxOverlays (q .result) (omega arith) (q .ensures .1 .1 .0))
 
 returns-3 : tie.Need-returns-3
 returns-3 c =
-    let q = c .before .before .before .lessen-by-front in
-    let k = c .before .before .before .before .before .before in
-    let f = k .before .before .before .before .first-into in
-    let p = k .before .before .before .before .before .before .placed-at in
-    let i = k .before .before .before .before .before .before .before .before in
-    let s = i .before in
-    let a = s .args in
+    let at-reduce-by-front = c .before .before .before in
+    let at-f = at-reduce-by-front .before .before .before .before in
+    let at-first-into = at-f .before .before .before in
+    let at-placed-at = at-first-into .before .before in
+    let at-if1 = at-placed-at .before .before in
+    let at-start = at-if1 .before in
+    let q = at-reduce-by-front .reduce-by-front in
+    let f = at-first-into .first-into in
+    let p = at-placed-at .placed-at in
+    let a = at-start .args in
     let d = a .out .now in
     let t = f .last .1 .1 .0 in
-    let l : a .j < a .k = omega (arith, i .if1 .left) in
-    let u = past-few d (a .k) (a .room) (s .pre .0 .1) (a .a .shape) (a .j) l (p .result .shape) (p .ensures .shape) (f .result) t (f .ensures) in
-    let v = within-done 1 _ _ (f .result) (k .before .f .given .1) u in
+    let l : a .j < a .k = omega (arith, at-if1 .if1 .left) in
+    let u = past-few d (a .k) (a .room) (at-start .pre .0 .1) (a .a .shape) (a .j) l (p .result .shape) (p .ensures .shape) (f .result) t (f .ensures) in
+    let v = within-done 1 _ _ (f .result) (at-f .f .given .1) u in
     let r = c .more-overlays .ensures in
-    let g = past-folded d (a .k) (a .room) (s .pre .0 .1) (a .a .shape) (a .j) l (p .result .shape) (p .ensures .shape) (f .result) t (f .ensures) (f .kept .1 .1 .0) _ _ (k .before .f .given .1) (q .result) _ (q .ensures .0) in
-    let e = past-front d (a .k) (a .room) (s .pre .0 .1) t in
+    let g = past-folded d (a .k) (a .room) (at-start .pre .0 .1) (a .a .shape) (a .j) l (p .result .shape) (p .ensures .shape) (f .result) t (f .ensures) (f .kept .1 .1 .0) _ _ (at-f .f .given .1) (q .result) _ (q .ensures .0) in
+    let e = past-front d (a .k) (a .room) (at-start .pre .0 .1) t in
     let w = within-more (maxRecords * (maxRecords - (a .j + 1))) 1 _ (q .result) v (q .ensures .1 .1 .0) in
     (rw r g, (q .ensures .1 .0 ∙ e, (within-least (1 + maxRecords * (maxRecords - (a .j + 1))) (maxRecords * (maxRecords - a .j) + 1) (c .more-overlays .result) (omega arith) (subst (OverlaysWithin (1 + maxRecords * (maxRecords - (a .j + 1)))) (sym r) w), q .ensures .1 .1 .1)))
 
@@ -152,7 +165,7 @@ one-past-spec =
     (λ c. search needs)
     returns-2
     (λ c. search needs)
-    lessen-by-front-requires
+    reduce-by-front-requires
     more-overlays-requires
     (λ c. search needs)
     (λ c. search needs)

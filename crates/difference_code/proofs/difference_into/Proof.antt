@@ -1,4 +1,4 @@
--- Before turn i: the `start` trapezoids and past them what is left of the first i of the first layer less the second stand in `out`, each took at most
+-- Before turn i: the `start` trapezoids and past them what is left of the first i of the first layer minus the second stand in `out`, each took at most
 -- `overlaysOfOne` overlays, and the scratch area is blank.
 use mathlib.Core.Path.{refl, sym, _∙_, ap}
 use mathlib.Core.List.{_++_}
@@ -12,11 +12,11 @@ use Rattle.records.specs.Limits.{memoryWidth}
 use Rattle.records.proofs.Records.{length-from}
 use Rattle.geometry.specs.Trapezoids.{trapezoidCodec, layerOf}
 use Rattle.boolean.specs.Operations.{difference}
-use Rattle.boolean.specs.Space.{differenceMarks}
+use Rattle.boolean.specs.Space.{differenceStages}
 use Rattle.trapezoids_code.proofs.Placed.{placed-own}
-use Rattle.remainder_code.specs.Code.{held, overlaysOfOne, ScratchFor}
-use Rattle.remainder_code.proofs.Answers.{within-short, within-done, held-filled}
-use Rattle.remainder_code.proofs.Held.{scratch-tail, scratch-back}
+use Rattle.remainder_code.specs.Code.{leading, overlaysOfOne, ScratchFor}
+use Rattle.remainder_code.proofs.Answers.{within-no-room, within-done, leading-filled}
+use Rattle.remainder_code.proofs.Leading.{scratch-tail, scratch-back}
 use Rattle.remainder_code.proofs.Folding.{Folding, fold-start, fold-words, fold-stop, fold-borrowed, fold-long, Turned, fold-turn}
 use Rattle.difference_code.proofs.Folds.{differenceFold, difference-steps, difference-part}
 use Rattle.difference_code.proofs.difference_into.Statement.{statement}
@@ -24,7 +24,7 @@ use Rattle.difference_code.proofs.difference_into.Tie as tie
 
 abbrev Inv-loop : tie.InvT-loop
 Inv-loop start first second out₀ scratch₀ room n k₀ made₀ i₀ out scratch k made i =
-    Folding (differenceFold (layerOf second)) (length out₀) room (held out₀ start ++ difference (layerOf first) (layerOf second)) (differenceMarks start (layerOf first) (layerOf second)) first out k made i
+    Folding (differenceFold (layerOf second)) (length out₀) room (leading out₀ start ++ difference (layerOf first) (layerOf second)) (differenceStages start (layerOf first) (layerOf second)) first out k made i
     × (made ≤ overlaysOfOne * i) × ScratchFor out scratch
 
 abbrev μ-loop : tie.MeasureT-loop
@@ -37,8 +37,8 @@ loop-holds c =
     let B = layerOf (a .second .now) in
     let d = a .out .now in
     let h = c .pre .0 .2 in (
-      fold-start (differenceFold B) (difference-steps B) (a .room) (a .first .now) d (held d (a .start)) (differenceMarks (a .start) (layerOf (a .first .now)) B) (a .start) (held-filled d (a .start) (a .room) (h .is) (h .within)) (h .wide)
-          (ap (λ (k : ℕ). differenceMarks k (layerOf (a .first .now)) B) (sym (length-from trapezoidCodec (a .start) d 0))) (c .pre .0 .0 .fit),
+      fold-start (differenceFold B) (difference-steps B) (a .room) (a .first .now) d (leading d (a .start)) (differenceStages (a .start) (layerOf (a .first .now)) B) (a .start) (leading-filled d (a .start) (a .room) (h .is) (h .within)) (h .wide)
+          (ap (λ (k : ℕ). differenceStages k (layerOf (a .first .now)) B) (sym (length-from trapezoidCodec (a .start) d 0))) (c .pre .0 .0 .fit),
       omega arith,
       c .pre .1,
     )
@@ -65,7 +65,9 @@ part-one-into-end c =
 
 mul-one-into-2 : tie.Need-mul-one-into-2 Inv-loop μ-loop
 mul-one-into-2 c =
-    omega (arith, fold-words (c .before .before .before .loop .inv .0), c .before .before .before .before .good .1 .1 .1 .0)
+    let at-loop = c .before .before .before in
+    let at-start = at-loop .before in
+    omega (arith, fold-words (at-loop .loop .inv .0), at-start .good .1 .1 .1 .0)
 
 sub-one-into-2 : tie.Need-sub-one-into-2 Inv-loop μ-loop
 sub-one-into-2 c =
@@ -79,86 +81,108 @@ part-one-into-end-2 c =
 
 sub-one-into-3 : tie.Need-sub-one-into-3 Inv-loop μ-loop
 sub-one-into-3 c =
-    omega (arith, c .before .before .before .before .loop .inv .0 .within)
+    let at-loop = c .before .before .before .before in
+    omega (arith, at-loop .loop .inv .0 .within)
 
 one-into-requires : tie.Need-one-into-requires Inv-loop μ-loop
 one-into-requires c κs =
-    let l = c .before .before .before .before in
-    let s = l .before in
-    let p = l .loop in
+    let at-placed-at = c .before .before in
+    let at-loop = at-placed-at .before .before in
+    let at-start = at-loop .before in
+    let p = at-loop .loop in
     let h = p .inv in
-    ((placed-own (c .before .before .placed-at .ensures), s .pre .0 .1, fold-borrowed (h .0) _ (omega (arith, h .0 .within)), omega (arith, s .pre .0 .3)), scratch-tail (p .out) (p .scratch) (p .k) (h .2))
+    ((placed-own (at-placed-at .placed-at .ensures), at-start .pre .0 .1, fold-borrowed (h .0) _ (omega (arith, h .0 .within)), omega (arith, at-start .pre .0 .3)), scratch-tail (p .out) (p .scratch) (p .k) (h .2))
 
--- number i less the second layer
+-- number i minus the second layer
 turn : (o : tie.After-one-into Inv-loop μ-loop)
-    → let l = o .before .before .before .before .before in
-    Turned (l .loop .inv .0) (l .before .args .room - l .loop .k) (o .one-into .result) (o .one-into .last .1 .1 .0)
+    → let at-loop = o .before .before .before .before .before in let at-start = at-loop .before in Turned (at-loop .loop .inv .0) (at-start .args .room - at-loop .loop .k) (o .one-into .result) (o .one-into .last .1 .1 .0)
 turn o =
-    let p = o .before .before .before .placed-at in
-    let l = o .before .before .before .before .before in
-    let h = l .loop .inv .0 in
+    let at-placed-at = o .before .before .before in
+    let at-loop-test = at-placed-at .before in
+    let at-loop = at-loop-test .before in
+    let at-start = at-loop .before in
+    let p = at-placed-at .placed-at in
+    let h = at-loop .loop .inv .0 in
     let a = p .result .shape in
     let f = o .one-into in
-    fold-turn h (o .before .before .before .before .loop-test .taken) a (p .ensures .shape)
-    (difference-part (layerOf (l .before .args .second .now)) a (h .size) (h .within)) (f .result) (f .last .1 .1 .0) (f .ensures .0)
+    fold-turn h (at-loop-test .loop-test .taken) a (p .ensures .shape)
+    (difference-part (layerOf (at-start .args .second .now)) a (h .size) (h .within)) (f .result) (f .last .1 .1 .0) (f .ensures .0)
 
 -- the scratch area with its tail back
 scratched : (o : tie.After-one-into Inv-loop μ-loop)
-    → let p = o .before .before .before .before .before .loop in
+    → let at-loop = o .before .before .before .before .before in let p = at-loop .loop in
     ScratchFor (putMid (memoryWidth * p .k) (length (p .out) - memoryWidth * p .k) (p .out) (o .one-into .last .1 .1 .0)) (putMid (memoryWidth * p .k) (length (p .scratch) - memoryWidth * p .k) (p .scratch) (o .one-into .last .1 .1 .1 .0))
 scratched o =
-    let p = o .before .before .before .before .before .loop in
+    let at-loop = o .before .before .before .before .before in
+    let p = at-loop .loop in
     let f = o .one-into in
     scratch-back (p .out) (p .scratch) (p .k) (p .inv .2) (fold-words (p .inv .0)) (f .last .1 .1 .0) (f .last .1 .1 .1 .0) (f .kept .1 .1 .0) (f .kept .1 .1 .1 .0) (f .ensures .1 .1)
 
 add-t33 : tie.Need-add-t33 Inv-loop μ-loop
 add-t33 c =
-    let o = c .before .before .before .before .before .before .before .before in
-    let l = o .before .before .before .before .before in
-    let u = within-short overlaysOfOne _ (o .one-into .result) (c .before .before .before .before .f .given .1) (o .one-into .ensures .1 .0) in
-    omega (arith, u, l .loop .inv .1, o .before .before .before .before .loop-test .taken, l .before .pre .0 .0 .few)
+    let at-f = c .before .before .before .before in
+    let at-one-into = at-f .before .before .before .before in
+    let at-loop-test = at-one-into .before .before .before .before in
+    let at-loop = at-loop-test .before in
+    let at-start = at-loop .before in
+    let u = within-no-room overlaysOfOne _ (at-one-into .one-into .result) (at-f .f .given .1) (at-one-into .one-into .ensures .1 .0) in
+    omega (arith, u, at-loop .loop .inv .1, at-loop-test .loop-test .taken, at-start .pre .0 .0 .few)
 
 same-length : tie.Need-same-length Inv-loop μ-loop
 same-length c =
-    let o = c .before .before .before .before .before .before .before .before in
-    c .before .clear .kept .0 ∙ fold-long (o .before .before .before .before .before .loop .inv .0) (o .one-into .last .1 .1 .0) (o .one-into .kept .1 .1 .0)
+    let at-clear = c .before in
+    let at-one-into = at-clear .before .before .before .before .before .before .before in
+    let at-loop = at-one-into .before .before .before .before .before in
+    at-clear .clear .kept .0 ∙ fold-long (at-loop .loop .inv .0) (at-one-into .one-into .last .1 .1 .0) (at-one-into .one-into .kept .1 .1 .0)
 
 same-length-2 : tie.Need-same-length-2 Inv-loop μ-loop
 same-length-2 c =
-    let o = c .before .before .before .before .before .before .before .before in
-    let l = o .before .before .before .before .before in
-    scratched o .1 ∙ fold-long (l .loop .inv .0) (o .one-into .last .1 .1 .0) (o .one-into .kept .1 .1 .0) ∙ sym (l .before .pre .1 .1)
+    let at-one-into = c .before .before .before .before .before .before .before .before in
+    let at-loop = at-one-into .before .before .before .before .before in
+    let at-start = at-loop .before in
+    scratched at-one-into .1 ∙ fold-long (at-loop .loop .inv .0) (at-one-into .one-into .last .1 .1 .0) (at-one-into .one-into .kept .1 .1 .0) ∙ sym (at-start .pre .1 .1)
 
 returns : tie.Need-returns Inv-loop μ-loop
 returns c =
-    let o = c .before .before .before .before .before .before .before .before in
-    let l = o .before .before .before .before .before in
-    let g = c .before .before .before .before .f .given .1 in
-    let u = within-short overlaysOfOne _ (o .one-into .result) g (o .one-into .ensures .1 .0) in
-    let e = fold-long (l .loop .inv .0) (o .one-into .last .1 .1 .0) (o .one-into .kept .1 .1 .0) in (
-      (turn o .full _ g, c .before .clear .ensures ∙ ap (λ (n : ℕ). replicate n (pos 0)) e),
-      (omega (arith, u, l .loop .inv .1, o .before .before .before .before .loop-test .taken, l .before .pre .0 .0 .few), scratched o .0),
+    let at-clear = c .before in
+    let at-f = at-clear .before .before .before in
+    let at-one-into = at-f .before .before .before .before in
+    let at-loop-test = at-one-into .before .before .before .before in
+    let at-loop = at-loop-test .before in
+    let at-start = at-loop .before in
+    let g = at-f .f .given .1 in
+    let u = within-no-room overlaysOfOne _ (at-one-into .one-into .result) g (at-one-into .one-into .ensures .1 .0) in
+    let e = fold-long (at-loop .loop .inv .0) (at-one-into .one-into .last .1 .1 .0) (at-one-into .one-into .kept .1 .1 .0) in (
+      (turn at-one-into .full _ g, at-clear .clear .ensures ∙ ap (λ (n : ℕ). replicate n (pos 0)) e),
+      (omega (arith, u, at-loop .loop .inv .1, at-loop-test .loop-test .taken, at-start .pre .0 .0 .few), scratched at-one-into .0),
     )
 
 add-k : tie.Need-add-k Inv-loop μ-loop
 add-k c =
-    let o = c .before .before .before .before .before in
-    let l = o .before .before .before .before .before in
-    omega (arith, turn o .fits _ _ (c .before .f2 .given .1), l .loop .inv .0 .within, l .before .pre .0 .3)
+    let at-f2 = c .before in
+    let at-one-into = at-f2 .before .before .before .before in
+    let at-loop = at-one-into .before .before .before .before .before in
+    let at-start = at-loop .before in
+    omega (arith, turn at-one-into .fits _ _ (at-f2 .f2 .given .1), at-loop .loop .inv .0 .within, at-start .pre .0 .3)
 
 add-made : tie.Need-add-made Inv-loop μ-loop
 add-made c =
-    let o = c .before .before .before .before .before in
-    let l = o .before .before .before .before .before in
-    let u = within-done overlaysOfOne _ _ (o .one-into .result) (c .before .f2 .given .1) (o .one-into .ensures .1 .0) in
-    omega (arith, u, l .loop .inv .1, o .before .before .before .before .loop-test .taken, l .before .pre .0 .0 .few)
+    let at-f2 = c .before in
+    let at-one-into = at-f2 .before .before .before .before in
+    let at-loop-test = at-one-into .before .before .before .before in
+    let at-loop = at-loop-test .before in
+    let at-start = at-loop .before in
+    let u = within-done overlaysOfOne _ _ (at-one-into .one-into .result) (at-f2 .f2 .given .1) (at-one-into .one-into .ensures .1 .0) in
+    omega (arith, u, at-loop .loop .inv .1, at-loop-test .loop-test .taken, at-start .pre .0 .0 .few)
 
 loop-again : tie.Need-loop-again Inv-loop μ-loop
 loop-again c =
-    let o = c .before .before .before .before .before in
-    let g = c .before .f2 .given .1 in
-    let u = within-done overlaysOfOne _ _ (o .one-into .result) g (o .one-into .ensures .1 .0) in
-    (turn o .keeps _ _ g, omega (arith, u, o .before .before .before .before .before .loop .inv .1), scratched o)
+    let at-f2 = c .before in
+    let at-one-into = at-f2 .before .before .before .before in
+    let at-loop = at-one-into .before .before .before .before .before in
+    let g = at-f2 .f2 .given .1 in
+    let u = within-done overlaysOfOne _ _ (at-one-into .one-into .result) g (at-one-into .one-into .ensures .1 .0) in
+    (turn at-one-into .keeps _ _ g, omega (arith, u, at-loop .loop .inv .1), scratched at-one-into)
 
 same-length-3 : tie.Need-same-length-3 Inv-loop μ-loop
 same-length-3 c =
@@ -166,8 +190,8 @@ same-length-3 c =
 
 same-length-4 : tie.Need-same-length-4 Inv-loop μ-loop
 same-length-4 c =
-    let l = c .before in
-    l .loop .inv .2 .1 ∙ l .loop .inv .0 .long ∙ sym (l .before .pre .1 .1)
+    let at-loop = c .before in
+    at-loop .loop .inv .2 .1 ∙ at-loop .loop .inv .0 .long ∙ sym (at-loop .before .pre .1 .1)
 
 returns-2 : tie.Need-returns-2 Inv-loop μ-loop
 returns-2 c =

@@ -15,68 +15,83 @@ use Rattle.difference_code.proofs.one_from.Tie as tie
 
 returns : tie.Need-returns
 returns c =
-    let s = c .before .before .before .before in
-    let a = s .args in
-    let w = c .before .add-whole in
+    let at-add-whole = c .before in
+    let at-if1 = at-add-whole .before .before in
+    let at-start = at-if1 .before in
+    let a = at-start .args in
+    let w = at-add-whole .add-whole in
     let t = w .last .1 .0 in (
-      one-whole (length (a .out .now)) (a .room) (a .a .shape) (a .layer .now) (a .j) (w .result) t (c .before .before .before .if1 .taken) (w .ensures),
-      (within-least 1 (maxRecords * (maxRecords - a .j) + 1) (w .result) (omega arith) (folded-within (length (a .out .now)) (a .room) (a .a .shape ∷ []) (addition 1 ∷ []) (w .result) t (w .ensures)), s .pre .1 .0),
+      one-whole (length (a .out .now)) (a .room) (a .a .shape) (a .layer .now) (a .j) (w .result) t (at-if1 .if1 .taken) (w .ensures),
+      (within-least 1 (maxRecords * (maxRecords - a .j) + 1) (w .result) (omega arith) (folded-within (length (a .out .now)) (a .room) (a .a .shape ∷ []) (addition 1 ∷ []) (w .result) t (w .ensures)), at-start .pre .1 .0),
     )
 
 first-into-requires : tie.Need-first-into-requires
 first-into-requires c κs =
-    let s = c .before .before .before in
-    (record { first = s .pre .0 .0; second = placed-own (c .before .placed-at .ensures) }, s .pre .0 .2)
+    let at-start = c .before .before .before in
+    (record { first = at-start .pre .0 .0; second = placed-own (c .before .placed-at .ensures) }, at-start .pre .0 .2)
 
 returns-2 : tie.Need-returns-2
 returns-2 c =
-    let s = c .before .before .before .before .before .before .before in
-    let a = s .args in
-    let f = c .before .before .before .first-into in
-    let p = c .before .before .before .before .before .placed-at in
-    let l = c .before .before .before .before .before .before .if1 .left in
+    let at-first-into = c .before .before .before in
+    let at-placed-at = at-first-into .before .before in
+    let at-if1 = at-placed-at .before in
+    let at-start = at-if1 .before in
+    let a = at-start .args in
+    let f = at-first-into .first-into in
+    let p = at-placed-at .placed-at in
+    let l = at-if1 .if1 .left in
     let t = f .last .1 .1 .0 in (
       one-refused (length (a .out .now)) (a .room) (a .a .shape) (p .result .shape) (a .layer .now) (a .j) (omega (arith, l)) (p .ensures .shape) (f .result) t (f .ensures) _ (c .enum-told .given .1),
-      (within-least 1 (maxRecords * (maxRecords - a .j) + 1) (f .result) (omega arith) (first-few (length (a .out .now)) (a .room) (a .a .shape) (p .result .shape) (a .layer .now) (a .j) (omega (arith, l)) (p .ensures .shape) (f .result) t (f .ensures)), s .pre .1 .0),
+      (within-least 1 (maxRecords * (maxRecords - a .j) + 1) (f .result) (omega arith) (first-few (length (a .out .now)) (a .room) (a .a .shape) (p .result .shape) (a .layer .now) (a .j) (omega (arith, l)) (p .ensures .shape) (f .result) t (f .ensures)), at-start .pre .1 .0),
     )
 
-lessen-by-rest-requires : tie.Need-lessen-by-rest-requires
-lessen-by-rest-requires c κs =
-    let k = c .before .before in
-    let f = k .before .before .before .before .first-into in
-    let p = k .before .before .before .before .before .before .placed-at in
-    let i = k .before .before .before .before .before .before .before in
-    let s = i .before in
-    let a = s .args in
-    let l = i .if1 .left in (
-      (s .pre .0 .1, omega (arith, l), one-remaining (length (a .out .now)) (a .room) (a .a .shape) (p .result .shape) (a .layer .now) (a .j) (omega (arith, l)) (p .ensures .shape) (f .result) (f .last .1 .1 .0) (f .ensures) _ _ (k .before .f .given .1) (f .kept .1 .1 .0) (s .pre .0 .2 .wide) (s .pre .0 .0 .fit) (p .ensures .fit), s .pre .0 .3),
-      (s .pre .1 .0, s .pre .1 .1 ∙ sym (f .kept .1 .1 .0)),
+reduce-by-rest-requires : tie.Need-reduce-by-rest-requires
+reduce-by-rest-requires c κs =
+    let at-f = c .before .before .before in
+    let at-first-into = at-f .before .before .before in
+    let at-placed-at = at-first-into .before .before in
+    let at-if1 = at-placed-at .before in
+    let at-start = at-if1 .before in
+    let f = at-first-into .first-into in
+    let p = at-placed-at .placed-at in
+    let a = at-start .args in
+    let l = at-if1 .if1 .left in (
+      (at-start .pre .0 .1, omega (arith, l), one-remaining (length (a .out .now)) (a .room) (a .a .shape) (p .result .shape) (a .layer .now) (a .j) (omega (arith, l)) (p .ensures .shape) (f .result) (f .last .1 .1 .0) (f .ensures) _ _ (at-f .f .given .1) (f .kept .1 .1 .0) (at-start .pre .0 .2 .wide) (at-start .pre .0 .0 .fit) (p .ensures .fit), at-start .pre .0 .3),
+      (at-start .pre .1 .0, at-start .pre .1 .1 ∙ sym (f .kept .1 .1 .0)),
     )
 
 more-overlays-requires : tie.Need-more-overlays-requires
 more-overlays-requires c κs =
-    let q = c .before .before .lessen-by-rest in
-    let k = c .before .before .before .before .before in
-    let f = k .before .before .before .before .first-into in
-    let p = k .before .before .before .before .before .before .placed-at in
-    let i = k .before .before .before .before .before .before .before in
-    let a = i .before .args in
-    let u = first-few (length (a .out .now)) (a .room) (a .a .shape) (p .result .shape) (a .layer .now) (a .j) (omega (arith, i .if1 .left)) (p .ensures .shape) (f .result) (f .last .1 .1 .0) (f .ensures) in
-    (omega (arith, within-done 1 _ _ (f .result) (k .before .f .given .1) u), within-least (maxRecords * (maxRecords - (a .j + 1))) maxOverlays (q .result) (omega arith) (q .ensures .1 .0))
+    let at-reduce-by-rest = c .before .before in
+    let at-f = at-reduce-by-rest .before .before .before .before in
+    let at-first-into = at-f .before .before .before in
+    let at-placed-at = at-first-into .before .before in
+    let at-if1 = at-placed-at .before in
+    let at-start = at-if1 .before in
+    let q = at-reduce-by-rest .reduce-by-rest in
+    let f = at-first-into .first-into in
+    let p = at-placed-at .placed-at in
+    let a = at-start .args in
+    let u = first-few (length (a .out .now)) (a .room) (a .a .shape) (p .result .shape) (a .layer .now) (a .j) (omega (arith, at-if1 .if1 .left)) (p .ensures .shape) (f .result) (f .last .1 .1 .0) (f .ensures) in
+    (omega (arith, within-done 1 _ _ (f .result) (at-f .f .given .1) u), within-least (maxRecords * (maxRecords - (a .j + 1))) maxOverlays (q .result) (omega arith) (q .ensures .1 .0))
 
 returns-3 : tie.Need-returns-3
 returns-3 c =
-    let q = c .before .before .before .lessen-by-rest in
-    let k = c .before .before .before .before .before .before in
-    let f = k .before .before .before .before .first-into in
-    let p = k .before .before .before .before .before .before .placed-at in
-    let i = k .before .before .before .before .before .before .before in
-    let a = i .before .args in
-    let l = i .if1 .left in
+    let at-reduce-by-rest = c .before .before .before in
+    let at-f = at-reduce-by-rest .before .before .before .before in
+    let at-first-into = at-f .before .before .before in
+    let at-placed-at = at-first-into .before .before in
+    let at-if1 = at-placed-at .before in
+    let at-start = at-if1 .before in
+    let q = at-reduce-by-rest .reduce-by-rest in
+    let f = at-first-into .first-into in
+    let p = at-placed-at .placed-at in
+    let a = at-start .args in
+    let l = at-if1 .if1 .left in
     let u = first-few (length (a .out .now)) (a .room) (a .a .shape) (p .result .shape) (a .layer .now) (a .j) (omega (arith, l)) (p .ensures .shape) (f .result) (f .last .1 .1 .0) (f .ensures) in
-    let v = within-done 1 _ _ (f .result) (k .before .f .given .1) u in
+    let v = within-done 1 _ _ (f .result) (at-f .f .given .1) u in
     let r = c .more-overlays .ensures in
-    let g = one-folded (length (a .out .now)) (a .room) (a .a .shape) (p .result .shape) (a .layer .now) (a .j) (omega (arith, l)) (p .ensures .shape) (f .result) (f .last .1 .1 .0) (f .ensures) _ _ (k .before .f .given .1) (q .result) (q .last .1 .1 .1 .0) (f .kept .1 .1 .0) (q .ensures .0) in
+    let g = one-folded (length (a .out .now)) (a .room) (a .a .shape) (p .result .shape) (a .layer .now) (a .j) (omega (arith, l)) (p .ensures .shape) (f .result) (f .last .1 .1 .0) (f .ensures) _ _ (at-f .f .given .1) (q .result) (q .last .1 .1 .1 .0) (f .kept .1 .1 .0) (q .ensures .0) in
     let w = within-more (maxRecords * (maxRecords - (a .j + 1))) 1 _ (q .result) v (q .ensures .1 .0) in
     (rw (r) g, (within-least (1 + maxRecords * (maxRecords - (a .j + 1))) (maxRecords * (maxRecords - a .j) + 1) (c .more-overlays .result) (omega arith) (subst (OverlaysWithin (1 + maxRecords * (maxRecords - (a .j + 1)))) (sym r) w), q .ensures .1 .1))
 
@@ -94,7 +109,7 @@ one-from-spec =
     (λ c. search needs)
     returns-2
     (λ c. search needs)
-    lessen-by-rest-requires
+    reduce-by-rest-requires
     more-overlays-requires
     (λ c. search needs)
     (λ c. search needs)

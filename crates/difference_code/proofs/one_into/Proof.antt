@@ -12,31 +12,37 @@ use Rattle.difference_code.proofs.one_into.Tie as tie
 
 returns : tie.Need-returns
 returns c =
-    let f = c .before .before .one-from in
-    let a = c .before .before .before .before .before .before .args in
+    let at-one-from = c .before .before in
+    let at-start = at-one-from .before .before .before .before in
+    let f = at-one-from .one-from in
+    let a = at-start .args in
     (one-start (length (a .out .now)) (a .room) (a .a .shape) (a .layer .now) (f .result) (f .last .1 .1 .1 .0) (f .ensures .0), (f .ensures .1 .0, f .ensures .1 .1))
 
 more-overlays-requires : tie.Need-more-overlays-requires
 more-overlays-requires c κs =
-    let f = c .before .before .one-from2 in
-    let v = c .before .before .before .before .before .first-overlapping in
-    let s = c .before .before .before .before .before .before .before in
-    let a = s .args in
-    (omega (arith, skip-upto (length (a .out .now)) (a .room) (a .a .shape) (a .layer .now) (v .result) (v .ensures), s .pre .0 .1 .few), within-least (maxRecords * (maxRecords - v .result) + 1) maxOverlays (f .result) (omega arith) (f .ensures .1 .0))
+    let at-one-from2 = c .before .before in
+    let at-first-overlapping = at-one-from2 .before .before .before in
+    let at-start = at-first-overlapping .before .before in
+    let f = at-one-from2 .one-from2 in
+    let v = at-first-overlapping .first-overlapping in
+    let a = at-start .args in
+    (omega (arith, skip-upto (length (a .out .now)) (a .room) (a .a .shape) (a .layer .now) (v .result) (v .ensures), at-start .pre .0 .1 .few), within-least (maxRecords * (maxRecords - v .result) + 1) maxOverlays (f .result) (omega arith) (f .ensures .1 .0))
 
 returns-2 : tie.Need-returns-2
 returns-2 c =
+    let at-one-from2 = c .before .before .before in
+    let at-first-overlapping = at-one-from2 .before .before .before in
+    let at-if1 = at-first-overlapping .before in
+    let at-start = at-if1 .before in
     let r = c .more-overlays .ensures in
-    let f = c .before .before .before .one-from2 in
-    let v = c .before .before .before .before .before .before .first-overlapping in
-    let i = c .before .before .before .before .before .before .before in
-    let s = i .before in
-    let a = s .args in
+    let f = at-one-from2 .one-from2 in
+    let v = at-first-overlapping .first-overlapping in
+    let a = at-start .args in
     let u = skip-upto (length (a .out .now)) (a .room) (a .a .shape) (a .layer .now) (v .result) (v .ensures) in
-    let g = one-skip (length (a .out .now)) (a .room) (a .a .shape) (a .layer .now) (v .result) (v .ensures) (omega (arith, i .if1 .left)) (f .result) (f .last .1 .1 .1 .0) (f .ensures .0) in
+    let g = one-skip (length (a .out .now)) (a .room) (a .a .shape) (a .layer .now) (v .result) (v .ensures) (omega (arith, at-if1 .if1 .left)) (f .result) (f .last .1 .1 .1 .0) (f .ensures .0) in
     let m = maxRecords * (maxRecords - v .result) + 1 in
     let w = within-more m (v .result) (v .result) (f .result) (omega arith) (f .ensures .1 .0) in
-    (rw r g, (within-least (v .result + m) overlaysOfOne (c .more-overlays .result) (omega (arith, u, s .pre .0 .1 .few)) (subst (OverlaysWithin (v .result + m)) (sym r) w), f .ensures .1 .1))
+    (rw r g, (within-least (v .result + m) overlaysOfOne (c .more-overlays .result) (omega (arith, u, at-start .pre .0 .1 .few)) (subst (OverlaysWithin (v .result + m)) (sym r) w), f .ensures .1 .1))
 
 pub one-into-spec : {M : Type 1} → statement M
 one-into-spec =

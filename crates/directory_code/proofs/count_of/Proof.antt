@@ -14,25 +14,31 @@ returns c =
 
 mul-if1 : tie.Need-mul-if1
 mul-if1 c =
-    let k = c .before in
-    let s = k .before .before .before in
-    record { fits = omega (arith, number 0 (s .args .f .count) (s .args .first .v) (sym (k .before .before .number-from .ensures) ∙ k .k .given .1) .high, s .pre .count) }
+    let at-k = c .before in
+    let at-number-from = at-k .before .before in
+    let at-start = at-number-from .before in
+    record { fits = omega (arith, number 0 (at-start .args .f .count) (at-start .args .first .v) (sym (at-number-from .number-from .ensures) ∙ at-k .k .given .1) .high, at-start .pre .count) }
 
 add-if1 : tie.Need-add-if1
 add-if1 c =
-    let k = c .before in
-    let s = k .before .before .before in
-    record { fits = omega (arith, number 0 (s .args .f .count) (s .args .first .v) (sym (k .before .before .number-from .ensures) ∙ k .k .given .1) .high, s .pre .count) }
+    let at-k = c .before in
+    let at-number-from = at-k .before .before in
+    let at-start = at-number-from .before in
+    record { fits = omega (arith, number 0 (at-start .args .f .count) (at-start .args .first .v) (sym (at-number-from .number-from .ensures) ∙ at-k .k .given .1) .high, at-start .pre .count) }
 
 returns-2 : tie.Need-returns-2
 returns-2 c =
-    let k = c .before .before in
-    incomplete (k .before .before .before .args .words) (sym (k .before .before .number-from .ensures) ∙ k .k .given .1) (c .if1 .taken)
+    let at-k = c .before .before in
+    let at-number-from = at-k .before .before in
+    let at-start = at-number-from .before in
+    incomplete (at-start .args .words) (sym (at-number-from .number-from .ensures) ∙ at-k .k .given .1) (c .if1 .taken)
 
 returns-3 : tie.Need-returns-3
 returns-3 c =
-    let k = c .before .before in
-    completed (k .before .before .before .args .words) (sym (k .before .before .number-from .ensures) ∙ k .k .given .1) (c .if1 .left)
+    let at-k = c .before .before in
+    let at-number-from = at-k .before .before in
+    let at-start = at-number-from .before in
+    completed (at-start .args .words) (sym (at-number-from .number-from .ensures) ∙ at-k .k .given .1) (c .if1 .left)
 
 pub count-of-spec : {M : Type 1} → statement M
 count-of-spec =

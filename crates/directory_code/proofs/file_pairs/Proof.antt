@@ -1,3 +1,4 @@
+-- Before turn i: the answer is that of the pairs from number i on, with `total` units before them, no more than the format allows.
 use mathlib.Core.Path.{_≡_, sym, _∙_, ap}
 use Prim.Native.Nat.{_-_}
 use native.Mathlib.Omega.{arith}
@@ -18,27 +19,39 @@ abbrev μ-loop : tie.MeasureT-loop
 μ-loop file f n i₀ total₀ i total = n - i
 
 loop-holds : tie.Need-loop-holds Inv-loop μ-loop
-loop-holds c = let s = c .before in walk-start (s .args .f) (fileWords (s .args .file .now)) (s .args .n)
+loop-holds c =
+    let at-start = c .before in
+    walk-start (at-start .args .f) (fileWords (at-start .args .file .now)) (at-start .args .n)
 
 pair-length-requires : tie.Need-pair-length-requires Inv-loop μ-loop
-pair-length-requires c κs = (c .before .before .before .before .before .pre .0, c .before .before .before .loop .inv .units)
+pair-length-requires c κs =
+    let at-loop = c .before .before .before in
+    let at-start = at-loop .before .before in
+    (at-start .pre .0, at-loop .loop .inv .units)
 
 returns : tie.Need-returns Inv-loop μ-loop
 returns c =
-    let k = c .before in
-    let h = k .before .before .before .before .before .loop .inv in
-    walk-wrong h (k .before .before .before .before .loop-test .taken) (k .before .before .before .word-at .ensures) (k .before .before .word-at2 .ensures) (sym (k .before .pair-length .ensures) ∙ (let e : k .before .pair-length .result ≡ Outside = cc in e))
+    let at-word-at = c .before .before .before .before in
+    let at-loop-test = at-word-at .before in
+    let at-loop = at-loop-test .before in
+    let h = at-loop .loop .inv in
+    walk-wrong h (at-loop-test .loop-test .taken) (at-word-at .word-at .ensures) (c .before .before .before .word-at2 .ensures) (sym (c .before .before .pair-length .ensures) ∙ (let e : c .before .before .pair-length .result ≡ Outside = cc in e))
 
 add-total : tie.Need-add-total Inv-loop μ-loop
 add-total c =
-    let k = c .before in
-    let u = pair _ _ _ _ (sym (k .before .before .pair-length .ensures) ∙ k .p .given .1) .total in
+    let at-p = c .before in
+    let u = pair _ _ _ _ (sym (at-p .before .before .pair-length .ensures) ∙ at-p .p .given .1) .total in
     record { fits = omega arith }
 
 loop-again : tie.Need-loop-again Inv-loop μ-loop
 loop-again c =
-    let k = c .before in
-    walk-turn (k .before .before .before .before .before .before .loop .inv) (k .before .before .before .before .before .loop-test .taken) (k .before .before .before .before .word-at .ensures) (k .before .before .before .word-at2 .ensures) (sym (k .before .before .pair-length .ensures) ∙ k .p .given .1)
+    let at-p = c .before in
+    let at-pair-length = at-p .before .before in
+    let at-word-at2 = at-pair-length .before in
+    let at-word-at = at-word-at2 .before in
+    let at-loop-test = at-word-at .before in
+    let at-loop = at-loop-test .before in
+    walk-turn (at-loop .loop .inv) (at-loop-test .loop-test .taken) (at-word-at .word-at .ensures) (at-word-at2 .word-at2 .ensures) (sym (at-pair-length .pair-length .ensures) ∙ at-p .p .given .1)
 
 end-of-requires : tie.Need-end-of-requires Inv-loop μ-loop
 end-of-requires c κs =
@@ -47,8 +60,11 @@ end-of-requires c κs =
 
 returns-2 : tie.Need-returns-2 Inv-loop μ-loop
 returns-2 c =
-    let s = c .before .before .before .before .args in
-    c .end-of .ensures ∙ ap (endOf (s .f) (s .n) (c .before .before .loop .total)) (sym (length-file (s .file .now))) ∙ walk-end (c .before .before .loop .inv) (c .before .loop-test .left)
+    let at-loop-test = c .before in
+    let at-loop = at-loop-test .before in
+    let at-start = at-loop .before .before in
+    let s = at-start .args in
+    c .end-of .ensures ∙ ap (endOf (s .f) (s .n) (at-loop .loop .total)) (sym (length-file (s .file .now))) ∙ walk-end (at-loop .loop .inv) (at-loop-test .loop-test .left)
 
 pub file-pairs-spec : {M : Type 1} → statement M
 file-pairs-spec =

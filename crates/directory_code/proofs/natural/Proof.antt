@@ -14,13 +14,13 @@ returns c =
 
 cast-t4 : tie.Need-cast-t4
 cast-t4 c =
-    let s = c .before .before .before .before .before in
-    kept (s .args .x .v) (search needs) (let e : ltZ (s .args .x .v) (pos 0) ≡ false = cc in e)
+    let at-start = c .before .before .before .before .before in
+    kept (at-start .args .x .v) (search needs) (let e : ltZ (at-start .args .x .v) (pos 0) ≡ false = cc in e)
 
 returns-2 : tie.Need-returns-2
 returns-2 c =
-    let s = c .before .before .before .before .before in
-    natural (s .args .x .v) (search needs) (let e : ltZ (s .args .x .v) (pos 0) ≡ false = cc in e)
+    let at-start = c .before .before .before .before .before in
+    natural (at-start .args .x .v) (search needs) (let e : ltZ (at-start .args .x .v) (pos 0) ≡ false = cc in e)
 
 pub natural-spec : {M : Type 1} → statement M
 natural-spec = tie.close (tie.spec (λ c κs. search needs) (λ c κs. search needs) returns cast-t4 returns-2)

@@ -13,21 +13,29 @@ returns c =
 
 returns-2 : tie.Need-returns-2
 returns-2 c =
-    let k = c .before .before in
-    let s = k .before .before .before .args in
-    too-low (s .least) (s .most) (s .x .v) (sym (k .before .before .natural .ensures) ∙ k .k .given .1) (c .if1 .taken)
+    let at-k = c .before .before in
+    let at-natural = at-k .before .before in
+    let at-start = at-natural .before in
+    let s = at-start .args in
+    too-low (s .least) (s .most) (s .x .v) (sym (at-natural .natural .ensures) ∙ at-k .k .given .1) (c .if1 .taken)
 
 returns-3 : tie.Need-returns-3
 returns-3 c =
-    let k = c .before .before .before in
-    let s = k .before .before .before .args in
-    too-high (s .least) (s .most) (s .x .v) (sym (k .before .before .natural .ensures) ∙ k .k .given .1) (c .before .if1 .left) (c .if2 .taken)
+    let at-if1 = c .before in
+    let at-k = at-if1 .before .before in
+    let at-natural = at-k .before .before in
+    let at-start = at-natural .before in
+    let s = at-start .args in
+    too-high (s .least) (s .most) (s .x .v) (sym (at-natural .natural .ensures) ∙ at-k .k .given .1) (at-if1 .if1 .left) (c .if2 .taken)
 
 returns-4 : tie.Need-returns-4
 returns-4 c =
-    let k = c .before .before .before in
-    let s = k .before .before .before .args in
-    in-range (s .least) (s .most) (s .x .v) (sym (k .before .before .natural .ensures) ∙ k .k .given .1) (c .before .if1 .left) (c .if2 .left)
+    let at-if1 = c .before in
+    let at-k = at-if1 .before .before in
+    let at-natural = at-k .before .before in
+    let at-start = at-natural .before in
+    let s = at-start .args in
+    in-range (s .least) (s .most) (s .x .v) (sym (at-natural .natural .ensures) ∙ at-k .k .given .1) (at-if1 .if1 .left) (c .if2 .left)
 
 pub number-from-spec : {M : Type 1} → statement M
 number-from-spec =

@@ -14,23 +14,31 @@ returns c =
 
 returns-2 : tie.Need-returns-2
 returns-2 c =
-    let q = c .before .before .before in
-    let s = q .before .before .before .args in
-    wrong-length (s .f) (s .before) (s .offset .v) (s .len .v) (sym (q .before .before .number-from .ensures) ∙ q .enum-told .given .1) (let e : numberFrom (s .f .least) (s .f .most) (s .len .v) ≡ Outside = cc in e)
+    let at-enum-told = c .before .before .before in
+    let at-number-from = at-enum-told .before .before in
+    let at-start = at-number-from .before in
+    let s = at-start .args in
+    wrong-length (s .f) (s .before) (s .offset .v) (s .len .v) (sym (at-number-from .number-from .ensures) ∙ at-enum-told .enum-told .given .1) (let e : numberFrom (s .f .least) (s .f .most) (s .len .v) ≡ Outside = cc in e)
 
 returns-3 : tie.Need-returns-3
 returns-3 c =
-    let k = c .before .before in
-    let q = k .before .before .before in
-    let s = q .before .before .before .args in
-    above-total (s .f) (s .before) (s .offset .v) (s .len .v) (sym (q .before .before .number-from .ensures) ∙ q .enum-told .given .1) (sym (k .before .before .number-from2 .ensures) ∙ k .k .given .1) (omega (arith, c .if1 .taken))
+    let at-k = c .before .before in
+    let at-number-from2 = at-k .before .before in
+    let at-enum-told = at-number-from2 .before in
+    let at-number-from = at-enum-told .before .before in
+    let at-start = at-number-from .before in
+    let s = at-start .args in
+    above-total (s .f) (s .before) (s .offset .v) (s .len .v) (sym (at-number-from .number-from .ensures) ∙ at-enum-told .enum-told .given .1) (sym (at-number-from2 .number-from2 .ensures) ∙ at-k .k .given .1) (omega (arith, c .if1 .taken))
 
 returns-4 : tie.Need-returns-4
 returns-4 c =
-    let k = c .before .before in
-    let q = k .before .before .before in
-    let s = q .before .before .before .args in
-    right-pair (s .f) (s .before) (s .offset .v) (s .len .v) (sym (q .before .before .number-from .ensures) ∙ q .enum-told .given .1) (sym (k .before .before .number-from2 .ensures) ∙ k .k .given .1) (omega (arith, c .if1 .left))
+    let at-k = c .before .before in
+    let at-number-from2 = at-k .before .before in
+    let at-enum-told = at-number-from2 .before in
+    let at-number-from = at-enum-told .before .before in
+    let at-start = at-number-from .before in
+    let s = at-start .args in
+    right-pair (s .f) (s .before) (s .offset .v) (s .len .v) (sym (at-number-from .number-from .ensures) ∙ at-enum-told .enum-told .given .1) (sym (at-number-from2 .number-from2 .ensures) ∙ at-k .k .given .1) (omega (arith, c .if1 .left))
 
 pub pair-length-spec : {M : Type 1} → statement M
 pair-length-spec =

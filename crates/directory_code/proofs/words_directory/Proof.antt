@@ -7,25 +7,31 @@ use Rattle.directory_code.proofs.words_directory.Statement.{statement}
 use Rattle.directory_code.proofs.words_directory.Tie as tie
 
 returns : tie.Need-returns
-returns c = let s = c .before in directory-empty (s .args .f) (s .args .words .now) (c .if1 .taken)
+returns c =
+    let at-start = c .before in
+    directory-empty (at-start .args .f) (at-start .args .words .now) (c .if1 .taken)
 
 returns-2 : tie.Need-returns-2
 returns-2 c =
-    let s = c .before .before .before .before .before in
-    directory-none (s .args .f) (s .args .words .now) (count-read (s .args .f) (s .args .words .now) (c .before .before .before .get .ensures .0) refl ∙ sym (c .before .before .count-of .ensures) ∙ (let e : c .before .before .count-of .result ≡ Outside = cc in e))
+    let at-start = c .before .before .before .before .before in
+    directory-none (at-start .args .f) (at-start .args .words .now) (count-read (at-start .args .f) (at-start .args .words .now) (c .before .before .before .get .ensures .0) refl ∙ sym (c .before .before .count-of .ensures) ∙ (let e : c .before .before .count-of .result ≡ Outside = cc in e))
 
 words-pairs-requires : tie.Need-words-pairs-requires
 words-pairs-requires c κs =
-    let k = c .before in
-    let s = k .before .before .before .before .before in
-    let h = count-is (s .args .f) (s .args .words .now) (count-read (s .args .f) (s .args .words .now) (k .before .before .before .get .ensures .0) refl ∙ sym (k .before .before .count-of .ensures) ∙ k .c .given .1) in
-    (s .pre, omega (arith, h .0 .high, s .pre .count), omega (arith, h .1, h .1))
+    let at-c = c .before in
+    let at-count-of = at-c .before .before in
+    let at-get = at-count-of .before in
+    let at-start = at-get .before .before in
+    let h = count-is (at-start .args .f) (at-start .args .words .now) (count-read (at-start .args .f) (at-start .args .words .now) (at-get .get .ensures .0) refl ∙ sym (at-count-of .count-of .ensures) ∙ at-c .c .given .1) in
+    (at-start .pre, omega (arith, h .0 .high, at-start .pre .count), omega (arith, h .1, h .1))
 
 returns-3 : tie.Need-returns-3
 returns-3 c =
-    let k = c .before .before in
-    let s = k .before .before .before .before .before in
-    c .words-pairs .ensures ∙ directory-some (s .args .f) (s .args .words .now) (count-read (s .args .f) (s .args .words .now) (k .before .before .before .get .ensures .0) refl ∙ sym (k .before .before .count-of .ensures) ∙ k .c .given .1)
+    let at-c = c .before .before in
+    let at-count-of = at-c .before .before in
+    let at-get = at-count-of .before in
+    let at-start = at-get .before .before in
+    c .words-pairs .ensures ∙ directory-some (at-start .args .f) (at-start .args .words .now) (count-read (at-start .args .f) (at-start .args .words .now) (at-get .get .ensures .0) refl ∙ sym (at-count-of .count-of .ensures) ∙ at-c .c .given .1)
 
 pub words-directory-spec : {M : Type 1} → statement M
 words-directory-spec =

@@ -1,3 +1,4 @@
+-- Before turn i: the answer is that of the pairs from number i on, with `total` units before them, no more than the format allows.
 use mathlib.Core.Path.{_≡_, sym, _∙_}
 use Prim.Native.Nat.{_-_}
 use native.Mathlib.Omega.{arith}
@@ -18,24 +19,34 @@ loop-holds : tie.Need-loop-holds Inv-loop μ-loop
 loop-holds c = let s = c in walk-start (s .args .f) (s .args .words .now) (s .args .n)
 
 pair-length-requires : tie.Need-pair-length-requires Inv-loop μ-loop
-pair-length-requires c κs = (c .before .before .before .before .pre .0, c .before .before .before .loop .inv .units)
+pair-length-requires c κs =
+    let at-loop = c .before .before .before in
+    let at-start = at-loop .before in
+    (at-start .pre .0, at-loop .loop .inv .units)
 
 returns : tie.Need-returns Inv-loop μ-loop
 returns c =
-    let k = c .before in
-    let h = k .before .before .before .before .before .loop .inv in
-    walk-wrong h (k .before .before .before .before .loop-test .taken) (k .before .before .before .get .ensures .0) (k .before .before .get2 .ensures .0) (sym (k .before .pair-length .ensures) ∙ (let e : k .before .pair-length .result ≡ Outside = cc in e))
+    let at-get = c .before .before .before .before in
+    let at-loop-test = at-get .before in
+    let at-loop = at-loop-test .before in
+    let h = at-loop .loop .inv in
+    walk-wrong h (at-loop-test .loop-test .taken) (at-get .get .ensures .0) (c .before .before .before .get2 .ensures .0) (sym (c .before .before .pair-length .ensures) ∙ (let e : c .before .before .pair-length .result ≡ Outside = cc in e))
 
 add-total : tie.Need-add-total Inv-loop μ-loop
 add-total c =
-    let k = c .before in
-    let u = pair _ _ _ _ (sym (k .before .before .pair-length .ensures) ∙ k .p .given .1) .total in
+    let at-p = c .before in
+    let u = pair _ _ _ _ (sym (at-p .before .before .pair-length .ensures) ∙ at-p .p .given .1) .total in
     record { fits = omega arith }
 
 loop-again : tie.Need-loop-again Inv-loop μ-loop
 loop-again c =
-    let k = c .before in
-    walk-turn (k .before .before .before .before .before .before .loop .inv) (k .before .before .before .before .before .loop-test .taken) (k .before .before .before .before .get .ensures .0) (k .before .before .before .get2 .ensures .0) (sym (k .before .before .pair-length .ensures) ∙ k .p .given .1)
+    let at-p = c .before in
+    let at-pair-length = at-p .before .before in
+    let at-get2 = at-pair-length .before in
+    let at-get = at-get2 .before in
+    let at-loop-test = at-get .before in
+    let at-loop = at-loop-test .before in
+    walk-turn (at-loop .loop .inv) (at-loop-test .loop-test .taken) (at-get .get .ensures .0) (at-get2 .get2 .ensures .0) (sym (at-pair-length .pair-length .ensures) ∙ at-p .p .given .1)
 
 end-of-requires : tie.Need-end-of-requires Inv-loop μ-loop
 end-of-requires c κs =

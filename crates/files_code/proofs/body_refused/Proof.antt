@@ -1,3 +1,4 @@
+-- Before turn i: the first refusal of the body is that of its trapezoids from number i on.
 use mathlib.Core.Path.{_≡_, sym, _∙_, ap}
 use Prim.Native.Nat.{ℕ, _-_}
 use native.Mathlib.Omega.{arith}
@@ -26,18 +27,23 @@ load-file-trapezoid-requires c κs = omega (arith, c .loop-test .taken)
 
 returns : tie.Need-returns Inv-loop μ-loop
 returns c =
-    let k = c .before in
-    let s = k .before .before .before .before .before .before .before in
-    let l = below-count (s .args .body .now) (k .before .before .before .before .loop-test .taken) in
-    ap (λ (m : ℕ). Refused (k .v .given .0 .0) m) (sym (zero-add (k .before .before .before .before .before .loop .i))) ∙ refused (k .before .before .before .before .before .loop .inv) l (ap (verdict _) (sym (k .before .before .before .load-file-trapezoid .ensures)) ∙ sym (k .before .before .judge .ensures) ∙ k .v .given .1)
+    let at-v = c .before in
+    let at-judge = at-v .before .before in
+    let at-load-file-trapezoid = at-judge .before in
+    let at-loop-test = at-load-file-trapezoid .before in
+    let at-loop = at-loop-test .before in
+    let at-start = at-loop .before .before in
+    let l = below-count (at-start .args .body .now) (at-loop-test .loop-test .taken) in
+    ap (λ (m : ℕ). Refused (at-v .v .given .0 .0) m) (sym (zero-add (at-loop .loop .i))) ∙ refused (at-loop .loop .inv) l (ap (verdict _) (sym (at-load-file-trapezoid .load-file-trapezoid .ensures)) ∙ sym (at-judge .judge .ensures) ∙ at-v .v .given .1)
 
 loop-again : tie.Need-loop-again Inv-loop μ-loop
 loop-again c =
-    let k = c .before in
-    let s = k .before .before .before .before .before .before in
-    let l = below-count (s .args .body .now) (k .before .before .before .loop-test .taken) in
-    let e : k .before .judge .result ≡ Fit = cc in
-    fit (k .before .before .before .before .loop .inv) l (ap (verdict _) (sym (k .before .before .load-file-trapezoid .ensures)) ∙ sym (k .before .judge .ensures) ∙ e)
+    let at-loop-test = c .before .before .before .before in
+    let at-loop = at-loop-test .before in
+    let at-start = at-loop .before .before in
+    let l = below-count (at-start .args .body .now) (at-loop-test .loop-test .taken) in
+    let e : c .before .before .judge .result ≡ Fit = cc in
+    fit (at-loop .loop .inv) l (ap (verdict _) (sym (c .before .before .before .load-file-trapezoid .ensures)) ∙ sym (c .before .before .judge .ensures) ∙ e)
 
 returns-2 : tie.Need-returns-2 Inv-loop μ-loop
 returns-2 c = passed (c .before .loop .inv) (above-count (c .before .before .before .args .body .now) (c .loop-test .left))

@@ -15,11 +15,24 @@ use Rattle.files_code.proofs.check_layer_words.Tie as tie
 
 -- the directory, as it was found
 module _ (c : tie.After-known-told2) where
-  found : directoryOf layerWords (c .before .before .before .before .before .args .words .now) ≡ Right (c .before .d2 .given .0 .0) (c .before .d2 .given .0 .1 .0)
-  found = sym (ap (λ (f : Format). directoryOf f (c .before .before .before .before .before .args .words .now)) (c .before .before .before .before .memory-format .ensures)) ∙ sym (c .before .before .before .words-directory .ensures) ∙ c .before .d2 .given .1
+  found :
+      let at-d2 = c .before in
+      let at-start = at-d2 .before .before .before .before in
+      directoryOf layerWords (at-start .args .words .now) ≡ Right (at-d2 .d2 .given .0 .0) (at-d2 .d2 .given .0 .1 .0)
+  found =
+      let at-d2 = c .before in
+      let at-words-directory = at-d2 .before .before in
+      let at-memory-format = at-words-directory .before in
+      let at-start = at-memory-format .before in
+      sym (ap (λ (f : Format). directoryOf f (at-start .args .words .now)) (at-memory-format .memory-format .ensures)) ∙ sym (at-words-directory .words-directory .ensures) ∙ at-d2 .d2 .given .1
 
-  is-right : IsRight layerWords (c .before .before .before .before .before .args .words .now) (c .before .d2 .given .0 .0) (c .before .d2 .given .0 .1 .0)
-  is-right = right layerWords (c .before .before .before .before .before .args .words .now) found
+  is-right :
+      let at-d2 = c .before in
+      let at-start = at-d2 .before .before .before .before in
+      IsRight layerWords (at-start .args .words .now) (at-d2 .d2 .given .0 .0) (at-d2 .d2 .given .0 .1 .0)
+  is-right =
+      let at-start = c .before .before .before .before .before in
+      right layerWords (at-start .args .words .now) found
 
 words-directory-requires : tie.Need-words-directory-requires
 words-directory-requires c κs = rw (c .memory-format .ensures) memory-modest
@@ -41,16 +54,19 @@ part-first-refused-start c = is-right c .fit
 
 returns : tie.Need-returns
 returns c =
-    let k = c .before in
-    let s = k .before .before .before .before in
-    layers-wrong (s .args .limit) layerWords trapezoidCodec (s .args .words .now) (sym (ap (λ (f : Format). directoryOf f (s .args .words .now)) (k .before .before .before .memory-format .ensures)) ∙ sym (k .before .before .words-directory .ensures) ∙ k .d .given .1)
+    let at-d = c .before in
+    let at-words-directory = at-d .before .before in
+    let at-memory-format = at-words-directory .before in
+    let at-start = at-memory-format .before in
+    layers-wrong (at-start .args .limit) layerWords trapezoidCodec (at-start .args .words .now) (sym (ap (λ (f : Format). directoryOf f (at-start .args .words .now)) (at-memory-format .memory-format .ensures)) ∙ sym (at-words-directory .words-directory .ensures) ∙ at-d .d .given .1)
 
 returns-2 : tie.Need-returns-2
 returns-2 c =
-    let k = c .before .before in
-    let s = k .before .before .before .before .before in
-    let ws = s .args .words .now in
-    c .first-refused .ensures ∙ layers-right (s .args .limit) layerWords trapezoidCodec ws (found k) (mid-tail (2 * k .before .d2 .given .0 .0 + 1) ws)
+    let at-known-told2 = c .before .before in
+    let at-d2 = at-known-told2 .before in
+    let at-start = at-d2 .before .before .before .before in
+    let ws = at-start .args .words .now in
+    c .first-refused .ensures ∙ layers-right (at-start .args .limit) layerWords trapezoidCodec ws (found at-known-told2) (mid-tail (2 * at-d2 .d2 .given .0 .0 + 1) ws)
 
 pub check-layer-words-spec : {M : Type 1} → statement M
 check-layer-words-spec =

@@ -1,3 +1,4 @@
+-- Before turn i: the first i words of `out` are the file's, and the rest are as they were.
 use mathlib.Core.Path.{_∙_, ap}
 use mathlib.Core.List.{_++_}
 use Prim.Native.Nat.{ℕ, _-_}
@@ -20,24 +21,30 @@ abbrev μ-loop : tie.MeasureT-loop
 
 loop-holds : tie.Need-loop-holds Inv-loop μ-loop
 loop-holds c =
-    let s = c .before in
-    lay-start (fileWords (s .args .file .now)) (s .args .out .now) (omega (arith, length-file (s .args .file .now), s .pre))
+    let at-start = c .before in
+    lay-start (fileWords (at-start .args .file .now)) (at-start .args .out .now) (omega (arith, length-file (at-start .args .file .now), at-start .pre))
 
 slice-set-from-w : tie.Need-slice-set-from-w Inv-loop μ-loop
-slice-set-from-w c = omega (arith, c .before .before .loop .inv .long, c .before .loop-test .taken, c .before .before .before .before .pre)
+slice-set-from-w c =
+    let at-loop-test = c .before in
+    let at-loop = at-loop-test .before in
+    let at-start = at-loop .before .before in
+    omega (arith, at-loop .loop .inv .long, at-loop-test .loop-test .taken, at-start .pre)
 
 loop-again : tie.Need-loop-again Inv-loop μ-loop
 loop-again c =
-    let s = c .before .before .before .before in
-    lay-turn (pos 0) (c .before .before .loop .inv) (omega (arith, length-file (s .args .file .now), c .before .loop-test .taken)) (toZ-ofZ (sfits-of (c .load-file-word .ok)) ∙ c .load-file-word .ensures)
+    let at-loop-test = c .before in
+    let at-loop = at-loop-test .before in
+    let at-start = at-loop .before .before in
+    lay-turn (pos 0) (at-loop .loop .inv) (omega (arith, length-file (at-start .args .file .now), at-loop-test .loop-test .taken)) (toZ-ofZ (sfits-of (c .load-file-word .ok)) ∙ c .load-file-word .ensures)
 
 same-length : tie.Need-same-length Inv-loop μ-loop
 same-length c = c .before .loop .inv .long
 
 returns : tie.Need-returns Inv-loop μ-loop
 returns c =
-    let s = c .before .before .before in
-    lay-stop (c .before .loop .inv) (omega (arith, length-file (s .args .file .now), c .loop-test .left)) ∙ ap (λ (k : ℕ). fileWords (s .args .file .now) ++ drop k (s .args .out .now)) (length-file (s .args .file .now))
+    let at-start = c .before .before .before in
+    lay-stop (c .before .loop .inv) (omega (arith, length-file (at-start .args .file .now), c .loop-test .left)) ∙ ap (λ (k : ℕ). fileWords (at-start .args .file .now) ++ drop k (at-start .args .out .now)) (length-file (at-start .args .file .now))
 
 pub decode-spec : {M : Type 1} → statement M
 decode-spec =

@@ -1,3 +1,4 @@
+-- Before turn i: the first 4i bytes of `out` are those of the first i words, and the rest are as they were.
 use Prim.Native.Nat.{_-_}
 use native.Mathlib.Omega.{arith}
 use lib.ListN.{length}
@@ -14,7 +15,9 @@ abbrev μ-loop : tie.MeasureT-loop
 μ-loop words out₀ i₀ out i = length words - i
 
 loop-holds : tie.Need-loop-holds Inv-loop μ-loop
-loop-holds c = let s = c .before in store-start (s .args .words .now) (s .args .out .now) (s .pre)
+loop-holds c =
+    let at-start = c .before in
+    store-start (at-start .args .words .now) (at-start .args .out .now) (at-start .pre)
 
 store-word-requires : tie.Need-store-word-requires Inv-loop μ-loop
 store-word-requires c κs =
@@ -23,8 +26,11 @@ store-word-requires c κs =
 
 loop-again : tie.Need-loop-again Inv-loop μ-loop
 loop-again c =
-    let k = c .before .before in
-    store-turn (k .before .before .before .before .loop .inv) (k .before .before .before .loop-test .taken) (toZ-ofZ (sfits-of (k .before .before .w .given))) (k .store-word .ensures) (k .store-word .kept .0)
+    let at-store-word = c .before .before in
+    let at-w = at-store-word .before .before in
+    let at-loop-test = at-w .before in
+    let at-loop = at-loop-test .before in
+    store-turn (at-loop .loop .inv) (at-loop-test .loop-test .taken) (toZ-ofZ (sfits-of (at-w .w .given))) (at-store-word .store-word .ensures) (at-store-word .store-word .kept .0)
 
 same-length : tie.Need-same-length Inv-loop μ-loop
 same-length c = c .before .loop .inv .long

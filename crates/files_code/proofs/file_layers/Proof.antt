@@ -17,14 +17,32 @@ use Rattle.files_code.proofs.file_layers.Tie as tie
 
 -- the directory, as it was found
 module _ (c : tie.After-known-told2) where
-  found : directoryOf layerFile (fileWords (c .before .before .before .before .before .before .args .file .now)) ≡ Right (c .before .d2 .given .0 .0) (c .before .d2 .given .0 .1 .0)
-  found = sym (ap (λ (f : Format). directoryOf f (fileWords (c .before .before .before .before .before .before .args .file .now))) (c .before .before .before .before .layer-format .ensures)) ∙ sym (c .before .before .before .file-directory .ensures) ∙ c .before .d2 .given .1
+  found :
+      let at-d2 = c .before in
+      let at-start = at-d2 .before .before .before .before .before in
+      directoryOf layerFile (fileWords (at-start .args .file .now)) ≡ Right (at-d2 .d2 .given .0 .0) (at-d2 .d2 .given .0 .1 .0)
+  found =
+      let at-d2 = c .before in
+      let at-file-directory = at-d2 .before .before in
+      let at-layer-format = at-file-directory .before in
+      let at-start = at-layer-format .before .before in
+      sym (ap (λ (f : Format). directoryOf f (fileWords (at-start .args .file .now))) (at-layer-format .layer-format .ensures)) ∙ sym (at-file-directory .file-directory .ensures) ∙ at-d2 .d2 .given .1
 
-  is-right : IsRight layerFile (fileWords (c .before .before .before .before .before .before .args .file .now)) (c .before .d2 .given .0 .0) (c .before .d2 .given .0 .1 .0)
-  is-right = right layerFile (fileWords (c .before .before .before .before .before .before .args .file .now)) found
+  is-right :
+      let at-d2 = c .before in
+      let at-start = at-d2 .before .before .before .before .before in
+      IsRight layerFile (fileWords (at-start .args .file .now)) (at-d2 .d2 .given .0 .0) (at-d2 .d2 .given .0 .1 .0)
+  is-right =
+      let at-start = c .before .before .before .before .before .before in
+      right layerFile (fileWords (at-start .args .file .now)) found
 
-  in-file : 2 * c .before .d2 .given .0 .0 + 1 ≤ length (c .before .before .before .before .before .before .args .file .now) / 4
-  in-file = omega (arith, is-right .fit, length-file (c .before .before .before .before .before .before .args .file .now))
+  in-file :
+      let at-d2 = c .before in
+      let at-start = at-d2 .before .before .before .before .before in
+      2 * at-d2 .d2 .given .0 .0 + 1 ≤ length (at-start .args .file .now) / 4
+  in-file =
+      let at-start = c .before .before .before .before .before .before in
+      omega (arith, is-right .fit, length-file (at-start .args .file .now))
 
 file-directory-requires : tie.Need-file-directory-requires
 file-directory-requires c κs = rw (c .layer-format .ensures) layer-modest
@@ -46,17 +64,20 @@ part-body-refused-start c = omega (arith, in-file c)
 
 returns : tie.Need-returns
 returns c =
-    let k = c .before in
-    let s = k .before .before .before .before .before in
-    layers-wrong (s .args .limit) layerFile fileCodec (fileWords (s .args .file .now)) (sym (ap (λ (f : Format). directoryOf f (fileWords (s .args .file .now))) (k .before .before .before .layer-format .ensures)) ∙ sym (k .before .before .file-directory .ensures) ∙ k .d .given .1)
+    let at-d = c .before in
+    let at-file-directory = at-d .before .before in
+    let at-layer-format = at-file-directory .before in
+    let at-start = at-layer-format .before .before in
+    layers-wrong (at-start .args .limit) layerFile fileCodec (fileWords (at-start .args .file .now)) (sym (ap (λ (f : Format). directoryOf f (fileWords (at-start .args .file .now))) (at-layer-format .layer-format .ensures)) ∙ sym (at-file-directory .file-directory .ensures) ∙ at-d .d .given .1)
 
 returns-2 : tie.Need-returns-2
 returns-2 c =
-    let k = c .before .before in
-    let s = k .before .before .before .before .before .before in
-    let bs = s .args .file .now in
-    let n = k .before .d2 .given .0 .0 in
-    c .body-refused .ensures ∙ layers-right (s .args .limit) layerFile fileCodec (fileWords bs) (found k) (ap fileWords (mid-tail (4 * (2 * n + 1)) bs) ∙ body-words bs (2 * n + 1))
+    let at-known-told2 = c .before .before in
+    let at-d2 = at-known-told2 .before in
+    let at-start = at-d2 .before .before .before .before .before in
+    let bs = at-start .args .file .now in
+    let n = at-d2 .d2 .given .0 .0 in
+    c .body-refused .ensures ∙ layers-right (at-start .args .limit) layerFile fileCodec (fileWords bs) (found at-known-told2) (ap fileWords (mid-tail (4 * (2 * n + 1)) bs) ∙ body-words bs (2 * n + 1))
 
 pub file-layers-spec : {M : Type 1} → statement M
 file-layers-spec =

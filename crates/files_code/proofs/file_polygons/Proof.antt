@@ -12,21 +12,27 @@ file-directory-requires c κs = rw (c .polygon-format .ensures) polygon-modest
 
 polygons-on-grid-requires : tie.Need-polygons-on-grid-requires
 polygons-on-grid-requires c κs =
-    let k = c .before in
-    let s = k .before .before .before .before .before in
-    record { total = k .d2 .given .0 .1 .0; is = sym (ap (λ (f : Format). directoryOf f (fileWords (s .args .file .now))) (k .before .before .before .polygon-format .ensures)) ∙ sym (k .before .before .file-directory .ensures) ∙ k .d2 .given .1 }
+    let at-d2 = c .before in
+    let at-file-directory = at-d2 .before .before in
+    let at-polygon-format = at-file-directory .before in
+    let at-start = at-polygon-format .before .before in
+    record { total = at-d2 .d2 .given .0 .1 .0; is = sym (ap (λ (f : Format). directoryOf f (fileWords (at-start .args .file .now))) (at-polygon-format .polygon-format .ensures)) ∙ sym (at-file-directory .file-directory .ensures) ∙ at-d2 .d2 .given .1 }
 
 returns : tie.Need-returns
 returns c =
-    let k = c .before in
-    let s = k .before .before .before .before .before in
-    rw (sym (ap (λ (f : Format). directoryOf f (fileWords (s .args .file .now))) (k .before .before .before .polygon-format .ensures)) ∙ sym (k .before .before .file-directory .ensures) ∙ k .d .given .1)
+    let at-d = c .before in
+    let at-file-directory = at-d .before .before in
+    let at-polygon-format = at-file-directory .before in
+    let at-start = at-polygon-format .before .before in
+    rw (sym (ap (λ (f : Format). directoryOf f (fileWords (at-start .args .file .now))) (at-polygon-format .polygon-format .ensures)) ∙ sym (at-file-directory .file-directory .ensures) ∙ at-d .d .given .1)
 
 returns-2 : tie.Need-returns-2
 returns-2 c =
-    let k = c .before .before in
-    let s = k .before .before .before .before .before in
-    c .polygons-on-grid .ensures ∙ rw (sym (ap (λ (f : Format). directoryOf f (fileWords (s .args .file .now))) (k .before .before .before .polygon-format .ensures)) ∙ sym (k .before .before .file-directory .ensures) ∙ k .d2 .given .1)
+    let at-d2 = c .before .before in
+    let at-file-directory = at-d2 .before .before in
+    let at-polygon-format = at-file-directory .before in
+    let at-start = at-polygon-format .before .before in
+    c .polygons-on-grid .ensures ∙ rw (sym (ap (λ (f : Format). directoryOf f (fileWords (at-start .args .file .now))) (at-polygon-format .polygon-format .ensures)) ∙ sym (at-file-directory .file-directory .ensures) ∙ at-d2 .d2 .given .1)
 
 pub file-polygons-spec : {M : Type 1} → statement M
 file-polygons-spec =

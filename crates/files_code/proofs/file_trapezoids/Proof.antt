@@ -10,27 +10,27 @@ use Rattle.files_code.proofs.file_trapezoids.Tie as tie
 
 mul-start : tie.Need-mul-start
 mul-start c =
-    let s = c .before .before .before in
+    let at-start = c .before .before .before in
     let e = c .amount-of .ensures ∙ ap amountOf (c .before .word-at .ensures) in
-    record { fits = omega (arith, e, s .pre .0) }
+    record { fits = omega (arith, e, at-start .pre .0) }
 
 add-start : tie.Need-add-start
 add-start c =
-    let s = c .before .before .before in
+    let at-start = c .before .before .before in
     let e = c .amount-of .ensures ∙ ap amountOf (c .before .word-at .ensures) in
-    record { fits = omega (arith, e, s .pre .0) }
+    record { fits = omega (arith, e, at-start .pre .0) }
 
 sub-result : tie.Need-sub-result
 sub-result c =
-    let s = c .before .before .before in
+    let at-start = c .before .before .before in
     let e = c .amount-of .ensures ∙ ap amountOf (c .before .word-at .ensures) in
-    omega (arith, e, s .pre .1)
+    omega (arith, e, at-start .pre .1)
 
 returns : tie.Need-returns
 returns c =
-    let s = c .before .before .before in
+    let at-start = c .before .before .before in
     let e = c .amount-of .ensures ∙ ap amountOf (c .before .word-at .ensures) in
-    units-count fileCodec (fileWords (s .args .file .now)) (length-file (s .args .file .now)) e
+    units-count fileCodec (fileWords (at-start .args .file .now)) (length-file (at-start .args .file .now)) e
 
 pub file-trapezoids-spec : {M : Type 1} → statement M
 file-trapezoids-spec =

@@ -6,7 +6,8 @@ use Rattle.files_code.proofs.load_file_trapezoid.Tie as tie
 
 returns : tie.Need-returns
 returns c =
-    let s = c .before .before .before .before .before .before .before .args in
+    let at-start = c .before .before .before .before .before .before .before in
+    let s = at-start .args in
     cc (trapezoid-at (fileWords (s .body .now)) (s .i))
 
 pub load-file-trapezoid-spec : {M : Type 1} → statement M

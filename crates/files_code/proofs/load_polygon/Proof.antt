@@ -1,3 +1,4 @@
+-- Before turn k: the first 2k of the words are the coordinates of the body's k vertices from number `offset` on; k is at most n.
 use Prim.Native.Nat.{_*_, _-_}
 use native.Mathlib.Omega.{arith}
 use lib.ListN.{length, length-set}
@@ -19,55 +20,58 @@ abbrev μ-loop : tie.MeasureT-loop
 
 loop-holds : tie.Need-loop-holds Inv-loop μ-loop
 loop-holds c =
-    let s = c .before in
-    loading-start (bodyOf (fileWords (s .args .file .now))) (s .args .offset) (s .args .n) (s .args .words .now)
+    let at-start = c .before in
+    loading-start (bodyOf (fileWords (at-start .args .file .now))) (at-start .args .offset) (at-start .args .n) (at-start .args .words .now)
 
 add-polygon-vertex : tie.Need-add-polygon-vertex Inv-loop μ-loop
 add-polygon-vertex c = record { fits = omega (arith, c .loop-test .taken, c .before .before .before .pre .2) }
 
 polygon-vertex-requires : tie.Need-polygon-vertex-requires Inv-loop μ-loop
 polygon-vertex-requires c κs =
-    let s = c .before .before .before in
-    (s .pre .0, s .pre .1, omega (arith, c .loop-test .taken, s .pre .3))
+    let at-start = c .before .before .before in
+    (at-start .pre .0, at-start .pre .1, omega (arith, c .loop-test .taken, at-start .pre .3))
 
 mul-x : tie.Need-mul-x Inv-loop μ-loop
 mul-x c =
-    let l = c .before .before .before in
-    let s = c .before .before .before .before .before .before in
-    record { fits = omega (arith, l .loop-test .taken, s .pre .2) }
+    let at-loop-test = c .before .before .before in
+    let at-start = at-loop-test .before .before .before in
+    record { fits = omega (arith, at-loop-test .loop-test .taken, at-start .pre .2) }
 
 slice-set-from-x : tie.Need-slice-set-from-x Inv-loop μ-loop
 slice-set-from-x c =
-    let l = c .before .before .before in
-    let s = c .before .before .before .before .before .before in
-    omega (arith, l .loop-test .taken, l .before .loop .inv .long, s .pre .2, s .pre .4)
+    let at-loop-test = c .before .before .before in
+    let at-loop = at-loop-test .before in
+    let at-start = at-loop .before .before in
+    omega (arith, at-loop-test .loop-test .taken, at-loop .loop .inv .long, at-start .pre .2, at-start .pre .4)
 
 mul-y : tie.Need-mul-y Inv-loop μ-loop
 mul-y c =
-    let l = c .before .before .before in
-    let s = c .before .before .before .before .before .before in
-    record { fits = omega (arith, l .loop-test .taken, s .pre .2) }
+    let at-loop-test = c .before .before .before in
+    let at-start = at-loop-test .before .before .before in
+    record { fits = omega (arith, at-loop-test .loop-test .taken, at-start .pre .2) }
 
 add-y : tie.Need-add-y Inv-loop μ-loop
 add-y c =
-    let l = c .before .before .before in
-    let s = c .before .before .before .before .before .before in
-    record { fits = omega (arith, l .loop-test .taken, s .pre .2) }
+    let at-loop-test = c .before .before .before in
+    let at-start = at-loop-test .before .before .before in
+    record { fits = omega (arith, at-loop-test .loop-test .taken, at-start .pre .2) }
 
 slice-set-from-y : tie.Need-slice-set-from-y Inv-loop μ-loop
 slice-set-from-y c =
-    let v = c .before .before in
-    let l = v .before in
-    let s = c .before .before .before .before .before .before in
-    let m = length-set (l .before .loop .words) (2 * l .before .loop .k) (toZ w32 (ofZ w32 (v .polygon-vertex .result .x))) in
-    omega (arith, m, l .loop-test .taken, l .before .loop .inv .long, s .pre .2, s .pre .4)
+    let at-polygon-vertex = c .before .before in
+    let at-loop-test = at-polygon-vertex .before in
+    let at-loop = at-loop-test .before in
+    let at-start = at-loop .before .before in
+    let m = length-set (at-loop .loop .words) (2 * at-loop .loop .k) (toZ w32 (ofZ w32 (at-polygon-vertex .polygon-vertex .result .x))) in
+    omega (arith, m, at-loop-test .loop-test .taken, at-loop .loop .inv .long, at-start .pre .2, at-start .pre .4)
 
 loop-again : tie.Need-loop-again Inv-loop μ-loop
 loop-again c =
-    let v = c .before .before in
-    let l = v .before in
-    let s = c .before .before .before .before .before .before in
-    loading-next (l .before .loop .inv) (l .loop-test .taken) (s .pre .4) _ _ (v .polygon-vertex .result) (v .polygon-vertex .ensures) (toZ-ofZ (sfits-of (c .struct-told2 .given .0 .1))) (toZ-ofZ (sfits-of (c .struct-told2 .given .1 .0 .1)))
+    let at-polygon-vertex = c .before .before in
+    let at-loop-test = at-polygon-vertex .before in
+    let at-loop = at-loop-test .before in
+    let at-start = at-loop .before .before in
+    loading-next (at-loop .loop .inv) (at-loop-test .loop-test .taken) (at-start .pre .4) _ _ (at-polygon-vertex .polygon-vertex .result) (at-polygon-vertex .polygon-vertex .ensures) (toZ-ofZ (sfits-of (c .struct-told2 .given .0 .1))) (toZ-ofZ (sfits-of (c .struct-told2 .given .1 .0 .1)))
 
 same-length : tie.Need-same-length Inv-loop μ-loop
 same-length c = c .before .loop .inv .long

@@ -1,3 +1,4 @@
+-- Before turn i: whether all vertices from number `from` up to `to` pass is whether those from number i up to `to` do.
 use mathlib.Core.Path.{sym, _∙_}
 use Prim.Native.Nat.{_-_}
 use native.Mathlib.Omega.{arith}
@@ -17,26 +18,32 @@ abbrev μ-loop : tie.MeasureT-loop
 
 loop-holds : tie.Need-loop-holds Inv-loop μ-loop
 loop-holds c =
-    let s = c .before in
-    pass-start (vertexOnGrid (s .args .limit)) (fileWords (s .args .body .now)) (s .args .from) (s .args .to) (s .pre .0)
+    let at-start = c .before in
+    pass-start (vertexOnGrid (at-start .args .limit)) (fileWords (at-start .args .body .now)) (at-start .args .from) (at-start .args .to) (at-start .pre .0)
 
 vertex-on-grid-requires : tie.Need-vertex-on-grid-requires Inv-loop μ-loop
 vertex-on-grid-requires c κs = omega (arith, c .loop-test .taken, c .before .before .before .pre .1)
 
 returns : tie.Need-returns Inv-loop μ-loop
 returns c =
-    let s = c .before .before .before .before .before in
-    pass-fail (vertexOnGrid (s .args .limit)) (fileWords (s .args .body .now)) (s .args .from) (s .args .to) (c .before .before .before .loop .inv) (c .before .before .loop-test .taken) (sym (c .before .vertex-on-grid .ensures) ∙ not-true (c .before .vertex-on-grid .result) (c .if1 .taken))
+    let at-vertex-on-grid = c .before in
+    let at-loop-test = at-vertex-on-grid .before in
+    let at-loop = at-loop-test .before in
+    let at-start = at-loop .before .before in
+    pass-fail (vertexOnGrid (at-start .args .limit)) (fileWords (at-start .args .body .now)) (at-start .args .from) (at-start .args .to) (at-loop .loop .inv) (at-loop-test .loop-test .taken) (sym (at-vertex-on-grid .vertex-on-grid .ensures) ∙ not-true (at-vertex-on-grid .vertex-on-grid .result) (c .if1 .taken))
 
 loop-again : tie.Need-loop-again Inv-loop μ-loop
 loop-again c =
-    let s = c .before .before .before .before .before in
-    pass-turn (vertexOnGrid (s .args .limit)) (fileWords (s .args .body .now)) (s .args .from) (s .args .to) (c .before .before .before .loop .inv) (c .before .before .loop-test .taken) (sym (c .before .vertex-on-grid .ensures) ∙ not-false (c .before .vertex-on-grid .result) (c .if1 .left))
+    let at-vertex-on-grid = c .before in
+    let at-loop-test = at-vertex-on-grid .before in
+    let at-loop = at-loop-test .before in
+    let at-start = at-loop .before .before in
+    pass-turn (vertexOnGrid (at-start .args .limit)) (fileWords (at-start .args .body .now)) (at-start .args .from) (at-start .args .to) (at-loop .loop .inv) (at-loop-test .loop-test .taken) (sym (at-vertex-on-grid .vertex-on-grid .ensures) ∙ not-false (at-vertex-on-grid .vertex-on-grid .result) (c .if1 .left))
 
 returns-2 : tie.Need-returns-2 Inv-loop μ-loop
 returns-2 c =
-    let s = c .before .before .before in
-    pass-stop (vertexOnGrid (s .args .limit)) (fileWords (s .args .body .now)) (s .args .from) (s .args .to) (c .before .loop .inv) (c .loop-test .left)
+    let at-start = c .before .before .before in
+    pass-stop (vertexOnGrid (at-start .args .limit)) (fileWords (at-start .args .body .now)) (at-start .args .from) (at-start .args .to) (c .before .loop .inv) (c .loop-test .left)
 
 pub polygon-on-grid-spec : {M : Type 1} → statement M
 polygon-on-grid-spec =

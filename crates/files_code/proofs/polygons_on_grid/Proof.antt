@@ -1,3 +1,5 @@
+-- Before turn i: the answer is that of the polygons from number i on, whose vertices begin at number `from`, at most 2048.
+-- The directory's pairs from number i on are right.
 use mathlib.Core.Path.{sym, _∙_, ap}
 use Prim.Native.Nat.{ℕ, _+_, _*_, _-_}
 use native.Mathlib.Omega.{arith}
@@ -52,37 +54,53 @@ add-to c =
     record { fits = omega (arith, u, e) }
 
 sub-polygon-on-grid : tie.Need-sub-polygon-on-grid Inv-loop μ-loop
-sub-polygon-on-grid c = omega (arith, in-file (c .before .before .before .before .before .args .file .now) (is-right (c .before .before .before .before .before)))
+sub-polygon-on-grid c =
+    let at-start = c .before .before .before .before .before in
+    omega (arith, in-file (at-start .args .file .now) (is-right at-start))
 
 part-polygon-on-grid-start : tie.Need-part-polygon-on-grid-start Inv-loop μ-loop
-part-polygon-on-grid-start c = omega (arith, in-file (c .before .before .before .before .before .args .file .now) (is-right (c .before .before .before .before .before)))
+part-polygon-on-grid-start c =
+    let at-start = c .before .before .before .before .before in
+    omega (arith, in-file (at-start .args .file .now) (is-right at-start))
 
 polygon-on-grid-requires : tie.Need-polygon-on-grid-requires Inv-loop μ-loop
 polygon-on-grid-requires c κs =
-    let s = c .before .before .before .before .before .before in
-    let h = c .before .before .before .before .loop .inv in
-    let l = c .before .before .before .loop-test .taken in
-    let e = c .before .amount-of .ensures ∙ ap amountOf (c .before .before .word-at .ensures) in
-    let b = file-body (s .args .file .now) (is-right s) in
-    (omega arith, omega (arith, in-body h l, e, ap length b, length-file (midOf (4 * (2 * s .args .n + 1)) (length (s .args .file .now) - 4 * (2 * s .args .n + 1)) (s .args .file .now))))
+    let at-amount-of = c .before in
+    let at-word-at = at-amount-of .before in
+    let at-loop-test = at-word-at .before in
+    let at-loop = at-loop-test .before in
+    let at-start = at-loop .before .before in
+    let h = at-loop .loop .inv in
+    let l = at-loop-test .loop-test .taken in
+    let e = at-amount-of .amount-of .ensures ∙ ap amountOf (at-word-at .word-at .ensures) in
+    let b = file-body (at-start .args .file .now) (is-right at-start) in
+    (omega arith, omega (arith, in-body h l, e, ap length b, length-file (midOf (4 * (2 * at-start .args .n + 1)) (length (at-start .args .file .now) - 4 * (2 * at-start .args .n + 1)) (at-start .args .file .now))))
 
 returns : tie.Need-returns Inv-loop μ-loop
 returns c =
-    let k = c .before .before .before in
-    let s = k .before .before .before .before .before in
-    let h = k .before .before .before .loop .inv in
-    let l = k .before .before .loop-test .taken in
-    let e = ap (λ (m : ℕ). k .before .before .before .loop .from + m) (k .amount-of .ensures ∙ ap amountOf (k .before .word-at .ensures)) in
-    cut-off h l e (file-body (s .args .file .now) (is-right s)) (sym (c .before .polygon-on-grid .ensures) ∙ not-true (c .before .polygon-on-grid .result) (c .if1 .taken))
+    let at-polygon-on-grid = c .before in
+    let at-amount-of = at-polygon-on-grid .before .before in
+    let at-word-at = at-amount-of .before in
+    let at-loop-test = at-word-at .before in
+    let at-loop = at-loop-test .before in
+    let at-start = at-loop .before .before in
+    let h = at-loop .loop .inv in
+    let l = at-loop-test .loop-test .taken in
+    let e = ap (λ (m : ℕ). at-loop .loop .from + m) (at-amount-of .amount-of .ensures ∙ ap amountOf (at-word-at .word-at .ensures)) in
+    cut-off h l e (file-body (at-start .args .file .now) (is-right at-start)) (sym (at-polygon-on-grid .polygon-on-grid .ensures) ∙ not-true (at-polygon-on-grid .polygon-on-grid .result) (c .if1 .taken))
 
 loop-again : tie.Need-loop-again Inv-loop μ-loop
 loop-again c =
-    let k = c .before .before .before in
-    let s = k .before .before .before .before .before in
-    let h = k .before .before .before .loop .inv in
-    let l = k .before .before .loop-test .taken in
-    let e = ap (λ (m : ℕ). k .before .before .before .loop .from + m) (k .amount-of .ensures ∙ ap amountOf (k .before .word-at .ensures)) in
-    cut-turn h l e (file-body (s .args .file .now) (is-right s)) (sym (c .before .polygon-on-grid .ensures) ∙ not-false (c .before .polygon-on-grid .result) (c .if1 .left))
+    let at-polygon-on-grid = c .before in
+    let at-amount-of = at-polygon-on-grid .before .before in
+    let at-word-at = at-amount-of .before in
+    let at-loop-test = at-word-at .before in
+    let at-loop = at-loop-test .before in
+    let at-start = at-loop .before .before in
+    let h = at-loop .loop .inv in
+    let l = at-loop-test .loop-test .taken in
+    let e = ap (λ (m : ℕ). at-loop .loop .from + m) (at-amount-of .amount-of .ensures ∙ ap amountOf (at-word-at .word-at .ensures)) in
+    cut-turn h l e (file-body (at-start .args .file .now) (is-right at-start)) (sym (at-polygon-on-grid .polygon-on-grid .ensures) ∙ not-false (at-polygon-on-grid .polygon-on-grid .result) (c .if1 .left))
 
 returns-2 : tie.Need-returns-2 Inv-loop μ-loop
 returns-2 c = cut-stop (c .before .loop .inv) (c .loop-test .left)

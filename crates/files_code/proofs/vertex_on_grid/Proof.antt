@@ -7,14 +7,21 @@ use Rattle.files_code.proofs.vertex_on_grid.Tie as tie
 
 returns : tie.Need-returns
 returns c =
-    let k = c .before .before in
-    let s = k .before .before .before .before .args in
-    c .within2 .ensures ∙ vertex-by (s .limit) (fileWords (s .body .now)) (s .i) (k .before .before .word-at .ensures) (sym (k .before .within .ensures) ∙ k .if1 .taken) (c .before .word-at2 .ensures)
+    let at-word-at2 = c .before in
+    let at-if1 = at-word-at2 .before in
+    let at-within = at-if1 .before in
+    let at-word-at = at-within .before in
+    let at-start = at-word-at .before .before in
+    let s = at-start .args in
+    c .within2 .ensures ∙ vertex-by (s .limit) (fileWords (s .body .now)) (s .i) (at-word-at .word-at .ensures) (sym (at-within .within .ensures) ∙ at-if1 .if1 .taken) (at-word-at2 .word-at2 .ensures)
 
 returns-2 : tie.Need-returns-2
 returns-2 c =
-    let s = c .before .before .before .before .args in
-    vertex-off (s .limit) (fileWords (s .body .now)) (s .i) (c .before .before .word-at .ensures) (sym (c .before .within .ensures) ∙ c .if1 .left)
+    let at-within = c .before in
+    let at-word-at = at-within .before in
+    let at-start = at-word-at .before .before in
+    let s = at-start .args in
+    vertex-off (s .limit) (fileWords (s .body .now)) (s .i) (at-word-at .word-at .ensures) (sym (at-within .within .ensures) ∙ c .if1 .left)
 
 pub vertex-on-grid-spec : {M : Type 1} → statement M
 vertex-on-grid-spec =

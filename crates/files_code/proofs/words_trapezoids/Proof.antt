@@ -9,27 +9,27 @@ use Rattle.files_code.proofs.words_trapezoids.Tie as tie
 
 mul-start : tie.Need-mul-start
 mul-start c =
-    let s = c .before .before in
+    let at-start = c .before .before in
     let e = c .amount-of .ensures ∙ ap amountOf (c .before .get .ensures .0) in
-    record { fits = omega (arith, e, s .pre .0) }
+    record { fits = omega (arith, e, at-start .pre .0) }
 
 add-start : tie.Need-add-start
 add-start c =
-    let s = c .before .before in
+    let at-start = c .before .before in
     let e = c .amount-of .ensures ∙ ap amountOf (c .before .get .ensures .0) in
-    record { fits = omega (arith, e, s .pre .0) }
+    record { fits = omega (arith, e, at-start .pre .0) }
 
 sub-result : tie.Need-sub-result
 sub-result c =
-    let s = c .before .before in
+    let at-start = c .before .before in
     let e = c .amount-of .ensures ∙ ap amountOf (c .before .get .ensures .0) in
-    omega (arith, e, s .pre .1)
+    omega (arith, e, at-start .pre .1)
 
 returns : tie.Need-returns
 returns c =
-    let s = c .before .before in
+    let at-start = c .before .before in
     let e = c .amount-of .ensures ∙ ap amountOf (c .before .get .ensures .0) in
-    units-count trapezoidCodec (s .args .words .now) (refl) e
+    units-count trapezoidCodec (at-start .args .words .now) (refl) e
 
 pub words-trapezoids-spec : {M : Type 1} → statement M
 words-trapezoids-spec =

@@ -1,3 +1,4 @@
+-- Before turn i: the first refusal of the layer is that of its trapezoids from number i on.
 use mathlib.Core.Path.{_≡_, sym, ap, _∙_}
 use Prim.Native.Nat.{_-_}
 use native.Mathlib.Omega.{arith}
@@ -25,15 +26,22 @@ judge-requires c κs = c .before .before .before .pre .0
 
 returns : tie.Need-returns Inv-loop μ-loop
 returns c =
-    let l = c .before .before .before .before .before .loop-test .taken in
-    let j = c .before .before .before .judge in
-    refused (c .before .before .before .before .before .before .loop .inv) l (ap (verdict _) (sym (c .before .before .before .before .load .ensures)) ∙ sym (j .ensures) ∙ c .before .v .given .1)
+    let at-v = c .before in
+    let at-judge = at-v .before .before in
+    let at-load = at-judge .before in
+    let at-loop-test = at-load .before in
+    let at-loop = at-loop-test .before in
+    let l = at-loop-test .loop-test .taken in
+    let j = at-judge .judge in
+    refused (at-loop .loop .inv) l (ap (verdict _) (sym (at-load .load .ensures)) ∙ sym (j .ensures) ∙ at-v .v .given .1)
 
 loop-again : tie.Need-loop-again Inv-loop μ-loop
 loop-again c =
-    let l = c .before .before .before .before .loop-test .taken in
+    let at-loop-test = c .before .before .before .before in
+    let at-loop = at-loop-test .before in
+    let l = at-loop-test .loop-test .taken in
     let e : c .before .before .judge .result ≡ Fit = cc in
-    fit (c .before .before .before .before .before .loop .inv) l (ap (verdict _) (sym (c .before .before .before .load .ensures)) ∙ sym (c .before .before .judge .ensures) ∙ e)
+    fit (at-loop .loop .inv) l (ap (verdict _) (sym (c .before .before .before .load .ensures)) ∙ sym (c .before .before .judge .ensures) ∙ e)
 
 returns-2 : tie.Need-returns-2 Inv-loop μ-loop
 returns-2 c = passed (c .before .loop .inv) (c .loop-test .left)

@@ -11,19 +11,30 @@ has-lines-requires c κs = tt
 
 judge-shape-requires : tie.Need-judge-shape-requires
 judge-shape-requires c κs =
-    let s = c .before .before .before .before in
-    within-limit (s .args .limit) (s .args .t) (s .pre) (sym (c .before .before .before .on-grid .ensures) ∙ c .before .before .if1 .taken)
+    let at-if1 = c .before .before in
+    let at-on-grid = at-if1 .before in
+    let at-start = at-on-grid .before in
+    within-limit (at-start .args .limit) (at-start .args .t) (at-start .pre) (sym (at-on-grid .on-grid .ensures) ∙ at-if1 .if1 .taken)
 
 returns : tie.Need-returns
 returns c =
-    let s = c .before .before .before .before .before .args in
+    let at-if2 = c .before in
+    let at-has-lines = at-if2 .before in
+    let at-if1 = at-has-lines .before in
+    let at-on-grid = at-if1 .before in
+    let at-start = at-on-grid .before in
+    let s = at-start .args in
     c .judge-shape .ensures
-    ∙ verdict-shape (s .limit) (s .t) (sym (c .before .before .before .before .on-grid .ensures) ∙ c .before .before .before .if1 .taken) (sym (c .before .before .has-lines .ensures) ∙ c .before .if2 .taken)
+    ∙ verdict-shape (s .limit) (s .t) (sym (at-on-grid .on-grid .ensures) ∙ at-if1 .if1 .taken) (sym (at-has-lines .has-lines .ensures) ∙ at-if2 .if2 .taken)
 
 returns-2 : tie.Need-returns-2
 returns-2 c =
-    let s = c .before .before .before .before .args in
-    verdict-lines (s .limit) (s .t) (sym (c .before .before .before .on-grid .ensures) ∙ c .before .before .if1 .taken) (sym (c .before .has-lines .ensures) ∙ c .if2 .left)
+    let at-has-lines = c .before in
+    let at-if1 = at-has-lines .before in
+    let at-on-grid = at-if1 .before in
+    let at-start = at-on-grid .before in
+    let s = at-start .args in
+    verdict-lines (s .limit) (s .t) (sym (at-on-grid .on-grid .ensures) ∙ at-if1 .if1 .taken) (sym (at-has-lines .has-lines .ensures) ∙ c .if2 .left)
 
 returns-3 : tie.Need-returns-3
 returns-3 c = let s = c .before .before .args in verdict-grid (s .limit) (s .t) (sym (c .before .on-grid .ensures) ∙ c .if1 .left)

@@ -23,8 +23,10 @@ within-requires-4 c κs = tt
 returns : tie.Need-returns
 unfolding lineOnGrid
 returns c =
-    let s = c .before .before .before .before .before .before .before .before .args in
-    let k = c .before .before .before .before .before .before .before .corners-of .ensures in
+    let at-corners-of = c .before .before .before .before .before .before .before in
+    let at-start = at-corners-of .before in
+    let s = at-start .args in
+    let k = at-corners-of .corners-of .ensures in
     let a : onGrid (s .limit) (s .l .x1) ≡ true = cc in
     let b : onGrid (s .limit) (s .l .y1) ≡ true = cc in
     let d : onGrid (s .limit) (s .l .x2) ≡ true = cc in
@@ -33,8 +35,10 @@ returns c =
 returns-2 : tie.Need-returns-2
 unfolding lineOnGrid
 returns-2 c =
-    let s = c .before .before .before .before .before .before .before .args in
-    let k = c .before .before .before .before .before .before .corners-of .ensures in
+    let at-corners-of = c .before .before .before .before .before .before in
+    let at-start = at-corners-of .before in
+    let s = at-start .args in
+    let k = at-corners-of .corners-of .ensures in
     let a : onGrid (s .limit) (s .l .x1) ≡ true = cc in
     let b : onGrid (s .limit) (s .l .y1) ≡ true = cc in
     let d : onGrid (s .limit) (s .l .x2) ≡ false = cc in
@@ -43,8 +47,10 @@ returns-2 c =
 returns-3 : tie.Need-returns-3
 unfolding lineOnGrid
 returns-3 c =
-    let s = c .before .before .before .before .before .args in
-    let k = c .before .before .before .before .corners-of .ensures in
+    let at-corners-of = c .before .before .before .before in
+    let at-start = at-corners-of .before in
+    let s = at-start .args in
+    let k = at-corners-of .corners-of .ensures in
     let a : onGrid (s .limit) (s .l .x1) ≡ true = cc in
     let b : onGrid (s .limit) (s .l .y1) ≡ false = cc in
     rw (a, b)

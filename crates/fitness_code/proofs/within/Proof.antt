@@ -23,14 +23,17 @@ at-most-requires-2 c κs = tt
 returns : tie.Need-returns
 unfolding onGrid
 returns c =
-    let s = c .before .before .before .before .before .args in
+    let at-natural = c .before .before .before .before in
+    let at-start = at-natural .before in
+    let s = at-start .args in
     let e : leZ (⊝ (pos (s .limit))) (s .x .v) ≡ true = cc in
-    rw e (c .at-most2 .ensures ∙ rw (c .before .before .before .before .natural .ensures .0))
+    rw e (c .at-most2 .ensures ∙ rw (at-natural .natural .ensures .0))
 
 returns-2 : tie.Need-returns-2
 unfolding onGrid
 returns-2 c =
-    let s = c .before .before .before .before .args in
+    let at-start = c .before .before .before .before in
+    let s = at-start .args in
     let e : leZ (⊝ (pos (s .limit))) (s .x .v) ≡ false = cc in
     rw e
 

@@ -1,3 +1,4 @@
+-- Before each turn: `out` holds n trapezoids of the polygon's fracture, all but those right of the event p.
 use mathlib.Core.Path.{_≡_, _∙_}
 use Prim.Native.Nat.{_*_, _-_}
 use native.Mathlib.Omega.{arith}
@@ -9,7 +10,7 @@ use Rattle.records.specs.Limits.{memoryWidth}
 use Rattle.records.proofs.Buffer.{blank-of}
 use Rattle.geometry_code.specs.Polygons.{polygonOf}
 use Rattle.trapezoids_code.proofs.Writing.{write-borrowed}
-use Rattle.fracture_code.proofs.Sweeping.{event-found, later, sides-lines, next-proper, no-event, first-event, last-event, later-event, fewer, Sweeping, sweeping-none, sweeping-start, sweeping-stop, sweeping-full, sweeping-upto, sweeping-next}
+use Rattle.fracture_code.proofs.Sweeping.{event-found, later, edges-lines, next-proper, no-event, first-event, last-event, later-event, fewer, Sweeping, sweeping-none, sweeping-start, sweeping-stop, sweeping-full, sweeping-upto, sweeping-next}
 use Rattle.fracture_code.proofs.fill_columns.Statement.{statement}
 use Rattle.fracture_code.proofs.fill_columns.Tie as tie
 
@@ -21,136 +22,136 @@ abbrev μ-loop : tie.MeasureT-loop
 
 mark-at-requires : tie.Need-mark-at-requires Inv-loop μ-loop
 mark-at-requires c κs =
-    let s = c .before in
-    (omega (arith, c .of .ensures .1), s .pre .1)
+    let at-start = c .before in
+    (omega (arith, c .of .ensures .1), at-start .pre .1)
 
 next-event-requires : tie.Need-next-event-requires Inv-loop μ-loop
 next-event-requires c κs =
-    let s = c .before .before in
-    (s .pre .0, s .pre .1, s .pre .2 .well, c .mark-at .ensures .event)
+    let at-start = c .before .before in
+    (at-start .pre .0, at-start .pre .1, at-start .pre .2 .well, c .mark-at .ensures .event)
 
 returns : tie.Need-returns Inv-loop μ-loop
 returns c =
-    let j = c .before .before in
-    let s = j .before .before .before in
-    sweeping-none (s .args .limit) (polygonOf (s .args .words .now)) (s .args .room) (s .args .out .now) (s .pre .3) (no-event (s .args .limit) (polygonOf (s .args .words .now)) (s .args .v) (s .pre .2) _ (j .next-event .ensures) (c .enum-told .given .1))
+    let at-next-event = c .before .before in
+    let at-start = at-next-event .before .before .before in
+    sweeping-none (at-start .args .limit) (polygonOf (at-start .args .words .now)) (at-start .args .room) (at-start .args .out .now) (at-start .pre .3) (no-event (at-start .args .limit) (polygonOf (at-start .args .words .now)) (at-start .args .v) (at-start .pre .2) _ (at-next-event .next-event .ensures) (c .enum-told .given .1))
 
 loop-holds : tie.Need-loop-holds Inv-loop μ-loop
 loop-holds c =
-    let k = c .before in
-    let j = k .before .before in
-    let s = j .before .before .before in
-    let r = j .next-event .ensures in
-    let e = k .first .given .1 in
-    sweeping-start (s .args .limit) (polygonOf (s .args .words .now)) (s .args .room) (s .args .out .now) (s .pre .3) _ (first-event (s .args .limit) (polygonOf (s .args .words .now)) (s .args .v) (s .pre .2) _ r _ e) (event-found _ _ e (r .placed)) (next-proper (s .args .limit) (polygonOf (s .args .words .now)) (s .args .v) (s .pre .2) _ _ r _ e)
+    let at-first = c .before in
+    let at-next-event = at-first .before .before in
+    let at-start = at-next-event .before .before .before in
+    let r = at-next-event .next-event .ensures in
+    let e = at-first .first .given .1 in
+    sweeping-start (at-start .args .limit) (polygonOf (at-start .args .words .now)) (at-start .args .room) (at-start .args .out .now) (at-start .pre .3) _ (first-event (at-start .args .limit) (polygonOf (at-start .args .words .now)) (at-start .args .v) (at-start .pre .2) _ r _ e) (event-found _ _ e (r .placed)) (next-proper (at-start .args .limit) (polygonOf (at-start .args .words .now)) (at-start .args .v) (at-start .pre .2) _ _ r _ e)
 
 next-event-requires-2 : tie.Need-next-event-requires-2 Inv-loop μ-loop
 next-event-requires-2 c κs =
-    let s = c .before .before .before .before .before .before .before in
-    (s .pre .0, s .pre .1, s .pre .2 .well, c .loop .inv .event)
+    let at-start = c .before .before .before .before .before .before .before in
+    (at-start .pre .0, at-start .pre .1, at-start .pre .2 .well, c .loop .inv .event)
 
 same-length : tie.Need-same-length Inv-loop μ-loop
 same-length c =
-    let l = c .before .before .before in
-    l .loop .inv .writing .long
+    let at-loop = c .before .before .before in
+    at-loop .loop .inv .writing .long
 
 returns-2 : tie.Need-returns-2 Inv-loop μ-loop
 returns-2 c =
-    let j = c .before .before in
-    let l = j .before in
-    let s = l .before .before .before .before .before .before .before in
-    sweeping-stop (l .loop .inv) (last-event (s .args .limit) (polygonOf (s .args .words .now)) (s .args .v) (s .pre .2) _ (l .loop .inv .proper) _ (j .next-event2 .ensures) (c .enum-told2 .given .1))
+    let at-next-event2 = c .before .before in
+    let at-loop = at-next-event2 .before in
+    let at-start = at-loop .before .before .before .before .before .before .before in
+    sweeping-stop (at-loop .loop .inv) (last-event (at-start .args .limit) (polygonOf (at-start .args .words .now)) (at-start .args .v) (at-start .pre .2) _ (at-loop .loop .inv .proper) _ (at-next-event2 .next-event2 .ensures) (c .enum-told2 .given .1))
 
 mul-fill-column : tie.Need-mul-fill-column Inv-loop μ-loop
 mul-fill-column c =
-    let l = c .before .before .before .before in
-    let s = l .before .before .before .before .before .before .before in
-    let h = l .loop .inv .writing in
-    omega (arith, h .long, h .wide, h .upto, s .good .1 .1 .1 .0)
+    let at-loop = c .before .before .before .before in
+    let at-start = at-loop .before .before .before .before .before .before .before in
+    let h = at-loop .loop .inv .writing in
+    omega (arith, h .long, h .wide, h .upto, at-start .good .1 .1 .1 .0)
 
 mul-fill-column-2 : tie.Need-mul-fill-column-2 Inv-loop μ-loop
 mul-fill-column-2 c =
-    let l = c .before .before .before .before in
-    let s = l .before .before .before .before .before .before .before in
-    let h = l .loop .inv .writing in
-    omega (arith, h .long, h .wide, h .upto, s .good .1 .1 .1 .0)
+    let at-loop = c .before .before .before .before in
+    let at-start = at-loop .before .before .before .before .before .before .before in
+    let h = at-loop .loop .inv .writing in
+    omega (arith, h .long, h .wide, h .upto, at-start .good .1 .1 .1 .0)
 
 sub-fill-column : tie.Need-sub-fill-column Inv-loop μ-loop
 sub-fill-column c =
-    let l = c .before .before .before .before in
-    let h = l .loop .inv .writing in
+    let at-loop = c .before .before .before .before in
+    let h = at-loop .loop .inv .writing in
     omega (arith, h .long, h .wide, h .upto)
 
 part-fill-column-end : tie.Need-part-fill-column-end Inv-loop μ-loop
 part-fill-column-end c =
-    let l = c .before .before .before .before in
-    let h = l .loop .inv .writing in
+    let at-loop = c .before .before .before .before in
+    let h = at-loop .loop .inv .writing in
     omega (arith, h .long, h .wide, h .upto)
 
 sub-fill-column-2 : tie.Need-sub-fill-column-2 Inv-loop μ-loop
 sub-fill-column-2 c =
-    let l = c .before .before .before .before .before in
-    l .loop .inv .writing .upto
+    let at-loop = c .before .before .before .before .before in
+    at-loop .loop .inv .writing .upto
 
 fill-column-requires : tie.Need-fill-column-requires Inv-loop μ-loop
 fill-column-requires c κs =
-    let l = c .before .before .before .before .before in
-    let s = l .before .before .before .before .before .before .before in
-    (s .pre .2 .well, sides-lines (s .args .limit) (polygonOf (s .args .words .now)) (s .args .v) (s .pre .2), l .loop .inv .event, write-borrowed (l .loop .inv .writing))
+    let at-loop = c .before .before .before .before .before in
+    let at-start = at-loop .before .before .before .before .before .before .before in
+    (at-start .pre .2 .well, edges-lines (at-start .args .limit) (polygonOf (at-start .args .words .now)) (at-start .args .v) (at-start .pre .2), at-loop .loop .inv .event, write-borrowed (at-loop .loop .inv .writing))
 
 same-length-2 : tie.Need-same-length-2 Inv-loop μ-loop
 same-length-2 c =
-    let d = c .before in
-    let o = d .before .before .before .before .before in
-    let l = o .before .before .before .before .before .before in
-    d .clear .kept .0 ∙ same-len-mid (memoryWidth * l .loop .n) (length (l .loop .out) - memoryWidth * l .loop .n) (l .loop .out) (o .fill-column .last .1 .1 .1 .0) (o .fill-column .kept .1 .1 .1 .0) ∙ l .loop .inv .writing .long
+    let at-clear = c .before in
+    let at-fill-column = at-clear .before .before .before .before .before in
+    let at-loop = at-fill-column .before .before .before .before .before .before in
+    at-clear .clear .kept .0 ∙ same-len-mid (memoryWidth * at-loop .loop .n) (length (at-loop .loop .out) - memoryWidth * at-loop .loop .n) (at-loop .loop .out) (at-fill-column .fill-column .last .1 .1 .1 .0) (at-fill-column .fill-column .kept .1 .1 .1 .0) ∙ at-loop .loop .inv .writing .long
 
 returns-3 : tie.Need-returns-3 Inv-loop μ-loop
 returns-3 c =
-    let d = c .before in
-    let a = d .before .before in
-    let o = a .before .before .before in
-    let k = o .before .before .before in
-    let j = k .before .before in
-    let l = j .before in
-    let s = l .before .before .before .before .before .before .before in
-    let turn = later-event (s .args .limit) (polygonOf (s .args .words .now)) (s .args .v) (s .pre .2) _ (l .loop .inv .proper) _ (j .next-event2 .ensures) _ (k .next .given .1) in
-    let n : length (d .clear .last .0) ≡ length (s .args .out .now) = same-length-2 c in
-    let z = blank-of (pos 0) (d .clear .last .0) (length (putMid (memoryWidth * l .loop .n) (length (l .loop .out) - memoryWidth * l .loop .n) (l .loop .out) (o .fill-column .last .1 .1 .1 .0))) (d .clear .ensures) in
-    (sweeping-full (l .loop .inv) _ (k .next .given .0 .0) turn _ _ (o .fill-column .ensures) (a .enum-told3 .given .1), rw (← n) z)
+    let at-clear = c .before in
+    let at-enum-told3 = at-clear .before .before in
+    let at-fill-column = at-enum-told3 .before .before .before in
+    let at-next = at-fill-column .before .before .before in
+    let at-next-event2 = at-next .before .before in
+    let at-loop = at-next-event2 .before in
+    let at-start = at-loop .before .before .before .before .before .before .before in
+    let turn = later-event (at-start .args .limit) (polygonOf (at-start .args .words .now)) (at-start .args .v) (at-start .pre .2) _ (at-loop .loop .inv .proper) _ (at-next-event2 .next-event2 .ensures) _ (at-next .next .given .1) in
+    let n : length (at-clear .clear .last .0) ≡ length (at-start .args .out .now) = same-length-2 c in
+    let z = blank-of (pos 0) (at-clear .clear .last .0) (length (putMid (memoryWidth * at-loop .loop .n) (length (at-loop .loop .out) - memoryWidth * at-loop .loop .n) (at-loop .loop .out) (at-fill-column .fill-column .last .1 .1 .1 .0))) (at-clear .clear .ensures) in
+    (sweeping-full (at-loop .loop .inv) _ (at-next .next .given .0 .0) turn _ _ (at-fill-column .fill-column .ensures) (at-enum-told3 .enum-told3 .given .1), rw (← n) z)
 
 add-n : tie.Need-add-n Inv-loop μ-loop
 add-n c =
-    let b = c .before in
-    let o = b .before .before .before in
-    let k = o .before .before .before in
-    let j = k .before .before in
-    let l = j .before in
-    let s = l .before .before .before .before .before .before .before in
-    let turn = later-event (s .args .limit) (polygonOf (s .args .words .now)) (s .args .v) (s .pre .2) _ (l .loop .inv .proper) _ (j .next-event2 .ensures) _ (k .next .given .1) in
-    let e = sweeping-upto (l .loop .inv) _ (k .next .given .0 .0) turn _ _ (o .fill-column .ensures) _ (b .f .given .1) in
-    omega (arith, e, l .loop .inv .writing .wide, s .good .1 .1 .1 .0)
+    let at-f = c .before in
+    let at-fill-column = at-f .before .before .before in
+    let at-next = at-fill-column .before .before .before in
+    let at-next-event2 = at-next .before .before in
+    let at-loop = at-next-event2 .before in
+    let at-start = at-loop .before .before .before .before .before .before .before in
+    let turn = later-event (at-start .args .limit) (polygonOf (at-start .args .words .now)) (at-start .args .v) (at-start .pre .2) _ (at-loop .loop .inv .proper) _ (at-next-event2 .next-event2 .ensures) _ (at-next .next .given .1) in
+    let e = sweeping-upto (at-loop .loop .inv) _ (at-next .next .given .0 .0) turn _ _ (at-fill-column .fill-column .ensures) _ (at-f .f .given .1) in
+    omega (arith, e, at-loop .loop .inv .writing .wide, at-start .good .1 .1 .1 .0)
 
 loop-less : tie.Need-loop-less Inv-loop μ-loop
 loop-less c =
-    let k = c .before .before .before .before .before .before .before in
-    let j = k .before .before in
-    let l = j .before in
-    let s = l .before .before .before .before .before .before .before in
-    fewer (s .args .limit) (polygonOf (s .args .words .now)) (s .args .v) (s .pre .2) _ (l .loop .inv .proper) _ (j .next-event2 .ensures) _ (k .next .given .1)
+    let at-next = c .before .before .before .before .before .before .before in
+    let at-next-event2 = at-next .before .before in
+    let at-loop = at-next-event2 .before in
+    let at-start = at-loop .before .before .before .before .before .before .before in
+    fewer (at-start .args .limit) (polygonOf (at-start .args .words .now)) (at-start .args .v) (at-start .pre .2) _ (at-loop .loop .inv .proper) _ (at-next-event2 .next-event2 .ensures) _ (at-next .next .given .1)
 
 loop-again : tie.Need-loop-again Inv-loop μ-loop
 loop-again c =
-    let b = c .before in
-    let o = b .before .before .before in
-    let k = o .before .before .before in
-    let j = k .before .before in
-    let l = j .before in
-    let s = l .before .before .before .before .before .before .before in
-    let turn = later-event (s .args .limit) (polygonOf (s .args .words .now)) (s .args .v) (s .pre .2) _ (l .loop .inv .proper) _ (j .next-event2 .ensures) _ (k .next .given .1) in
-    let e = k .next .given .1 in
-    let r = j .next-event2 .ensures in
-    sweeping-next (l .loop .inv) _ (k .next .given .0 .0) turn _ _ (o .fill-column .ensures) _ (b .f .given .1) (event-found _ _ e (r .placed)) (next-proper (s .args .limit) (polygonOf (s .args .words .now)) (s .args .v) (s .pre .2) _ _ r _ e)
+    let at-f = c .before in
+    let at-fill-column = at-f .before .before .before in
+    let at-next = at-fill-column .before .before .before in
+    let at-next-event2 = at-next .before .before in
+    let at-loop = at-next-event2 .before in
+    let at-start = at-loop .before .before .before .before .before .before .before in
+    let turn = later-event (at-start .args .limit) (polygonOf (at-start .args .words .now)) (at-start .args .v) (at-start .pre .2) _ (at-loop .loop .inv .proper) _ (at-next-event2 .next-event2 .ensures) _ (at-next .next .given .1) in
+    let e = at-next .next .given .1 in
+    let r = at-next-event2 .next-event2 .ensures in
+    sweeping-next (at-loop .loop .inv) _ (at-next .next .given .0 .0) turn _ _ (at-fill-column .fill-column .ensures) _ (at-f .f .given .1) (event-found _ _ e (r .placed)) (next-proper (at-start .args .limit) (polygonOf (at-start .args .words .now)) (at-start .args .v) (at-start .pre .2) _ _ r _ e)
 
 pub fill-columns-spec : {M : Type 1} → statement M
 fill-columns-spec =

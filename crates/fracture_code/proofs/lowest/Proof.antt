@@ -8,26 +8,28 @@ use Rattle.fracture_code.proofs.lowest.Tie as tie
 
 returns : tie.Need-returns
 returns c =
-    let s = c .before .before in
-    let e : s .args .best ≡ Nothing = cc in
-    lowest-none (fractionOf (s .args .at)) (s .args .best) (s .args .e) e (s .pre .1)
+    let at-start = c .before .before in
+    let e : at-start .args .best ≡ Nothing = cc in
+    lowest-none (fractionOf (at-start .args .at)) (at-start .args .best) (at-start .args .e) e (at-start .pre .1)
 
 is-below-requires : tie.Need-is-below-requires
 is-below-requires c κs =
-    let s = c .before .before .before in
-    (s .pre .1, group-at {best = s .args .best} (s .pre .0) (c .before .best .given .1), s .pre .2)
+    let at-start = c .before .before .before in
+    (at-start .pre .1, group-at {best = at-start .args .best} (at-start .pre .0) (c .before .best .given .1), at-start .pre .2)
 
 returns-2 : tie.Need-returns-2
 returns-2 c =
-    let k = c .before .before .before in
-    let s = k .before .before in
-    lowest-new (fractionOf (s .args .at)) (s .args .best) (s .args .e) (k .best .given .0 .0) (k .best .given .1) (s .pre .1) (sym (c .before .is-below .ensures) ∙ c .if1 .taken)
+    let at-is-below = c .before in
+    let at-best = at-is-below .before .before in
+    let at-start = at-best .before .before in
+    lowest-new (fractionOf (at-start .args .at)) (at-start .args .best) (at-start .args .e) (at-best .best .given .0 .0) (at-best .best .given .1) (at-start .pre .1) (sym (at-is-below .is-below .ensures) ∙ c .if1 .taken)
 
 returns-3 : tie.Need-returns-3
 returns-3 c =
-    let k = c .before .before .before in
-    let s = k .before .before in
-    lowest-old (fractionOf (s .args .at)) (s .args .best) (s .args .e) (k .best .given .0 .0) (k .best .given .1) (group-at {best = s .args .best} (s .pre .0) (k .best .given .1)) (sym (c .before .is-below .ensures) ∙ c .if1 .left)
+    let at-is-below = c .before in
+    let at-best = at-is-below .before .before in
+    let at-start = at-best .before .before in
+    lowest-old (fractionOf (at-start .args .at)) (at-start .args .best) (at-start .args .e) (at-best .best .given .0 .0) (at-best .best .given .1) (group-at {best = at-start .args .best} (at-start .pre .0) (at-best .best .given .1)) (sym (at-is-below .is-below .ensures) ∙ c .if1 .left)
 
 pub lowest-spec : {M : Type 1} → statement M
 lowest-spec =

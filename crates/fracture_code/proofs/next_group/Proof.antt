@@ -1,3 +1,4 @@
+-- Before turn i: a search from `best` through the edges from number i on finds what a search through all edges finds; `best` is on the grid.
 use Prim.Native.Nat.{_-_}
 use native.Mathlib.Omega.{arith}
 use borrow.Author.Needs.{needs}
@@ -14,19 +15,23 @@ abbrev μ-loop : tie.MeasureT-loop
 μ-loop at started g list n best₀ i₀ best i = n - i
 
 loop-holds : tie.Need-loop-holds Inv-loop μ-loop
-loop-holds c = let s = c .before in looking-start (s .args .v) (fractionOf (s .args .at)) (past (s .args .started) (s .args .g)) (s .pre .0)
+loop-holds c =
+    let at-start = c .before in
+    looking-start (at-start .args .v) (fractionOf (at-start .args .at)) (past (at-start .args .started) (at-start .args .g)) (at-start .pre .0)
 
 array-copy-out-e : tie.Need-array-copy-out-e Inv-loop μ-loop
 array-copy-out-e c = omega (arith, c .before .loop .inv .well .few, c .loop-test .taken)
 
-with-side-requires : tie.Need-with-side-requires Inv-loop μ-loop
-with-side-requires c κs =
-    let h = c .before .before .loop .inv in
-    let s = c .before .before .before .before in
-    (h .grid, s .pre .2, looking-grid _ _ _ _ _ h _ (c .before .loop-test .taken), s .pre .1)
+with-candidate-requires : tie.Need-with-candidate-requires Inv-loop μ-loop
+with-candidate-requires c κs =
+    let at-loop-test = c .before in
+    let at-loop = at-loop-test .before in
+    let at-start = at-loop .before .before in
+    let h = at-loop .loop .inv in
+    (h .grid, at-start .pre .2, looking-grid _ _ _ _ _ h _ (at-loop-test .loop-test .taken), at-start .pre .1)
 
 loop-again : tie.Need-loop-again Inv-loop μ-loop
-loop-again c = looking-next _ _ _ _ _ (c .before .before .before .loop .inv) _ (c .before .before .loop-test .taken) _ (c .with-side .ensures)
+loop-again c = looking-next _ _ _ _ _ (c .before .before .before .loop .inv) _ (c .before .before .loop-test .taken) _ (c .with-candidate .ensures)
 
 returns : tie.Need-returns Inv-loop μ-loop
 returns c = looking-last _ _ _ _ _ (c .before .loop .inv) (omega (arith, c .loop-test .left))
@@ -40,7 +45,7 @@ next-group-spec =
     loop-holds
     (λ c. search needs)
     array-copy-out-e
-    with-side-requires
+    with-candidate-requires
     (λ c. search needs)
     (λ c. search needs)
     loop-again

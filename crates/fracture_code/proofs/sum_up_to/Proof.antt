@@ -1,3 +1,4 @@
+-- Before turn i: the sum over all edges is `sum` and the sum over those from number i on; the magnitude of `sum` is at most i.
 use Prim.Native.Nat.{_-_}
 use native.Mathlib.Omega.{arith}
 use borrow.Author.Needs.{needs}
@@ -13,16 +14,20 @@ abbrev μ-loop : tie.MeasureT-loop
 μ-loop at g list n sum₀ i₀ sum i = n - i
 
 loop-holds : tie.Need-loop-holds Inv-loop μ-loop
-loop-holds c = let s = c .before .before in adding-start (s .args .v) (fractionOf (s .args .at)) (s .args .g) (s .pre .0) _ (c .of .ensures .0)
+loop-holds c =
+    let at-start = c .before .before in
+    adding-start (at-start .args .v) (fractionOf (at-start .args .at)) (at-start .args .g) (at-start .pre .0) _ (c .of .ensures .0)
 
 array-copy-out-e : tie.Need-array-copy-out-e Inv-loop μ-loop
 array-copy-out-e c = omega (arith, c .before .loop .inv .well .few, c .loop-test .taken)
 
 with-direction-requires : tie.Need-with-direction-requires Inv-loop μ-loop
 with-direction-requires c κs =
-    let h = c .before .before .loop .inv in
-    let s = c .before .before .before .before .before in
-    (omega (arith, h .small, h .well .few, c .before .loop-test .taken), s .pre .2, adding-grid _ _ _ _ _ h _ (c .before .loop-test .taken), s .pre .1)
+    let at-loop-test = c .before in
+    let at-loop = at-loop-test .before in
+    let at-start = at-loop .before .before .before in
+    let h = at-loop .loop .inv in
+    (omega (arith, h .small, h .well .few, at-loop-test .loop-test .taken), at-start .pre .2, adding-grid _ _ _ _ _ h _ (at-loop-test .loop-test .taken), at-start .pre .1)
 
 loop-again : tie.Need-loop-again Inv-loop μ-loop
 loop-again c = adding-next _ _ _ _ _ (c .before .before .before .loop .inv) _ (c .before .before .loop-test .taken) _ (c .with-direction .ensures)

@@ -8,45 +8,45 @@ use Rattle.fracture_code.proofs.with_edge.Tie as tie
 
 with-line-requires : tie.Need-with-line-requires
 with-line-requires c κs =
-    let s = c .before .before .before .before .before in
-    (s .pre .0, s .pre .1, grid-through (vertexAt (s .args .words .now) (s .args .a)) (vertexAt (s .args .words .now) (s .args .b)) _ (s .pre .4) (s .pre .5) (c .line-between .ensures))
+    let at-start = c .before .before .before .before .before in
+    (at-start .pre .0, at-start .pre .1, grid-through (vertexAt (at-start .args .words .now) (at-start .args .a)) (vertexAt (at-start .args .words .now) (at-start .args .b)) _ (at-start .pre .4) (at-start .pre .5) (c .line-between .ensures))
 
 returns : tie.Need-returns
 returns c =
-    let m = c .before in
-    let i = m .before in
-    let t = i .before in
-    let y = t .before in
-    let x = y .before in
-    let s = x .before in
-    longer-right (s .args .v) (vertexAt (s .args .words .now) (s .args .a)) (vertexAt (s .args .words .now) (s .args .b)) _ (m .line-between .ensures) (sym (t .less .ensures ∙ (λ z. ltZ (x .get .ensures .0 z) (y .get2 .ensures .0 z))) ∙ i .if1 .taken) _ (c .with-line .ensures)
+    let at-line-between = c .before in
+    let at-if1 = at-line-between .before in
+    let at-less = at-if1 .before in
+    let at-get2 = at-less .before in
+    let at-get = at-get2 .before in
+    let at-start = at-get .before in
+    longer-right (at-start .args .v) (vertexAt (at-start .args .words .now) (at-start .args .a)) (vertexAt (at-start .args .words .now) (at-start .args .b)) _ (at-line-between .line-between .ensures) (sym (at-less .less .ensures ∙ (λ z. ltZ (at-get .get .ensures .0 z) (at-get2 .get2 .ensures .0 z))) ∙ at-if1 .if1 .taken) _ (c .with-line .ensures)
 
 with-line-requires-2 : tie.Need-with-line-requires-2
 with-line-requires-2 c κs =
-    let s = c .before .before .before .before .before .before .before in
-    (s .pre .0, s .pre .1, grid-through (vertexAt (s .args .words .now) (s .args .b)) (vertexAt (s .args .words .now) (s .args .a)) _ (s .pre .5) (s .pre .4) (c .line-between2 .ensures))
+    let at-start = c .before .before .before .before .before .before .before in
+    (at-start .pre .0, at-start .pre .1, grid-through (vertexAt (at-start .args .words .now) (at-start .args .b)) (vertexAt (at-start .args .words .now) (at-start .args .a)) _ (at-start .pre .5) (at-start .pre .4) (c .line-between2 .ensures))
 
 returns-2 : tie.Need-returns-2
 returns-2 c =
-    let m = c .before in
-    let h = m .before in
-    let r = h .before in
-    let i = r .before in
-    let t = i .before in
-    let y = t .before in
-    let x = y .before in
-    let s = x .before in
-    longer-left (s .args .v) (vertexAt (s .args .words .now) (s .args .a)) (vertexAt (s .args .words .now) (s .args .b)) _ (m .line-between2 .ensures) (sym (t .less .ensures ∙ (λ z. ltZ (x .get .ensures .0 z) (y .get2 .ensures .0 z))) ∙ i .if1 .left) (sym (r .less2 .ensures ∙ (λ z. ltZ (y .get2 .ensures .0 z) (x .get .ensures .0 z))) ∙ h .if2 .taken) _ (c .with-line2 .ensures)
+    let at-line-between2 = c .before in
+    let at-if2 = at-line-between2 .before in
+    let at-less2 = at-if2 .before in
+    let at-if1 = at-less2 .before in
+    let at-less = at-if1 .before in
+    let at-get2 = at-less .before in
+    let at-get = at-get2 .before in
+    let at-start = at-get .before in
+    longer-left (at-start .args .v) (vertexAt (at-start .args .words .now) (at-start .args .a)) (vertexAt (at-start .args .words .now) (at-start .args .b)) _ (at-line-between2 .line-between2 .ensures) (sym (at-less .less .ensures ∙ (λ z. ltZ (at-get .get .ensures .0 z) (at-get2 .get2 .ensures .0 z))) ∙ at-if1 .if1 .left) (sym (at-less2 .less2 .ensures ∙ (λ z. ltZ (at-get2 .get2 .ensures .0 z) (at-get .get .ensures .0 z))) ∙ at-if2 .if2 .taken) _ (c .with-line2 .ensures)
 
 returns-3 : tie.Need-returns-3
 returns-3 c =
-    let r = c .before in
-    let i = r .before in
-    let t = i .before in
-    let y = t .before in
-    let x = y .before in
-    let s = x .before in
-    longer-flat (s .args .v) (vertexAt (s .args .words .now) (s .args .a)) (vertexAt (s .args .words .now) (s .args .b)) (s .pre .0) (sym (t .less .ensures ∙ (λ z. ltZ (x .get .ensures .0 z) (y .get2 .ensures .0 z))) ∙ i .if1 .left) (sym (r .less2 .ensures ∙ (λ z. ltZ (y .get2 .ensures .0 z) (x .get .ensures .0 z))) ∙ c .if2 .left)
+    let at-less2 = c .before in
+    let at-if1 = at-less2 .before in
+    let at-less = at-if1 .before in
+    let at-get2 = at-less .before in
+    let at-get = at-get2 .before in
+    let at-start = at-get .before in
+    longer-flat (at-start .args .v) (vertexAt (at-start .args .words .now) (at-start .args .a)) (vertexAt (at-start .args .words .now) (at-start .args .b)) (at-start .pre .0) (sym (at-less .less .ensures ∙ (λ z. ltZ (at-get .get .ensures .0 z) (at-get2 .get2 .ensures .0 z))) ∙ at-if1 .if1 .left) (sym (at-less2 .less2 .ensures ∙ (λ z. ltZ (at-get2 .get2 .ensures .0 z) (at-get .get .ensures .0 z))) ∙ c .if2 .left)
 
 pub with-edge-spec : {M : Type 1} → statement M
 with-edge-spec =

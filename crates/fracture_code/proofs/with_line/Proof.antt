@@ -4,7 +4,9 @@ use Rattle.fracture_code.proofs.with_line.Statement.{statement}
 use Rattle.fracture_code.proofs.with_line.Tie as tie
 
 returns : tie.Need-returns
-returns c = let s = c .before in longer-line (s .args .v) (s .pre .0) (s .pre .1) _ (s .pre .2)
+returns c =
+    let at-start = c .before in
+    longer-line (at-start .args .v) (at-start .pre .0) (at-start .pre .1) _ (at-start .pre .2)
 
 pub with-line-spec : {M : Type 1} → statement M
 with-line-spec = tie.close (tie.spec (λ c. search needs) (λ c. search needs) (λ c. search needs) returns)

@@ -39,13 +39,18 @@ mul-requires c κs = let n = near _ _ (c .before .before .before .pre) (c .befor
 
 mul-requires-2 : tie.Need-mul-requires-2
 mul-requires-2 c κs =
-    let n = near _ _ (c .before .before .before .before .pre) (c .before .before .before .corners-of .ensures) in
+    let at-corners-of = c .before .before .before in
+    let at-start = at-corners-of .before in
+    let n = near _ _ (at-start .pre) (at-corners-of .corners-of .ensures) in
     omega (arith, mul-le-mul (n .y2) (n .x1))
 
 sub-requires-3 : tie.Need-sub-requires-3
 sub-requires-3 c κs =
-    let n = near _ _ (c .before .before .before .before .before .pre) (c .before .before .before .before .corners-of .ensures) in
-    omega (arith, c .before .mul .ensures .1, c .mul2 .ensures .1, mul-le-mul (n .y1) (n .x2), mul-le-mul (n .y2) (n .x1))
+    let at-mul = c .before in
+    let at-corners-of = at-mul .before .before .before in
+    let at-start = at-corners-of .before in
+    let n = near _ _ (at-start .pre) (at-corners-of .corners-of .ensures) in
+    omega (arith, at-mul .mul .ensures .1, c .mul2 .ensures .1, mul-le-mul (n .y1) (n .x2), mul-le-mul (n .y2) (n .x1))
 
 -- the three numbers, with the magnitudes that they have under any limit
 coefficients : (l : Line) (k : Corners) (r : Coefficients) → OnGrid coordinateLimit l → CornersOf l k → r .dx .v ≡ k .x2 .v ⊖ k .x1 .v → r .dy .v ≡ k .y2 .v ⊖ k .y1 .v
@@ -66,8 +71,14 @@ coefficients l k r h e across up along =
 
 returns : tie.Need-returns
 returns c =
-    coefficients _ _ _ (c .before .before .before .before .before .before .pre) (c .before .before .before .before .before .corners-of .ensures) (c .before .before .before .before .sub .ensures .0) (c .before .before .before .sub2 .ensures .0)
-    (c .sub3 .ensures .0 ∙ rw (c .before .before .mul .ensures .0, c .before .mul2 .ensures .0))
+    let at-mul2 = c .before in
+    let at-mul = at-mul2 .before in
+    let at-sub2 = at-mul .before in
+    let at-sub = at-sub2 .before in
+    let at-corners-of = at-sub .before in
+    let at-start = at-corners-of .before in
+    coefficients _ _ _ (at-start .pre) (at-corners-of .corners-of .ensures) (at-sub .sub .ensures .0) (at-sub2 .sub2 .ensures .0)
+    (c .sub3 .ensures .0 ∙ rw (at-mul .mul .ensures .0, at-mul2 .mul2 .ensures .0))
 
 pub coefficients-of-spec : {M : Type 1} → statement M
 coefficients-of-spec = tie.close (tie.spec corners-of-requires sub-requires sub-requires-2 mul-requires mul-requires-2 sub-requires-3 returns)

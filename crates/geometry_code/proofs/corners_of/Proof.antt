@@ -18,11 +18,15 @@ widen-requires-4 c κs = tt
 
 returns : tie.Need-returns
 returns c =
-    let y = c .before .struct-told4 .given in
+    let at-struct-told4 = c .before in
+    let at-widen3 = at-struct-told4 .before in
+    let at-widen2 = at-widen3 .before .before in
+    let at-widen = at-widen2 .before .before in
+    let y = at-struct-told4 .struct-told4 .given in
     record {
-      x1 = c .before .before .before .before .before .before .widen .ensures .0 ∙ toZ-ofZ (sfits-of (y .0 .1));
-      y1 = c .before .before .before .before .widen2 .ensures .0 ∙ toZ-ofZ (sfits-of (y .1 .0 .1));
-      x2 = c .before .before .widen3 .ensures .0 ∙ toZ-ofZ (sfits-of (y .1 .1 .0 .1));
+      x1 = at-widen .widen .ensures .0 ∙ toZ-ofZ (sfits-of (y .0 .1));
+      y1 = at-widen2 .widen2 .ensures .0 ∙ toZ-ofZ (sfits-of (y .1 .0 .1));
+      x2 = at-widen3 .widen3 .ensures .0 ∙ toZ-ofZ (sfits-of (y .1 .1 .0 .1));
       y2 = c .widen4 .ensures .0 ∙ toZ-ofZ (sfits-of (y .1 .1 .1 .0 .1));
     }
 

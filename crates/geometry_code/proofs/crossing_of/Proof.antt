@@ -24,8 +24,10 @@ less-requires c κs = tt
 
 returns : tie.Need-returns
 returns c =
-    let s = c .before .before .before .before .before .before .args in
-    let k = c .before .before .before .before .before .meeting-of .ensures in
+    let at-meeting-of = c .before .before .before .before .before in
+    let at-start = at-meeting-of .before in
+    let s = at-start .args in
+    let k = at-meeting-of .meeting-of .ensures in
     let h : pos 0 <ℤ det (s .l) (s .m) = lt-yes (pos 0) (det (s .l) (s .m)) (cc) in (
       det→crosses (s .l) (s .m) (λ e. omega (zarith, e)),
       (λ j. record { num = k .numer j; den = k .det j }) ∙ sym (meet-rising (s .l) (s .m) h),
@@ -36,10 +38,14 @@ less-requires-2 : tie.Need-less-requires-2
 less-requires-2 c κs = tt
 
 neg-requires : tie.Need-neg-requires
-neg-requires c κs = omega (arith, c .before .before .before .before .before .before .before .meeting-of .ensures .numer-small)
+neg-requires c κs =
+    let at-meeting-of = c .before .before .before .before .before .before .before in
+    omega (arith, at-meeting-of .meeting-of .ensures .numer-small)
 
 neg-requires-2 : tie.Need-neg-requires-2
-neg-requires-2 c κs = omega (arith, c .before .before .before .before .before .before .before .before .meeting-of .ensures .det-small)
+neg-requires-2 c κs =
+    let at-meeting-of = c .before .before .before .before .before .before .before .before in
+    omega (arith, at-meeting-of .meeting-of .ensures .det-small)
 
 returns-2 : tie.Need-returns-2
 returns-2 c =
@@ -55,8 +61,10 @@ returns-2 c =
 
 returns-3 : tie.Need-returns-3
 returns-3 c =
-    let s = c .before .before .before .before .before .before .before .before .args in
-    let k = c .before .before .before .before .before .before .before .meeting-of .ensures in
+    let at-meeting-of = c .before .before .before .before .before .before .before in
+    let at-start = at-meeting-of .before in
+    let s = at-start .args in
+    let k = at-meeting-of .meeting-of .ensures in
     let a = lt-no (pos 0) (det (s .l) (s .m)) (cc) in
     let b = lt-no (det (s .l) (s .m)) (pos 0) (cc) in
     not-T (crosses (s .l) (s .m)) (λ t. crosses→det (s .l) (s .m) t (antisymm a b))

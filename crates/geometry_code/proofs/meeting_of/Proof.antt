@@ -29,33 +29,47 @@ sub-requires c κs =
 
 mul-requires-3 : tie.Need-mul-requires-3
 mul-requires-3 c κs =
-    omega (arith, mul-le-mul (c .before .before .before .before .coefficients-of .ensures .dx-small) (c .before .before .before .coefficients-of2 .ensures .offset-small))
+    let at-coefficients-of2 = c .before .before .before in
+    let at-coefficients-of = at-coefficients-of2 .before in
+    omega (arith, mul-le-mul (at-coefficients-of .coefficients-of .ensures .dx-small) (at-coefficients-of2 .coefficients-of2 .ensures .offset-small))
 
 mul-requires-4 : tie.Need-mul-requires-4
 mul-requires-4 c κs =
-    omega (arith, mul-le-mul (c .before .before .before .before .coefficients-of2 .ensures .dx-small) (c .before .before .before .before .before .coefficients-of .ensures .offset-small))
+    let at-coefficients-of2 = c .before .before .before .before in
+    let at-coefficients-of = at-coefficients-of2 .before in
+    omega (arith, mul-le-mul (at-coefficients-of2 .coefficients-of2 .ensures .dx-small) (at-coefficients-of .coefficients-of .ensures .offset-small))
 
 sub-requires-2 : tie.Need-sub-requires-2
 sub-requires-2 c κs =
-    let a = c .before .before .before .before .before .before .coefficients-of .ensures in
-    let b = c .before .before .before .before .before .coefficients-of2 .ensures in
-    omega (arith, c .before .mul3 .ensures .1, c .mul4 .ensures .1, mul-le-mul (a .dx-small) (b .offset-small), mul-le-mul (b .dx-small) (a .offset-small))
+    let at-mul3 = c .before in
+    let at-coefficients-of2 = at-mul3 .before .before .before .before in
+    let at-coefficients-of = at-coefficients-of2 .before in
+    let a = at-coefficients-of .coefficients-of .ensures in
+    let b = at-coefficients-of2 .coefficients-of2 .ensures in
+    omega (arith, at-mul3 .mul3 .ensures .1, c .mul4 .ensures .1, mul-le-mul (a .dx-small) (b .offset-small), mul-le-mul (b .dx-small) (a .offset-small))
 
 returns : tie.Need-returns
 unfolding det numer
 returns c =
-    let s = c .before .before .before .before .before .before .before .before in
-    let a = c .before .before .before .before .before .before .before .coefficients-of .ensures in
-    let b = c .before .before .before .before .before .before .coefficients-of2 .ensures in
-    let m = c .before .before .before .before .before .mul .ensures .0 in
-    let m2 = c .before .before .before .before .mul2 .ensures .0 in
-    let m3 = c .before .before .mul3 .ensures .0 in
-    let m4 = c .before .mul4 .ensures .0 in
-    let d : c .before .before .before .sub .result .v ≡ det (s .args .l) (s .args .m)
-    = c .before .before .before .sub .ensures .0 ∙ rw (m, m2, a .dx, a .dy, b .dx, b .dy) in
-    let n : c .sub2 .result .v ≡ numer (s .args .l) (s .args .m)
+    let at-mul4 = c .before in
+    let at-mul3 = at-mul4 .before in
+    let at-sub = at-mul3 .before in
+    let at-mul2 = at-sub .before in
+    let at-mul = at-mul2 .before in
+    let at-coefficients-of2 = at-mul .before in
+    let at-coefficients-of = at-coefficients-of2 .before in
+    let at-start = at-coefficients-of .before in
+    let a = at-coefficients-of .coefficients-of .ensures in
+    let b = at-coefficients-of2 .coefficients-of2 .ensures in
+    let m = at-mul .mul .ensures .0 in
+    let m2 = at-mul2 .mul2 .ensures .0 in
+    let m3 = at-mul3 .mul3 .ensures .0 in
+    let m4 = at-mul4 .mul4 .ensures .0 in
+    let d : at-sub .sub .result .v ≡ det (at-start .args .l) (at-start .args .m)
+    = at-sub .sub .ensures .0 ∙ rw (m, m2, a .dx, a .dy, b .dx, b .dy) in
+    let n : c .sub2 .result .v ≡ numer (at-start .args .l) (at-start .args .m)
     = c .sub2 .ensures .0 ∙ rw (m3, m4, a .dx, a .offset, b .dx, b .offset) in
-    let w = meeting-within coordinateLimit (s .args .l) (s .args .m) (s .pre .0) (s .pre .1) in
+    let w = meeting-within coordinateLimit (at-start .args .l) (at-start .args .m) (at-start .pre .0) (at-start .pre .1) in
     record {
       det = d;
       numer = n;

@@ -26,7 +26,8 @@ compare-requires c κs = tt
 returns : tie.Need-returns
 unfolding heights
 returns c =
-    let s = c .before .before .before .before .args in
+    let at-start = c .before .before .before .before in
+    let s = at-start .args in
     let k = c .before .before .before .meeting-of .ensures in
     let o = c .before .before .compare-products .ensures in
     let e : heights (fractionOf (s .x)) (s .l) (s .m) ≡ Less = cc in
@@ -35,16 +36,20 @@ returns c =
 returns-2 : tie.Need-returns-2
 unfolding heights
 returns-2 c =
-    let s = c .before .before .before .before .before .before .args in
-    let k = c .before .before .before .before .before .meeting-of .ensures in
-    let o = c .before .before .before .before .compare-products .ensures in
+    let at-compare-products = c .before .before .before .before in
+    let at-meeting-of = at-compare-products .before in
+    let at-start = at-meeting-of .before in
+    let s = at-start .args in
+    let k = at-meeting-of .meeting-of .ensures in
+    let o = at-compare-products .compare-products .ensures in
     let e : heights (fractionOf (s .x)) (s .l) (s .m) ≡ Equal = cc in
     c .compare .ensures ∙ ap₂ orderOf (k .det) (c .before .of .ensures .0) ∙ sym (right-by (fractionOf (s .x)) (s .l) (s .m) Equal e)
 
 returns-3 : tie.Need-returns-3
 unfolding heights
 returns-3 c =
-    let s = c .before .before .before .before .args in
+    let at-start = c .before .before .before .before in
+    let s = at-start .args in
     let k = c .before .before .before .meeting-of .ensures in
     let o = c .before .before .compare-products .ensures in
     let e : heights (fractionOf (s .x)) (s .l) (s .m) ≡ Greater = cc in

@@ -12,18 +12,18 @@ use Rattle.integer_code.proofs.mul.Tie as tie
 mul-t3 : tie.Need-mul-t3
 unfolding _⊗_
 mul-t3 c =
-    let s = c .before .before .before .before in
-    let a = s .args .a .v in
-    let b = s .args .b .v in
-    result-fits _⊗_ a b (natAbs a * natAbs b) (search needs) (search needs) (le-of-eq (mul-magnitude a b)) (s .pre)
+    let at-start = c .before .before .before .before in
+    let a = at-start .args .a .v in
+    let b = at-start .args .b .v in
+    result-fits _⊗_ a b (natAbs a * natAbs b) (search needs) (search needs) (le-of-eq (mul-magnitude a b)) (at-start .pre)
 
 returns : tie.Need-returns
 unfolding _⊗_
 returns c =
-    let s = c .before .before .before .before in
-    let a = s .args .a .v in
-    let b = s .args .b .v in
-    with (λ (r : ℤ). natAbs r ≡ natAbs a * natAbs b) (result-is _⊗_ a b (natAbs a * natAbs b) (search needs) (search needs) (le-of-eq (mul-magnitude a b)) (s .pre)) (mul-magnitude a b)
+    let at-start = c .before .before .before .before in
+    let a = at-start .args .a .v in
+    let b = at-start .args .b .v in
+    with (λ (r : ℤ). natAbs r ≡ natAbs a * natAbs b) (result-is _⊗_ a b (natAbs a * natAbs b) (search needs) (search needs) (le-of-eq (mul-magnitude a b)) (at-start .pre)) (mul-magnitude a b)
 
 pub mul-spec : {M : Type 1} → statement M
 mul-spec = tie.close (tie.spec mul-t3 returns)

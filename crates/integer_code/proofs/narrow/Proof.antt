@@ -18,9 +18,9 @@ cast-result c = short (c .before .before .args .a .v) (search needs) (c .before 
 
 returns : tie.Need-returns
 returns c =
-    let s = c .before .before in
-    let f : SFits w64 (s .args .a .v) = search needs in
-    let e = toZ-ofZ (short (s .args .a .v) f (s .pre)) ∙ toZ-ofZ f in
+    let at-start = c .before .before in
+    let f : SFits w64 (at-start .args .a .v) = search needs in
+    let e = toZ-ofZ (short (at-start .args .a .v) f (at-start .pre)) ∙ toZ-ofZ f in
     (e, ap natAbs e)
 
 pub narrow-spec : {M : Type 1} → statement M

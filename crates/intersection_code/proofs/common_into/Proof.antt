@@ -7,7 +7,7 @@ use lib.IntN.{pos}
 use borrow.Author.Needs.{needs}
 use Rattle.geometry.specs.Trapezoids.{layerOf}
 use Rattle.boolean.specs.Operations.{common}
-use Rattle.boolean.specs.Space.{commonMarks}
+use Rattle.boolean.specs.Space.{commonStages}
 use Rattle.trapezoids_code.proofs.Placed.{placed-own}
 use Rattle.remainder_code.proofs.Answers.{once}
 use Rattle.remainder_code.proofs.Folding.{Folding, blank-start, fold-words, fold-stop, fold-borrowed, fold-long, fold-fit, Turned, fill-turn}
@@ -17,7 +17,7 @@ use Rattle.intersection_code.proofs.common_into.Tie as tie
 
 abbrev Inv-loop : tie.InvT-loop
 Inv-loop a layer out₀ room n k₀ i₀ out k i =
-    Folding (commonFold (a .shape)) (length out₀) room (common (a .shape) (layerOf layer)) (commonMarks 0 (a .shape) (layerOf layer)) layer out k i i
+    Folding (commonFold (a .shape)) (length out₀) room (common (a .shape) (layerOf layer)) (commonStages 0 (a .shape) (layerOf layer)) layer out k i i
 
 abbrev μ-loop : tie.MeasureT-loop
 μ-loop a layer out₀ room n k₀ i₀ out k i = n - i
@@ -37,11 +37,15 @@ place-requires c κs =
 
 mul-common-parts : tie.Need-mul-common-parts Inv-loop μ-loop
 mul-common-parts c =
-    omega (arith, fold-words (c .before .before .before .loop .inv), c .before .before .before .before .good .1 .1 .0)
+    let at-loop = c .before .before .before in
+    let at-start = at-loop .before in
+    omega (arith, fold-words (at-loop .loop .inv), at-start .good .1 .1 .0)
 
 mul-common-parts-2 : tie.Need-mul-common-parts-2 Inv-loop μ-loop
 mul-common-parts-2 c =
-    omega (arith, fold-words (c .before .before .before .loop .inv), c .before .before .before .before .good .1 .1 .0)
+    let at-loop = c .before .before .before in
+    let at-start = at-loop .before in
+    omega (arith, fold-words (at-loop .loop .inv), at-start .good .1 .1 .0)
 
 sub-common-parts : tie.Need-sub-common-parts Inv-loop μ-loop
 sub-common-parts c =
@@ -53,58 +57,74 @@ part-common-parts-end c =
 
 sub-common-parts-2 : tie.Need-sub-common-parts-2 Inv-loop μ-loop
 sub-common-parts-2 c =
-    omega (arith, c .before .before .before .before .loop .inv .within)
+    let at-loop = c .before .before .before .before in
+    omega (arith, at-loop .loop .inv .within)
 
 common-parts-requires : tie.Need-common-parts-requires Inv-loop μ-loop
 common-parts-requires c κs =
-    let l = c .before .before .before .before in
-    let h = l .loop .inv in
-    (record { first = l .before .pre .1 .0; second = placed-own (c .before .place .ensures) }, fold-borrowed h _ (omega (arith, h .within)))
+    let at-place = c .before in
+    let at-loop = at-place .before .before .before in
+    let at-start = at-loop .before in
+    let h = at-loop .loop .inv in
+    (record { first = at-start .pre .1 .0; second = placed-own (at-place .place .ensures) }, fold-borrowed h _ (omega (arith, h .within)))
 
 -- the parts common to a and number i
 turn : (o : tie.After-common-parts Inv-loop μ-loop)
-    → let l = o .before .before .before .before .before in
-    Turned (l .loop .inv) (l .before .args .room - l .loop .k) (once (o .common-parts .result)) (o .common-parts .last .1 .1 .0)
+    → let at-loop = o .before .before .before .before .before in let at-start = at-loop .before in Turned (at-loop .loop .inv) (at-start .args .room - at-loop .loop .k) (once (o .common-parts .result)) (o .common-parts .last .1 .1 .0)
 turn o =
-    let q = o .before .before in
-    let l = q .before .before .before in
-    let p = l .loop in
-    let b = q .place .result .shape in
+    let at-place = o .before .before in
+    let at-load = at-place .before in
+    let at-loop-test = at-load .before in
+    let at-loop = at-loop-test .before in
+    let at-start = at-loop .before in
+    let p = at-loop .loop in
+    let b = at-place .place .result .shape in
     let f = o .common-parts in
-    fill-turn (p .inv) (q .before .before .loop-test .taken) b (q .place .ensures .shape ∙ q .before .load .ensures)
-    (common-part (l .before .args .a .shape) b (p .inv .size) (p .inv .within)) (f .result) (f .last .1 .1 .0) (f .ensures)
+    fill-turn (p .inv) (at-loop-test .loop-test .taken) b (at-place .place .ensures .shape ∙ at-load .load .ensures)
+    (common-part (at-start .args .a .shape) b (p .inv .size) (p .inv .within)) (f .result) (f .last .1 .1 .0) (f .ensures)
 
 add-t24 : tie.Need-add-t24 Inv-loop μ-loop
 add-t24 c =
-    let l = c .before .before .before .before .before .before .before .before .before .before in
-    omega (arith, l .loop-test .taken, l .before .before .good .1 .0)
+    let at-loop-test = c .before .before .before .before .before .before .before .before .before .before in
+    let at-start = at-loop-test .before .before in
+    omega (arith, at-loop-test .loop-test .taken, at-start .good .1 .0)
 
 same-length : tie.Need-same-length Inv-loop μ-loop
 same-length c =
-    let o = c .before .before .before .before .before .before in
-    c .before .clear .kept .0 ∙ fold-long (o .before .before .before .before .before .loop .inv) (o .common-parts .last .1 .1 .0) (o .common-parts .kept .1 .1 .0)
+    let at-clear = c .before in
+    let at-common-parts = at-clear .before .before .before .before .before in
+    let at-loop = at-common-parts .before .before .before .before .before in
+    at-clear .clear .kept .0 ∙ fold-long (at-loop .loop .inv) (at-common-parts .common-parts .last .1 .1 .0) (at-common-parts .common-parts .kept .1 .1 .0)
 
 returns : tie.Need-returns Inv-loop μ-loop
 returns c =
-    let o = c .before .before .before .before .before .before in
-    let e = fold-long (o .before .before .before .before .before .loop .inv) (o .common-parts .last .1 .1 .0) (o .common-parts .kept .1 .1 .0) in
-    (turn o .full 1 (ap once (c .before .before .before .enum-told .given .1)), c .before .clear .ensures ∙ ap (λ (n : ℕ). replicate n (pos 0)) e)
+    let at-clear = c .before in
+    let at-enum-told = at-clear .before .before in
+    let at-common-parts = at-enum-told .before .before .before in
+    let at-loop = at-common-parts .before .before .before .before .before in
+    let e = fold-long (at-loop .loop .inv) (at-common-parts .common-parts .last .1 .1 .0) (at-common-parts .common-parts .kept .1 .1 .0) in
+    (turn at-common-parts .full 1 (ap once (at-enum-told .enum-told .given .1)), at-clear .clear .ensures ∙ ap (λ (n : ℕ). replicate n (pos 0)) e)
 
 add-k : tie.Need-add-k Inv-loop μ-loop
 add-k c =
-    let o = c .before .before .before .before in
-    let l = o .before .before .before .before .before in
-    let h = l .loop .inv in
-    omega (arith, turn o .fits _ 1 (ap once (c .before .f .given .1)), h .within, h .wide, l .before .good .1 .1 .0)
+    let at-f = c .before in
+    let at-common-parts = at-f .before .before .before in
+    let at-loop = at-common-parts .before .before .before .before .before in
+    let at-start = at-loop .before in
+    let h = at-loop .loop .inv in
+    omega (arith, turn at-common-parts .fits _ 1 (ap once (at-f .f .given .1)), h .within, h .wide, at-start .good .1 .1 .0)
 
 add-i : tie.Need-add-i Inv-loop μ-loop
 add-i c =
-    let l = c .before .before .before .before .before .before .before .before in
-    omega (arith, l .loop-test .taken, l .before .before .good .1 .0)
+    let at-loop-test = c .before .before .before .before .before .before .before .before in
+    let at-start = at-loop-test .before .before in
+    omega (arith, at-loop-test .loop-test .taken, at-start .good .1 .0)
 
 loop-again : tie.Need-loop-again Inv-loop μ-loop
 loop-again c =
-    turn (c .before .before .before .before) .keeps _ 1 (ap once (c .before .f .given .1))
+    let at-f = c .before in
+    let at-common-parts = at-f .before .before .before in
+    turn at-common-parts .keeps _ 1 (ap once (at-f .f .given .1))
 
 same-length-2 : tie.Need-same-length-2 Inv-loop μ-loop
 same-length-2 c =

@@ -12,10 +12,10 @@ use Rattle.intersection_code.proofs.common_parts.Tie as tie
 
 returns-2 : tie.Need-returns-2
 returns-2 c =
-    let s = c .before .before in
-    let a = s .args in
+    let at-start = c .before .before in
+    let a = at-start .args in
     let e = common-apart (a .a .shape) (a .b .shape) (sym (c .before .overlapping .ensures) ∙ c .if1 .left) in
-    subst (λ (ts : List Trapezoid). FilledAs (length (a .out .now)) (a .room) ts (Written 0) (a .out .now)) (sym e) (fill-nothing (a .out .now) (a .room) (s .pre .1))
+    subst (λ (ts : List Trapezoid). FilledAs (length (a .out .now)) (a .room) ts (Written 0) (a .out .now)) (sym e) (fill-nothing (a .out .now) (a .room) (at-start .pre .1))
 
 pub common-parts-spec : {M : Type 1} → statement M
 common-parts-spec =

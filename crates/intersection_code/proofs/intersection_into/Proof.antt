@@ -8,10 +8,10 @@ use borrow.Author.Needs.{needs}
 use Rattle.records.specs.Limits.{maxRecords}
 use Rattle.geometry.specs.Trapezoids.{layerOf}
 use Rattle.boolean.specs.Operations.{intersection}
-use Rattle.boolean.specs.Space.{intersectionMarks}
+use Rattle.boolean.specs.Space.{intersectionStages}
 use Rattle.trapezoids_code.proofs.Placed.{placed-own}
 use Rattle.remainder_code.specs.Code.{OverlaysWithin}
-use Rattle.remainder_code.proofs.Answers.{within-short, within-done}
+use Rattle.remainder_code.proofs.Answers.{within-no-room, within-done}
 use Rattle.remainder_code.proofs.Folding.{Folding, blank-start, fold-words, fold-stop, fold-borrowed, fold-long, fold-fit, Turned, fold-turn}
 use Rattle.intersection_code.proofs.Folds.{common-few, intersectionFold, intersection-steps, intersection-part}
 use Rattle.intersection_code.proofs.intersection_into.Statement.{statement}
@@ -19,7 +19,7 @@ use Rattle.intersection_code.proofs.intersection_into.Tie as tie
 
 abbrev Inv-loop : tie.InvT-loop
 Inv-loop first second out₀ room n k₀ cuts₀ i₀ out k overlays i =
-    Folding (intersectionFold (layerOf second)) (length out₀) room (intersection (layerOf first) (layerOf second)) (intersectionMarks 0 (layerOf first) (layerOf second)) first out k overlays i
+    Folding (intersectionFold (layerOf second)) (length out₀) room (intersection (layerOf first) (layerOf second)) (intersectionStages 0 (layerOf first) (layerOf second)) first out k overlays i
     × (overlays ≤ maxRecords * i)
 
 abbrev μ-loop : tie.MeasureT-loop
@@ -41,11 +41,15 @@ place-requires c κs =
 
 mul-common-into : tie.Need-mul-common-into Inv-loop μ-loop
 mul-common-into c =
-    omega (arith, fold-words (c .before .before .before .loop .inv .0), c .before .before .before .before .good .1 .1 .0)
+    let at-loop = c .before .before .before in
+    let at-start = at-loop .before in
+    omega (arith, fold-words (at-loop .loop .inv .0), at-start .good .1 .1 .0)
 
 mul-common-into-2 : tie.Need-mul-common-into-2 Inv-loop μ-loop
 mul-common-into-2 c =
-    omega (arith, fold-words (c .before .before .before .loop .inv .0), c .before .before .before .before .good .1 .1 .0)
+    let at-loop = c .before .before .before in
+    let at-start = at-loop .before in
+    omega (arith, fold-words (at-loop .loop .inv .0), at-start .good .1 .1 .0)
 
 sub-common-into : tie.Need-sub-common-into Inv-loop μ-loop
 sub-common-into c =
@@ -57,76 +61,98 @@ part-common-into-end c =
 
 sub-common-into-2 : tie.Need-sub-common-into-2 Inv-loop μ-loop
 sub-common-into-2 c =
-    omega (arith, c .before .before .before .before .loop .inv .0 .within)
+    let at-loop = c .before .before .before .before in
+    omega (arith, at-loop .loop .inv .0 .within)
 
 common-into-requires : tie.Need-common-into-requires Inv-loop μ-loop
 common-into-requires c κs =
-    let l = c .before .before .before .before in
-    let h = l .loop .inv .0 in
-    (l .before .pre .1 .fit, (placed-own (c .before .place .ensures), fold-borrowed h _ (omega (arith, h .within))))
+    let at-place = c .before in
+    let at-loop = at-place .before .before .before in
+    let at-start = at-loop .before in
+    let h = at-loop .loop .inv .0 in
+    (at-start .pre .1 .fit, (placed-own (at-place .place .ensures), fold-borrowed h _ (omega (arith, h .within))))
 
 -- the parts common to number i and the second layer
 turn : (o : tie.After-common-into Inv-loop μ-loop)
-    → let l = o .before .before .before .before .before in
-    Turned (l .loop .inv .0) (l .before .args .room - l .loop .k) (o .common-into .result) (o .common-into .last .1 .1 .0)
+    → let at-loop = o .before .before .before .before .before in let at-start = at-loop .before in Turned (at-loop .loop .inv .0) (at-start .args .room - at-loop .loop .k) (o .common-into .result) (o .common-into .last .1 .1 .0)
 turn o =
-    let q = o .before .before in
-    let l = q .before .before .before in
-    let h = l .loop .inv .0 in
-    let a = q .place .result .shape in
+    let at-place = o .before .before in
+    let at-load = at-place .before in
+    let at-loop-test = at-load .before in
+    let at-loop = at-loop-test .before in
+    let at-start = at-loop .before in
+    let h = at-loop .loop .inv .0 in
+    let a = at-place .place .result .shape in
     let f = o .common-into in
-    fold-turn h (q .before .before .loop-test .taken) a (q .place .ensures .shape ∙ q .before .load .ensures)
-    (intersection-part (layerOf (l .before .args .second .now)) a (h .size) (h .within)) (f .result) (f .last .1 .1 .0) (f .ensures)
+    fold-turn h (at-loop-test .loop-test .taken) a (at-place .place .ensures .shape ∙ at-load .load .ensures)
+    (intersection-part (layerOf (at-start .args .second .now)) a (h .size) (h .within)) (f .result) (f .last .1 .1 .0) (f .ensures)
 
 few : (o : tie.After-common-into Inv-loop μ-loop) → OverlaysWithin maxRecords (o .common-into .result)
 few o =
-    let s = o .before .before .before .before .before .before in
+    let at-place = o .before .before in
+    let at-start = at-place .before .before .before .before in
     let f = o .common-into in
-    common-few (o .before .before .place .result .shape) (s .args .second .now) (s .pre .1 .few) _ _ (f .result) (f .last .1 .1 .0) (f .ensures)
+    common-few (at-place .place .result .shape) (at-start .args .second .now) (at-start .pre .1 .few) _ _ (f .result) (f .last .1 .1 .0) (f .ensures)
 
 add-t27 : tie.Need-add-t27 Inv-loop μ-loop
 add-t27 c =
-    let o = c .before .before .before .before .before .before .before in
-    let l = o .before .before .before .before .before in
-    let u = within-short maxRecords _ (o .common-into .result) (c .before .before .before .before .f .given .1) (few o) in
-    omega (arith, u, l .loop .inv .1, o .before .before .before .before .loop-test .taken, l .before .pre .0 .few)
+    let at-f = c .before .before .before .before in
+    let at-common-into = at-f .before .before .before in
+    let at-loop-test = at-common-into .before .before .before .before in
+    let at-loop = at-loop-test .before in
+    let at-start = at-loop .before in
+    let u = within-no-room maxRecords _ (at-common-into .common-into .result) (at-f .f .given .1) (few at-common-into) in
+    omega (arith, u, at-loop .loop .inv .1, at-loop-test .loop-test .taken, at-start .pre .0 .few)
 
 same-length : tie.Need-same-length Inv-loop μ-loop
 same-length c =
-    let o = c .before .before .before .before .before .before .before in
-    c .before .clear .kept .0 ∙ fold-long (o .before .before .before .before .before .loop .inv .0) (o .common-into .last .1 .1 .0) (o .common-into .kept .1 .1 .0)
+    let at-clear = c .before in
+    let at-common-into = at-clear .before .before .before .before .before .before in
+    let at-loop = at-common-into .before .before .before .before .before in
+    at-clear .clear .kept .0 ∙ fold-long (at-loop .loop .inv .0) (at-common-into .common-into .last .1 .1 .0) (at-common-into .common-into .kept .1 .1 .0)
 
 returns : tie.Need-returns Inv-loop μ-loop
 returns c =
-    let o = c .before .before .before .before .before .before .before in
-    let l = o .before .before .before .before .before in
-    let g = c .before .before .before .before .f .given .1 in
-    let u = within-short maxRecords _ (o .common-into .result) g (few o) in
-    let e = fold-long (l .loop .inv .0) (o .common-into .last .1 .1 .0) (o .common-into .kept .1 .1 .0) in (
-      (turn o .full _ g, c .before .clear .ensures ∙ ap (λ (n : ℕ). replicate n (pos 0)) e),
-      omega (arith, u, l .loop .inv .1, o .before .before .before .before .loop-test .taken, l .before .pre .0 .few),
+    let at-clear = c .before in
+    let at-f = at-clear .before .before .before in
+    let at-common-into = at-f .before .before .before in
+    let at-loop-test = at-common-into .before .before .before .before in
+    let at-loop = at-loop-test .before in
+    let at-start = at-loop .before in
+    let g = at-f .f .given .1 in
+    let u = within-no-room maxRecords _ (at-common-into .common-into .result) g (few at-common-into) in
+    let e = fold-long (at-loop .loop .inv .0) (at-common-into .common-into .last .1 .1 .0) (at-common-into .common-into .kept .1 .1 .0) in (
+      (turn at-common-into .full _ g, at-clear .clear .ensures ∙ ap (λ (n : ℕ). replicate n (pos 0)) e),
+      omega (arith, u, at-loop .loop .inv .1, at-loop-test .loop-test .taken, at-start .pre .0 .few),
     )
 
 add-k : tie.Need-add-k Inv-loop μ-loop
 add-k c =
-    let o = c .before .before .before .before in
-    let l = o .before .before .before .before .before in
-    let h = l .loop .inv .0 in
-    omega (arith, turn o .fits _ _ (c .before .f2 .given .1), h .within, h .wide, l .before .good .1 .1 .0)
+    let at-f2 = c .before in
+    let at-common-into = at-f2 .before .before .before in
+    let at-loop = at-common-into .before .before .before .before .before in
+    let at-start = at-loop .before in
+    let h = at-loop .loop .inv .0 in
+    omega (arith, turn at-common-into .fits _ _ (at-f2 .f2 .given .1), h .within, h .wide, at-start .good .1 .1 .0)
 
 add-overlays : tie.Need-add-overlays Inv-loop μ-loop
 add-overlays c =
-    let o = c .before .before .before .before in
-    let l = o .before .before .before .before .before in
-    let u = within-done maxRecords _ _ (o .common-into .result) (c .before .f2 .given .1) (few o) in
-    omega (arith, u, l .loop .inv .1, o .before .before .before .before .loop-test .taken, l .before .pre .0 .few)
+    let at-f2 = c .before in
+    let at-common-into = at-f2 .before .before .before in
+    let at-loop-test = at-common-into .before .before .before .before in
+    let at-loop = at-loop-test .before in
+    let at-start = at-loop .before in
+    let u = within-done maxRecords _ _ (at-common-into .common-into .result) (at-f2 .f2 .given .1) (few at-common-into) in
+    omega (arith, u, at-loop .loop .inv .1, at-loop-test .loop-test .taken, at-start .pre .0 .few)
 
 loop-again : tie.Need-loop-again Inv-loop μ-loop
 loop-again c =
-    let o = c .before .before .before .before in
-    let g = c .before .f2 .given .1 in
-    let u = within-done maxRecords _ _ (o .common-into .result) g (few o) in
-    (turn o .keeps _ _ g, omega (arith, u, o .before .before .before .before .before .loop .inv .1))
+    let at-f2 = c .before in
+    let at-common-into = at-f2 .before .before .before in
+    let at-loop = at-common-into .before .before .before .before .before in
+    let g = at-f2 .f2 .given .1 in
+    let u = within-done maxRecords _ _ (at-common-into .common-into .result) g (few at-common-into) in
+    (turn at-common-into .keeps _ _ g, omega (arith, u, at-loop .loop .inv .1))
 
 same-length-2 : tie.Need-same-length-2 Inv-loop μ-loop
 same-length-2 c =

@@ -10,7 +10,8 @@ slice-aggregate-a c = sym (length-take-le 12288 (c .before .args .squares .now) 
 
 slice-aggregate-equals : tie.Need-slice-aggregate-equals
 slice-aggregate-equals c =
-    sym (length-take-le 12264 (c .before .before .before .before .before .before .args .squares .now) (omega arith))
+    let at-start = c .before .before .before .before .before .before in
+    sym (length-take-le 12264 (at-start .args .squares .now) (omega arith))
 
 pub layers-spec : {M : Type 1} → statement M
 layers-spec =

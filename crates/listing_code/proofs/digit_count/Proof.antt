@@ -1,3 +1,4 @@
+-- Before each turn: `count` and the number of digits of `rest` are together one more than the number of digits of n; `count` is at most 20.
 use native.Mathlib.Omega.{arith}
 use borrow.Author.Needs.{needs}
 use Rattle.listing_code.proofs.Spelling.{Counted, count-start, count-turn, count-stop}

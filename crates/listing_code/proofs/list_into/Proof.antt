@@ -8,29 +8,29 @@ use Rattle.listing_code.proofs.list_into.Tie as tie
 
 put-head-requires : tie.Need-put-head-requires
 put-head-requires c κs =
-    let x = c .before .before in
-    omega (arith, head-length (x .args .n) (x .pre .1), x .pre .2)
+    let at-start = c .before .before in
+    omega (arith, head-length (at-start .args .n) (at-start .pre .1), at-start .pre .2)
 
 put-lines-requires : tie.Need-put-lines-requires
 put-lines-requires c κs =
-    let t = c .before .before .before in
-    let x = t .before .before .before in
-    let n = x .args .n in
-    let s = x .args .words .now in
-    let l = head-length n (x .pre .1) in
-    let k = onward (headLine n) (linesFrom n s 0) (set-out (x .args .out .now) 0 (listing n s)) (listing-is n s) (omega (arith, l, x .pre .2)) (t .put-head .ensures) in
-    (x .pre .0, omega (arith, k .long, t .put-head .ensures .0, l, x .pre .1, x .pre .2))
+    let at-put-head = c .before .before .before in
+    let at-start = at-put-head .before .before .before in
+    let n = at-start .args .n in
+    let s = at-start .args .words .now in
+    let l = head-length n (at-start .pre .1) in
+    let k = onward (headLine n) (linesFrom n s 0) (set-out (at-start .args .out .now) 0 (listing n s)) (listing-is n s) (omega (arith, l, at-start .pre .2)) (at-put-head .put-head .ensures) in
+    (at-start .pre .0, omega (arith, k .long, at-put-head .put-head .ensures .0, l, at-start .pre .1, at-start .pre .2))
 
 returns : tie.Need-returns
 returns c =
-    let b = c .before .before in
-    let t = b .before .before .before .before in
-    let x = t .before .before .before in
-    let n = x .args .n in
-    let s = x .args .words .now in
-    let l = head-length n (x .pre .1) in
-    let k = onward (headLine n) (linesFrom n s 0) (set-out (x .args .out .now) 0 (listing n s)) (listing-is n s) (omega (arith, l, x .pre .2)) (t .put-head .ensures) in
-    from-first (x .args .out .now) (listing n s) (at-last k (b .put-lines .ensures))
+    let at-put-lines = c .before .before in
+    let at-put-head = at-put-lines .before .before .before .before in
+    let at-start = at-put-head .before .before .before in
+    let n = at-start .args .n in
+    let s = at-start .args .words .now in
+    let l = head-length n (at-start .pre .1) in
+    let k = onward (headLine n) (linesFrom n s 0) (set-out (at-start .args .out .now) 0 (listing n s)) (listing-is n s) (omega (arith, l, at-start .pre .2)) (at-put-head .put-head .ensures) in
+    from-first (at-start .args .out .now) (listing n s) (at-last k (at-put-lines .put-lines .ensures))
 
 pub list-into-spec : {M : Type 1} → statement M
 list-into-spec = tie.close (tie.spec put-head-requires put-lines-requires (λ c. search needs) returns)

@@ -5,20 +5,20 @@ use Rattle.listing_code.proofs.magnitude.Tie as tie
 
 cast-result : tie.Need-cast-result
 cast-result c =
-    let n = c .before .before in
-    let i = n .before in
-    let l = i .before in
-    let o = l .before in
-    let x = o .before in
-    negative-cast (x .args .a .v) (n .neg .result .v) (x .pre) (tested (x .args .a .v) (o .of .result .v) (o .of .ensures .0) (l .less .ensures) (i .if1 .taken)) (n .neg .ensures .0)
+    let at-neg = c .before .before in
+    let at-if1 = at-neg .before in
+    let at-less = at-if1 .before in
+    let at-of = at-less .before in
+    let at-start = at-of .before in
+    negative-cast (at-start .args .a .v) (at-neg .neg .result .v) (at-start .pre) (tested (at-start .args .a .v) (at-of .of .result .v) (at-of .of .ensures .0) (at-less .less .ensures) (at-if1 .if1 .taken)) (at-neg .neg .ensures .0)
 
 cast-result-2 : tie.Need-cast-result-2
 cast-result-2 c =
-    let i = c .before .before in
-    let l = i .before in
-    let o = l .before in
-    let x = o .before in
-    natural-cast (x .args .a .v) (x .pre) (tested (x .args .a .v) (o .of .result .v) (o .of .ensures .0) (l .less .ensures) (i .if1 .left))
+    let at-if1 = c .before .before in
+    let at-less = at-if1 .before in
+    let at-of = at-less .before in
+    let at-start = at-of .before in
+    natural-cast (at-start .args .a .v) (at-start .pre) (tested (at-start .args .a .v) (at-of .of .result .v) (at-of .of .ensures .0) (at-less .less .ensures) (at-if1 .if1 .left))
 
 pub magnitude-spec : {M : Type 1} → statement M
 magnitude-spec =

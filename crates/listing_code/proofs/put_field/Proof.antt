@@ -12,67 +12,67 @@ use Rattle.listing_code.proofs.put_field.Tie as tie
 
 put-word-requires : tie.Need-put-word-requires
 put-word-requires c κs =
-    let g = c .before in
-    let x = g .before .before in
-    let s = x .args .words .now in
-    let f = field-length s (x .args .j) (x .args .end) (g .get .result .v) (g .get .ensures .0) (g .get .ensures .1) in
-    let h = begin (x .args .out .now) (x .args .at) (field s (x .args .j) (x .args .end)) (omega (arith, f, x .pre .2)) in
-    (g .get .ensures .1, room-of (decimalWord (g .get .result .v)) (separator (slice (x .args .j + 1) (x .args .end) s) ∷ []) h (field-is s (x .args .j) (x .args .end) (g .get .result .v) _ (g .get .ensures .0) refl))
+    let at-get = c .before in
+    let at-start = at-get .before .before in
+    let s = at-start .args .words .now in
+    let f = field-length s (at-start .args .j) (at-start .args .end) (at-get .get .result .v) (at-get .get .ensures .0) (at-get .get .ensures .1) in
+    let h = begin (at-start .args .out .now) (at-start .args .at) (field s (at-start .args .j) (at-start .args .end)) (omega (arith, f, at-start .pre .2)) in
+    (at-get .get .ensures .1, room-of (decimalWord (at-get .get .result .v)) (separator (slice (at-start .args .j + 1) (at-start .args .end) s) ∷ []) h (field-is s (at-start .args .j) (at-start .args .end) (at-get .get .result .v) _ (at-get .get .ensures .0) refl))
 
 put-byte-requires : tie.Need-put-byte-requires
 put-byte-requires c κs =
-    let i = c .before in
-    let w = i .before .before .before in
-    let g = w .before .before in
-    let x = g .before .before in
-    let s = x .args .words .now in
-    let f = field-length s (x .args .j) (x .args .end) (g .get .result .v) (g .get .ensures .0) (g .get .ensures .1) in
-    let h = begin (x .args .out .now) (x .args .at) (field s (x .args .j) (x .args .end)) (omega (arith, f, x .pre .2)) in
-    let e = field-is s (x .args .j) (x .args .end) (g .get .result .v) 32 (g .get .ensures .0) (blank-after s (x .args .j) (x .args .end) (i .if1 .taken) (x .pre .1)) in
-    let k = further (decimalWord (g .get .result .v)) (32 ∷ []) h e (w .put-word .ensures) in
+    let at-if1 = c .before in
+    let at-put-word = at-if1 .before .before .before in
+    let at-get = at-put-word .before .before in
+    let at-start = at-get .before .before in
+    let s = at-start .args .words .now in
+    let f = field-length s (at-start .args .j) (at-start .args .end) (at-get .get .result .v) (at-get .get .ensures .0) (at-get .get .ensures .1) in
+    let h = begin (at-start .args .out .now) (at-start .args .at) (field s (at-start .args .j) (at-start .args .end)) (omega (arith, f, at-start .pre .2)) in
+    let e = field-is s (at-start .args .j) (at-start .args .end) (at-get .get .result .v) 32 (at-get .get .ensures .0) (blank-after s (at-start .args .j) (at-start .args .end) (at-if1 .if1 .taken) (at-start .pre .1)) in
+    let k = further (decimalWord (at-get .get .result .v)) (32 ∷ []) h e (at-put-word .put-word .ensures) in
     room-last k
 
 returns : tie.Need-returns
 returns c =
-    let b = c .before .before in
-    let i = b .before .before in
-    let w = i .before .before .before in
-    let g = w .before .before in
-    let x = g .before .before in
-    let s = x .args .words .now in
-    let f = field-length s (x .args .j) (x .args .end) (g .get .result .v) (g .get .ensures .0) (g .get .ensures .1) in
-    let h = begin (x .args .out .now) (x .args .at) (field s (x .args .j) (x .args .end)) (omega (arith, f, x .pre .2)) in
-    let e = field-is s (x .args .j) (x .args .end) (g .get .result .v) 32 (g .get .ensures .0) (blank-after s (x .args .j) (x .args .end) (i .if1 .taken) (x .pre .1)) in
-    let k = further (decimalWord (g .get .result .v)) (32 ∷ []) h e (w .put-word .ensures) in
-    let w = complete k (b .put-byte .ensures) in
+    let at-put-byte = c .before .before in
+    let at-if1 = at-put-byte .before .before in
+    let at-put-word = at-if1 .before .before .before in
+    let at-get = at-put-word .before .before in
+    let at-start = at-get .before .before in
+    let s = at-start .args .words .now in
+    let f = field-length s (at-start .args .j) (at-start .args .end) (at-get .get .result .v) (at-get .get .ensures .0) (at-get .get .ensures .1) in
+    let h = begin (at-start .args .out .now) (at-start .args .at) (field s (at-start .args .j) (at-start .args .end)) (omega (arith, f, at-start .pre .2)) in
+    let e = field-is s (at-start .args .j) (at-start .args .end) (at-get .get .result .v) 32 (at-get .get .ensures .0) (blank-after s (at-start .args .j) (at-start .args .end) (at-if1 .if1 .taken) (at-start .pre .1)) in
+    let k = further (decimalWord (at-get .get .result .v)) (32 ∷ []) h e (at-put-word .put-word .ensures) in
+    let w = complete k (at-put-byte .put-byte .ensures) in
     (w, omega (arith, w .0, f))
 
 put-byte-requires-2 : tie.Need-put-byte-requires-2
 put-byte-requires-2 c κs =
-    let i = c .before in
-    let w = i .before .before .before in
-    let g = w .before .before in
-    let x = g .before .before in
-    let s = x .args .words .now in
-    let f = field-length s (x .args .j) (x .args .end) (g .get .result .v) (g .get .ensures .0) (g .get .ensures .1) in
-    let h = begin (x .args .out .now) (x .args .at) (field s (x .args .j) (x .args .end)) (omega (arith, f, x .pre .2)) in
-    let e = field-is s (x .args .j) (x .args .end) (g .get .result .v) 10 (g .get .ensures .0) (newline-after s (x .args .j) (x .args .end) (x .pre .0) (i .if1 .left)) in
-    let k = further (decimalWord (g .get .result .v)) (10 ∷ []) h e (w .put-word .ensures) in
+    let at-if1 = c .before in
+    let at-put-word = at-if1 .before .before .before in
+    let at-get = at-put-word .before .before in
+    let at-start = at-get .before .before in
+    let s = at-start .args .words .now in
+    let f = field-length s (at-start .args .j) (at-start .args .end) (at-get .get .result .v) (at-get .get .ensures .0) (at-get .get .ensures .1) in
+    let h = begin (at-start .args .out .now) (at-start .args .at) (field s (at-start .args .j) (at-start .args .end)) (omega (arith, f, at-start .pre .2)) in
+    let e = field-is s (at-start .args .j) (at-start .args .end) (at-get .get .result .v) 10 (at-get .get .ensures .0) (newline-after s (at-start .args .j) (at-start .args .end) (at-start .pre .0) (at-if1 .if1 .left)) in
+    let k = further (decimalWord (at-get .get .result .v)) (10 ∷ []) h e (at-put-word .put-word .ensures) in
     room-last k
 
 returns-2 : tie.Need-returns-2
 returns-2 c =
-    let b = c .before .before in
-    let i = b .before .before in
-    let w = i .before .before .before in
-    let g = w .before .before in
-    let x = g .before .before in
-    let s = x .args .words .now in
-    let f = field-length s (x .args .j) (x .args .end) (g .get .result .v) (g .get .ensures .0) (g .get .ensures .1) in
-    let h = begin (x .args .out .now) (x .args .at) (field s (x .args .j) (x .args .end)) (omega (arith, f, x .pre .2)) in
-    let e = field-is s (x .args .j) (x .args .end) (g .get .result .v) 10 (g .get .ensures .0) (newline-after s (x .args .j) (x .args .end) (x .pre .0) (i .if1 .left)) in
-    let k = further (decimalWord (g .get .result .v)) (10 ∷ []) h e (w .put-word .ensures) in
-    let w = complete k (b .put-byte2 .ensures) in
+    let at-put-byte2 = c .before .before in
+    let at-if1 = at-put-byte2 .before .before in
+    let at-put-word = at-if1 .before .before .before in
+    let at-get = at-put-word .before .before in
+    let at-start = at-get .before .before in
+    let s = at-start .args .words .now in
+    let f = field-length s (at-start .args .j) (at-start .args .end) (at-get .get .result .v) (at-get .get .ensures .0) (at-get .get .ensures .1) in
+    let h = begin (at-start .args .out .now) (at-start .args .at) (field s (at-start .args .j) (at-start .args .end)) (omega (arith, f, at-start .pre .2)) in
+    let e = field-is s (at-start .args .j) (at-start .args .end) (at-get .get .result .v) 10 (at-get .get .ensures .0) (newline-after s (at-start .args .j) (at-start .args .end) (at-start .pre .0) (at-if1 .if1 .left)) in
+    let k = further (decimalWord (at-get .get .result .v)) (10 ∷ []) h e (at-put-word .put-word .ensures) in
+    let w = complete k (at-put-byte2 .put-byte2 .ensures) in
     (w, omega (arith, w .0, f))
 
 pub put-field-spec : {M : Type 1} → statement M

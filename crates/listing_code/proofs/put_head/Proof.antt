@@ -8,24 +8,24 @@ use Rattle.listing_code.proofs.put_head.Tie as tie
 
 put-numbered-requires : tie.Need-put-numbered-requires
 put-numbered-requires c κs =
-    let x = c .before .before .before in
-    let h = begin (x .args .out .now) (x .args .at) (headLine (x .args .n)) (x .pre) in
-    room-of (numbered piecesText (x .args .n)) (10 ∷ []) h refl
+    let at-start = c .before .before .before in
+    let h = begin (at-start .args .out .now) (at-start .args .at) (headLine (at-start .args .n)) (at-start .pre) in
+    room-of (numbered piecesText (at-start .args .n)) (10 ∷ []) h refl
 
 put-byte-requires : tie.Need-put-byte-requires
 put-byte-requires c κs =
-    let t = c .before .before .before in
-    let x = t .before .before .before .before in
-    let h = begin (x .args .out .now) (x .args .at) (headLine (x .args .n)) (x .pre) in
-    room-last (further (numbered piecesText (x .args .n)) (10 ∷ []) h refl (t .put-numbered .ensures))
+    let at-put-numbered = c .before .before .before in
+    let at-start = at-put-numbered .before .before .before .before in
+    let h = begin (at-start .args .out .now) (at-start .args .at) (headLine (at-start .args .n)) (at-start .pre) in
+    room-last (further (numbered piecesText (at-start .args .n)) (10 ∷ []) h refl (at-put-numbered .put-numbered .ensures))
 
 returns : tie.Need-returns
 returns c =
-    let b = c .before .before in
-    let t = b .before .before .before .before in
-    let x = t .before .before .before .before in
-    let h = begin (x .args .out .now) (x .args .at) (headLine (x .args .n)) (x .pre) in
-    complete (further (numbered piecesText (x .args .n)) (10 ∷ []) h refl (t .put-numbered .ensures)) (b .put-byte .ensures)
+    let at-put-byte = c .before .before in
+    let at-put-numbered = at-put-byte .before .before .before .before in
+    let at-start = at-put-numbered .before .before .before .before in
+    let h = begin (at-start .args .out .now) (at-start .args .at) (headLine (at-start .args .n)) (at-start .pre) in
+    complete (further (numbered piecesText (at-start .args .n)) (10 ∷ []) h refl (at-put-numbered .put-numbered .ensures)) (at-put-byte .put-byte .ensures)
 
 pub put-head-spec : {M : Type 1} → statement M
 put-head-spec =

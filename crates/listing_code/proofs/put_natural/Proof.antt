@@ -1,3 +1,4 @@
+-- Before each turn: the digits of `rest`, written at `at`, complete those of n; the last of them goes to i, and those of n end at `end`.
 use mathlib.Core.Path.{_≡_, refl, _∙_, ap}
 use Prim.Native.Nat.{ℕ, _+_}
 use native.Mathlib.Omega.{arith}
@@ -20,9 +21,9 @@ sub-i c = omega (arith, c .digit-count .ensures, length-some (c .before .before 
 
 loop-holds : tie.Need-loop-holds Inv-loop μ-loop
 loop-holds c =
-    let s = c .before .before in
+    let at-start = c .before .before in
     let e = c .digit-count .ensures in
-    (spell-start (s .args .n) (s .args .out .now) (s .args .at) _ (s .pre) (omega (arith, e, length-some (s .args .n))), ap (λ (k : ℕ). s .args .at + k) e)
+    (spell-start (at-start .args .n) (at-start .args .out .now) (at-start .args .at) _ (at-start .pre) (omega (arith, e, length-some (at-start .args .n))), ap (λ (k : ℕ). at-start .args .at + k) e)
 
 slice-write-out : tie.Need-slice-write-out Inv-loop μ-loop
 slice-write-out c = c .before .loop .inv .0 .room

@@ -8,44 +8,44 @@ use Rattle.listing_code.proofs.put_refusal.Tie as tie
 
 put-numbered-requires : tie.Need-put-numbered-requires
 put-numbered-requires c κs =
-    let x = c .before .before .before in
-    let number = x .args .number in
-    let place = x .args .place in
-    let h = begin (x .args .out .now) (x .args .at) (refusalLine number place) (x .pre) in
+    let at-start = c .before .before .before in
+    let number = at-start .args .number in
+    let place = at-start .args .place in
+    let h = begin (at-start .args .out .now) (at-start .args .at) (refusalLine number place) (at-start .pre) in
     room-of (numbered refusedText number) (numbered placeText place ++ (10 ∷ [])) h refl
 
 put-numbered-requires-2 : tie.Need-put-numbered-requires-2
 put-numbered-requires-2 c κs =
-    let t = c .before .before .before .before in
-    let x = t .before .before .before .before in
-    let number = x .args .number in
-    let place = x .args .place in
-    let h = begin (x .args .out .now) (x .args .at) (refusalLine number place) (x .pre) in
-    let k = further (numbered refusedText number) (numbered placeText place ++ (10 ∷ [])) h refl (t .put-numbered .ensures) in
+    let at-put-numbered = c .before .before .before .before in
+    let at-start = at-put-numbered .before .before .before .before in
+    let number = at-start .args .number in
+    let place = at-start .args .place in
+    let h = begin (at-start .args .out .now) (at-start .args .at) (refusalLine number place) (at-start .pre) in
+    let k = further (numbered refusedText number) (numbered placeText place ++ (10 ∷ [])) h refl (at-put-numbered .put-numbered .ensures) in
     room-of (numbered placeText place) (10 ∷ []) k refl
 
 put-byte-requires : tie.Need-put-byte-requires
 put-byte-requires c κs =
-    let u = c .before .before .before in
-    let t = u .before .before .before .before .before in
-    let x = t .before .before .before .before in
-    let number = x .args .number in
-    let place = x .args .place in
-    let h = begin (x .args .out .now) (x .args .at) (refusalLine number place) (x .pre) in
-    let k = further (numbered refusedText number) (numbered placeText place ++ (10 ∷ [])) h refl (t .put-numbered .ensures) in
-    room-last (further (numbered placeText place) (10 ∷ []) k refl (u .put-numbered2 .ensures))
+    let at-put-numbered2 = c .before .before .before in
+    let at-put-numbered = at-put-numbered2 .before .before .before .before .before in
+    let at-start = at-put-numbered .before .before .before .before in
+    let number = at-start .args .number in
+    let place = at-start .args .place in
+    let h = begin (at-start .args .out .now) (at-start .args .at) (refusalLine number place) (at-start .pre) in
+    let k = further (numbered refusedText number) (numbered placeText place ++ (10 ∷ [])) h refl (at-put-numbered .put-numbered .ensures) in
+    room-last (further (numbered placeText place) (10 ∷ []) k refl (at-put-numbered2 .put-numbered2 .ensures))
 
 returns : tie.Need-returns
 returns c =
-    let b = c .before .before in
-    let u = b .before .before .before .before in
-    let t = u .before .before .before .before .before in
-    let x = t .before .before .before .before in
-    let number = x .args .number in
-    let place = x .args .place in
-    let h = begin (x .args .out .now) (x .args .at) (refusalLine number place) (x .pre) in
-    let k = further (numbered refusedText number) (numbered placeText place ++ (10 ∷ [])) h refl (t .put-numbered .ensures) in
-    complete (further (numbered placeText place) (10 ∷ []) k refl (u .put-numbered2 .ensures)) (b .put-byte .ensures)
+    let at-put-byte = c .before .before in
+    let at-put-numbered2 = at-put-byte .before .before .before .before in
+    let at-put-numbered = at-put-numbered2 .before .before .before .before .before in
+    let at-start = at-put-numbered .before .before .before .before in
+    let number = at-start .args .number in
+    let place = at-start .args .place in
+    let h = begin (at-start .args .out .now) (at-start .args .at) (refusalLine number place) (at-start .pre) in
+    let k = further (numbered refusedText number) (numbered placeText place ++ (10 ∷ [])) h refl (at-put-numbered .put-numbered .ensures) in
+    complete (further (numbered placeText place) (10 ∷ []) k refl (at-put-numbered2 .put-numbered2 .ensures)) (at-put-byte .put-byte .ensures)
 
 pub put-refusal-spec : {M : Type 1} → statement M
 put-refusal-spec =

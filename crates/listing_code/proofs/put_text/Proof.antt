@@ -1,3 +1,4 @@
+-- Before turn i: the text's bytes from number i on, written at `next`, complete the text at `at`, and there is room for all of it.
 use mathlib.Core.List.{[], _∷_}
 use Prim.Native.Nat.{_+_, _-_, _≤_}
 use native.Mathlib.Omega.{arith}
@@ -15,32 +16,32 @@ abbrev μ-loop : tie.MeasureT-loop
 
 loop-holds : tie.Need-loop-holds Inv-loop μ-loop
 loop-holds c =
-    let x = c .before .before in
-    (begin (x .args .out .now) (x .args .at) (x .args .text .now) (x .pre), omega arith)
+    let at-start = c .before .before in
+    (begin (at-start .args .out .now) (at-start .args .at) (at-start .args .text .now) (at-start .pre), omega arith)
 
 put-byte-requires : tie.Need-put-byte-requires Inv-loop μ-loop
 put-byte-requires c κs =
-    let t = c .before .before in
-    let l = t .before in
-    let x = l .before .before .before in
-    room-of (getD (x .args .text .now) (l .loop .i) 0 ∷ []) (drop (l .loop .i + 1) (x .args .text .now)) (l .loop .inv .0) (next-byte (x .args .text .now) (l .loop .i) (t .loop-test .taken))
+    let at-loop-test = c .before .before in
+    let at-loop = at-loop-test .before in
+    let at-start = at-loop .before .before .before in
+    room-of (getD (at-start .args .text .now) (at-loop .loop .i) 0 ∷ []) (drop (at-loop .loop .i + 1) (at-start .args .text .now)) (at-loop .loop .inv .0) (next-byte (at-start .args .text .now) (at-loop .loop .i) (at-loop-test .loop-test .taken))
 
 loop-again : tie.Need-loop-again Inv-loop μ-loop
 loop-again c =
-    let b = c .before .before in
-    let t = b .before .before .before in
-    let l = t .before in
-    let x = l .before .before .before in
-    (further (getD (x .args .text .now) (l .loop .i) 0 ∷ []) (drop (l .loop .i + 1) (x .args .text .now)) (l .loop .inv .0) (next-byte (x .args .text .now) (l .loop .i) (t .loop-test .taken)) (b .put-byte .ensures), omega (arith, t .loop-test .taken))
+    let at-put-byte = c .before .before in
+    let at-loop-test = at-put-byte .before .before .before in
+    let at-loop = at-loop-test .before in
+    let at-start = at-loop .before .before .before in
+    (further (getD (at-start .args .text .now) (at-loop .loop .i) 0 ∷ []) (drop (at-loop .loop .i + 1) (at-start .args .text .now)) (at-loop .loop .inv .0) (next-byte (at-start .args .text .now) (at-loop .loop .i) (at-loop-test .loop-test .taken)) (at-put-byte .put-byte .ensures), omega (arith, at-loop-test .loop-test .taken))
 
 same-length : tie.Need-same-length Inv-loop μ-loop
 same-length c = c .before .loop .inv .0 .going .long
 
 returns : tie.Need-returns Inv-loop μ-loop
 returns c =
-    let l = c .before in
-    let x = l .before .before .before in
-    finish (l .loop .inv .0) (drop-of-length-le (x .args .text .now) (c .loop-test .left))
+    let at-loop = c .before in
+    let at-start = at-loop .before .before .before in
+    finish (at-loop .loop .inv .0) (drop-of-length-le (at-start .args .text .now) (c .loop-test .left))
 
 pub put-text-spec : {M : Type 1} → statement M
 put-text-spec =

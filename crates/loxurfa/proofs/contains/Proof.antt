@@ -6,10 +6,13 @@ use Rattle.loxurfa.proofs.contains.Tie as tie
 
 returns : tie.Need-returns
 returns c =
-    let s = c .before .before .before .before in
-    let x = c .before .before .before .widen .ensures .0 ∙ toZ-ofZ (s .fits .x) in
-    let y = c .before .before .widen2 .ensures .0 ∙ toZ-ofZ (s .fits .y) in
-    let d = c .before .widen3 .ensures .0 ∙ toZ-ofZ (s .fits .d) in
+    let at-widen3 = c .before in
+    let at-widen2 = at-widen3 .before in
+    let at-widen = at-widen2 .before in
+    let at-fits = at-widen .before in
+    let x = at-widen .widen .ensures .0 ∙ toZ-ofZ (at-fits .fits .x) in
+    let y = at-widen2 .widen2 .ensures .0 ∙ toZ-ofZ (at-fits .fits .y) in
+    let d = at-widen3 .widen3 .ensures .0 ∙ toZ-ofZ (at-fits .fits .d) in
     (c .contains-at .ensures .0 ∙ rw (x, y, d), c .contains-at .ensures .1)
 
 pub contains-spec : {M : Type 1} → statement M

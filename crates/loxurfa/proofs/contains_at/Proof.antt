@@ -1,15 +1,10 @@
-use mathlib.Core.Path.{_≡_, sym, _∙_, ap}
-use mathlib.Core.Bool.{Bool}
-use native.Mathlib.Omega.{arith}
+use mathlib.Core.Path.{_≡_, sym, _∙_}
 use borrow.Author.Needs.{needs}
 use Rattle.geometry.specs.declared.Checked.the-variants.{Passed}
-use Rattle.geometry.specs.Trapezoids.{layerOf, liesInLayer}
-use Rattle.boolean.specs.Operations.{codeAt, result, says}
 use Rattle.calls.specs.Rows.{plateLimit, containsChecked}
 use Rattle.calls.proofs.Bounds.{point-real}
-use Rattle.calls.proofs.Checks.{ContainsReady, contains-ready, contains-refused, layer-of}
+use Rattle.calls.proofs.Checks.{ContainsReady, contains-ready, contains-refused, layer-of, plate-carried}
 use Rattle.geometry_code.specs.Code.{pointOf}
-use Rattle.boolean_code.proofs.Containing.{result-says}
 use Rattle.rows_code.proofs.Bounds.{point-small}
 use Rattle.loxurfa.proofs.Outcomes.{small-refused, contains-refuses, contains-yes, contains-no}
 use Rattle.loxurfa.proofs.contains_at.Statement.{statement}
@@ -23,60 +18,46 @@ module _ (c : tie.After-enum-told) where
   ready : ContainsReady plateLimit (pointOf (c .before .before .before .args .x) (c .before .before .before .args .y) (c .before .before .before .args .d)) (c .before .before .before .args .a .now) (c .before .before .before .args .b .now) (c .before .before .before .args .code)
   ready = contains-ready plateLimit _ _ _ _ passed
 
--- what `says` answers is whether the point lies in the result
-module _ (c : tie.After-says) where
-  says-result : c .says .result ≡ liesInLayer (pointOf (c .before .before .before .before .before .before .args .x) (c .before .before .before .before .before .before .args .y) (c .before .before .before .before .before .before .args .d)) (result (codeAt (c .before .before .before .before .before .before .args .code)) (layerOf (c .before .before .before .before .before .before .args .a .now)) (layerOf (c .before .before .before .before .before .before .args .b .now)))
-  says-result =
-      let s = c .before .before .before .before .before .before .args in
-      let r = ready (c .before .before .before) in
-      let P = pointOf (s .x) (s .y) (s .d) in
-      c .says .ensures
-      ∙ ap (λ (i : Bool). says (codeAt (s .code)) i (c .before .lies-in2 .result)) (c .before .before .lies-in .ensures)
-      ∙ ap (says (codeAt (s .code)) (liesInLayer P (layerOf (s .a .now)))) (c .before .lies-in2 .ensures)
-      ∙ result-says plateLimit (layerOf (s .a .now)) (layerOf (s .b .now)) (r .first .fit) (r .second .fit) P (point-real plateLimit P (r .point)) (codeAt (s .code))
-
 returns : tie.Need-returns
 returns c =
-    let s = c .before .before .before .before .args in
+    let at-checked = c .before in
+    let at-contains-checked = at-checked .before .before in
+    let at-start = at-contains-checked .before in
+    let s = at-start .args in
     let P = pointOf (s .x) (s .y) (s .d) in
-    let e = sym (c .before .before .before .contains-checked .ensures) ∙ c .before .checked .given .1 in
+    let e = sym (at-contains-checked .contains-checked .ensures) ∙ at-checked .checked .given .1 in
     (contains-refuses plateLimit P (s .a .now) (s .b .now) (s .code) e, small-refused e (contains-refused plateLimit P (s .a .now) (s .b .now) (s .code)))
 
-lies-in-requires : tie.Need-lies-in-requires
-lies-in-requires c κs =
+lies-in-result-requires : tie.Need-lies-in-result-requires
+lies-in-result-requires c κs =
     let s = c .before .before .before .args in
     let r = ready c in
-    (layer-of plateLimit (s .a .now) (omega arith) (r .first) .fit, point-small plateLimit (omega arith) (s .x) (s .y) (s .d) (r .point))
-
-lies-in-requires-2 : tie.Need-lies-in-requires-2
-lies-in-requires-2 c κs =
-    let s = c .before .before .before .before .args in
-    let r = ready (c .before) in
-    (layer-of plateLimit (s .b .now) (omega arith) (r .second) .fit, point-small plateLimit (omega arith) (s .x) (s .y) (s .d) (r .point))
-
-says-requires : tie.Need-says-requires
-says-requires c κs = ready (c .before .before) .is-code
+    (r .is-code, layer-of plateLimit (s .a .now) plate-carried (r .first), layer-of plateLimit (s .b .now) plate-carried (r .second), point-small plateLimit plate-carried (s .x) (s .y) (s .d) (r .point), point-real plateLimit _ (r .point))
 
 returns-2 : tie.Need-returns-2
 returns-2 c =
-    let s = c .before .before .before .before .before .before .before .args in
-    (contains-yes plateLimit (pointOf (s .x) (s .y) (s .d)) (s .a .now) (s .b .now) (s .code) (passed (c .before .before .before .before)) (sym (says-result (c .before)) ∙ c .if1 .taken), tt)
+    let at-lies-in-result = c .before in
+    let at-enum-told = at-lies-in-result .before in
+    let at-start = at-enum-told .before .before .before in
+    let s = at-start .args in
+    (contains-yes plateLimit (pointOf (s .x) (s .y) (s .d)) (s .a .now) (s .b .now) (s .code) (passed at-enum-told) (sym (at-lies-in-result .lies-in-result .ensures) ∙ c .if1 .taken), tt)
 
 returns-3 : tie.Need-returns-3
 returns-3 c =
-    let s = c .before .before .before .before .before .before .before .args in
-    (contains-no plateLimit (pointOf (s .x) (s .y) (s .d)) (s .a .now) (s .b .now) (s .code) (passed (c .before .before .before .before)) (sym (says-result (c .before)) ∙ c .if1 .left), tt)
+    let at-lies-in-result = c .before in
+    let at-enum-told = at-lies-in-result .before in
+    let at-start = at-enum-told .before .before .before in
+    let s = at-start .args in
+    (contains-no plateLimit (pointOf (s .x) (s .y) (s .d)) (s .a .now) (s .b .now) (s .code) (passed at-enum-told) (sym (at-lies-in-result .lies-in-result .ensures) ∙ c .if1 .left), tt)
 
 pub contains-at-spec : {M : Type 1} → statement M
 contains-at-spec =
     tie.close
     (tie.spec
-    (λ c κs. search needs)
+    (λ c κs. plate-carried)
     (λ c. search needs)
     returns
     (λ c. search needs)
-    lies-in-requires
-    lies-in-requires-2
-    says-requires
+    lies-in-result-requires
     returns-2
     returns-3)

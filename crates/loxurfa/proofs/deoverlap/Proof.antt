@@ -1,6 +1,5 @@
 use mathlib.Core.Path.{_≡_, sym, _∙_}
 use mathlib.Core.List.{[]}
-use native.Mathlib.Omega.{arith}
 use lib.ListN.{length}
 use lib.IntN.{pos}
 use borrow.Author.Needs.{needs}
@@ -8,11 +7,11 @@ use Rattle.records.proofs.Buffer.{blank-of}
 use Rattle.geometry.specs.declared.Checked.the-variants.{Passed}
 use Rattle.geometry.specs.Trapezoids.{layerOf}
 use Rattle.boolean.specs.Operations.{deoverlapped}
-use Rattle.boolean.specs.Space.{deoverlappedMarks}
+use Rattle.boolean.specs.Space.{deoverlappedStages}
 use Rattle.calls.specs.Rows.{plateLimit, deoverlapChecked}
 use Rattle.calls.specs.Outcomes.{zeros, roomOf}
-use Rattle.calls.proofs.Checks.{DeoverlapReady, deoverlap-ready, deoverlap-refused, layer-of}
-use Rattle.loxurfa.proofs.Outcomes.{small-refused, cleared-length, cleared-borrowed, blank-zeros, deoverlap-refuses, deoverlap-short, deoverlap-done, small-done}
+use Rattle.calls.proofs.Checks.{DeoverlapReady, deoverlap-ready, deoverlap-refused, layer-of, plate-carried}
+use Rattle.loxurfa.proofs.Outcomes.{small-refused, cleared-length, cleared-borrowed, blank-zeros, deoverlap-refuses, deoverlap-no-room, deoverlap-done, small-done, no-room-small}
 use Rattle.loxurfa.proofs.deoverlap.Statement.{statement}
 use Rattle.loxurfa.proofs.deoverlap.Tie as tie
 
@@ -26,52 +25,72 @@ module _ (c : tie.After-enum-told) where
 
 -- the scratch area is blank again
 module _ (c : tie.After-deoverlap-into) where
-  blanked : c .deoverlap-into .last .1 .1 .0 ≡ zeros (length (c .before .before .before .before .before .before .before .before .before .before .before .args .out .now))
+  blanked :
+      let at-start = c .before .before .before .before .before .before .before .before .before .before .before in
+      c .deoverlap-into .last .1 .1 .0 ≡ zeros (length (at-start .args .out .now))
   blanked =
-      let s = c .before .before .before .before .before .before .before .before .before .before .before .args in
-      let z = c .before .before .before .before .before .clear-both in
+      let at-clear-both = c .before .before .before .before .before in
+      let at-enum-told = at-clear-both .before .before .before in
+      let at-start = at-enum-told .before .before .before in
+      let s = at-start .args in
+      let z = at-clear-both .clear-both in
       blank-zeros (c .deoverlap-into .last .1 .1 .0) (length (s .out .now)) (c .deoverlap-into .ensures .1 .1)
-      (c .deoverlap-into .kept .1 .1 .0 ∙ cleared-length (z .last .1 .0) (length (s .scratch .now)) (z .ensures .1) ∙ ready (c .before .before .before .before .before .before .before .before) .buffers .same)
+      (c .deoverlap-into .kept .1 .1 .0 ∙ cleared-length (z .last .1 .0) (length (s .scratch .now)) (z .ensures .1) ∙ ready at-enum-told .buffers .same)
 
 returns : tie.Need-returns
 returns c =
-    let s = c .before .before .before .before .args in
-    let e = sym (c .before .before .before .deoverlap-checked .ensures) ∙ c .before .checked .given .1 in
+    let at-checked = c .before in
+    let at-deoverlap-checked = at-checked .before .before in
+    let at-start = at-deoverlap-checked .before in
+    let s = at-start .args in
+    let e = sym (at-deoverlap-checked .deoverlap-checked .ensures) ∙ at-checked .checked .given .1 in
     (deoverlap-refuses plateLimit (s .a .now) (s .out .now) (s .scratch .now) e, small-refused e (deoverlap-refused plateLimit (s .a .now) (length (s .out .now)) (length (s .scratch .now))))
 
 deoverlap-into-requires : tie.Need-deoverlap-into-requires
 deoverlap-into-requires c κs =
-    let s = c .before .before .before .before .before .before .before .before .before .before .args in
-    let z = c .before .before .before .before .clear-both in
-    let r = ready (c .before .before .before .before .before .before .before) in
+    let at-clear-both = c .before .before .before .before in
+    let at-enum-told = at-clear-both .before .before .before in
+    let at-start = at-enum-told .before .before .before in
+    let s = at-start .args in
+    let z = at-clear-both .clear-both in
+    let r = ready at-enum-told in
     let m = cleared-length (z .last .0) (length (s .out .now)) (z .ensures .0) in
     let n = cleared-length (z .last .1 .0) (length (s .scratch .now)) (z .ensures .1) in
-    (layer-of plateLimit (s .a .now) (omega arith) (r .layer), ((cleared-borrowed (z .last .0) (length (s .out .now)) (z .ensures .0), r .buffers .few), (blank-of (pos 0) (z .last .1 .0) (length (s .scratch .now)) (z .ensures .1), n ∙ r .buffers .same ∙ sym m)))
+    (layer-of plateLimit (s .a .now) plate-carried (r .layer), ((cleared-borrowed (z .last .0) (length (s .out .now)) (z .ensures .0), r .buffers .few), (blank-of (pos 0) (z .last .1 .0) (length (s .scratch .now)) (z .ensures .1), n ∙ r .buffers .same ∙ sym m)))
 
 returns-2 : tie.Need-returns-2
 returns-2 c =
-    let s = c .before .before .before .before .before .before .before .before .before .before .before .before .before .before .before .args in
-    let z = c .before .before .before .before .before .before .before .before .before .clear-both in
-    let f = c .before .before .before .before .deoverlap-into in
+    let at-deoverlap-into = c .before .before .before .before in
+    let at-clear-both = at-deoverlap-into .before .before .before .before .before in
+    let at-enum-told = at-clear-both .before .before .before in
+    let at-start = at-enum-told .before .before .before in
+    let s = at-start .args in
+    let z = at-clear-both .clear-both in
+    let f = at-deoverlap-into .deoverlap-into in
     let m = cleared-length (z .last .0) (length (s .out .now)) (z .ensures .0) in
-    (deoverlap-short plateLimit (s .a .now) (s .out .now) (s .scratch .now) (passed (c .before .before .before .before .before .before .before .before .before .before .before .before)) (f .result) (length (z .last .0)) (f .last .1 .0) (f .last .1 .1 .0) (f .ensures .0) m (blanked (c .before .before .before .before)) (c .enum-told2 .given .1), (omega arith, omega arith))
+    (deoverlap-no-room plateLimit (s .a .now) (s .out .now) (s .scratch .now) (passed at-enum-told) (f .result) (length (z .last .0)) (f .last .1 .0) (f .last .1 .1 .0) (f .ensures .0) m (blanked at-deoverlap-into) (c .enum-told2 .given .1), no-room-small)
 
 returns-3 : tie.Need-returns-3
 returns-3 c =
-    let s = c .before .before .before .before .before .before .before .before .before .before .before .before .before .before .before .before .args in
-    let z = c .before .before .before .before .before .before .before .before .before .before .clear-both in
-    let f = c .before .before .before .before .before .deoverlap-into in
+    let at-f = c .before in
+    let at-deoverlap-into = at-f .before .before .before .before in
+    let at-clear-both = at-deoverlap-into .before .before .before .before .before in
+    let at-enum-told = at-clear-both .before .before .before in
+    let at-start = at-enum-told .before .before .before in
+    let s = at-start .args in
+    let z = at-clear-both .clear-both in
+    let f = at-deoverlap-into .deoverlap-into in
     let m = cleared-length (z .last .0) (length (s .out .now)) (z .ensures .0) in
-    let e = c .before .f .given .1 in (
-      deoverlap-done plateLimit (s .a .now) (s .out .now) (s .scratch .now) (passed (c .before .before .before .before .before .before .before .before .before .before .before .before .before)) (f .result) (length (z .last .0)) (f .last .1 .0) (f .last .1 .1 .0) (f .ensures .0) m (blanked (c .before .before .before .before .before)) e,
-      small-done (roomOf (s .out .now)) (deoverlapped (layerOf (s .a .now))) (deoverlappedMarks [] (layerOf (s .a .now))) (f .result) (length (s .out .now)) (length (z .last .0)) (f .last .1 .0) (f .last .1 .1 .0) (f .ensures .0) m (blanked (c .before .before .before .before .before)) (ready (c .before .before .before .before .before .before .before .before .before .before .before .before .before) .buffers .few) (f .ensures .1 .0) e,
+    let e = at-f .f .given .1 in (
+      deoverlap-done plateLimit (s .a .now) (s .out .now) (s .scratch .now) (passed at-enum-told) (f .result) (length (z .last .0)) (f .last .1 .0) (f .last .1 .1 .0) (f .ensures .0) m (blanked at-deoverlap-into) e,
+      small-done (roomOf (s .out .now)) (deoverlapped (layerOf (s .a .now))) (deoverlappedStages [] (layerOf (s .a .now))) (f .result) (length (s .out .now)) (length (z .last .0)) (f .last .1 .0) (f .last .1 .1 .0) (f .ensures .0) m (blanked at-deoverlap-into) (ready at-enum-told .buffers .few) (f .ensures .1 .0) e,
     )
 
 pub deoverlap-spec : {M : Type 1} → statement M
 deoverlap-spec =
     tie.close
     (tie.spec
-    (λ c κs. search needs)
+    (λ c κs. plate-carried)
     (λ c. search needs)
     returns
     (λ c. search needs)

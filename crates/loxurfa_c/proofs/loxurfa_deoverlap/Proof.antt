@@ -1,27 +1,38 @@
 use mathlib.Core.Path.{sym, _∙_, ap, subst}
 use borrow.Author.Needs.{needs}
+use Rattle.files.specs.Outcomes.{SmallAnswer}
 use Rattle.calls.specs.declared.Deoverlapped.{Deoverlapped}
-use Rattle.calls.specs.Answers.{deoverlappedAnswer, Small}
+use Rattle.calls.specs.Answers.{deoverlappedAnswer}
 use Rattle.calls.specs.Packed.{packed}
 use Rattle.calls.proofs.Seen.{seen}
 use Rattle.loxurfa_c.proofs.loxurfa_deoverlap.Statement.{statement}
 use Rattle.loxurfa_c.proofs.loxurfa_deoverlap.Tie as tie
 
 refusal-requires : tie.Need-refusal-requires
-refusal-requires c κs = subst (λ (r : Deoverlapped). Small (deoverlappedAnswer r)) (c .before .answer .given .1) (c .before .before .before .before .before .deoverlap .ensures .1)
+refusal-requires c κs =
+    let at-answer = c .before in
+    let at-deoverlap = at-answer .before .before .before .before in
+    subst (λ (r : Deoverlapped). SmallAnswer (deoverlappedAnswer r)) (at-answer .answer .given .1) (at-deoverlap .deoverlap .ensures .1)
 
 returns : tie.Need-returns
 returns c =
-    let e = c .before .before .before .before .before .before .deoverlap .ensures .0 in
-    seen packed e (c .refusal .ensures ∙ ap (λ (r : Deoverlapped). packed (deoverlappedAnswer r)) (sym (c .before .before .answer .given .1)))
+    let at-answer = c .before .before in
+    let at-deoverlap = at-answer .before .before .before .before in
+    let e = at-deoverlap .deoverlap .ensures .0 in
+    seen packed e (c .refusal .ensures ∙ ap (λ (r : Deoverlapped). packed (deoverlappedAnswer r)) (sym (at-answer .answer .given .1)))
 
 success-requires : tie.Need-success-requires
-success-requires c κs = subst (λ (r : Deoverlapped). Small (deoverlappedAnswer r)) (c .before .answer2 .given .1) (c .before .before .before .before .before .deoverlap .ensures .1)
+success-requires c κs =
+    let at-answer2 = c .before in
+    let at-deoverlap = at-answer2 .before .before .before .before in
+    subst (λ (r : Deoverlapped). SmallAnswer (deoverlappedAnswer r)) (at-answer2 .answer2 .given .1) (at-deoverlap .deoverlap .ensures .1)
 
 returns-2 : tie.Need-returns-2
 returns-2 c =
-    let e = c .before .before .before .before .before .before .deoverlap .ensures .0 in
-    seen packed e (c .success .ensures ∙ ap (λ (r : Deoverlapped). packed (deoverlappedAnswer r)) (sym (c .before .before .answer2 .given .1)))
+    let at-answer2 = c .before .before in
+    let at-deoverlap = at-answer2 .before .before .before .before in
+    let e = at-deoverlap .deoverlap .ensures .0 in
+    seen packed e (c .success .ensures ∙ ap (λ (r : Deoverlapped). packed (deoverlappedAnswer r)) (sym (at-answer2 .answer2 .given .1)))
 
 pub loxurfa-deoverlap-spec : {M : Type 1} → statement M
 loxurfa-deoverlap-spec =

@@ -1,28 +1,37 @@
 use mathlib.Core.Path.{sym, _∙_, ap, subst}
 use borrow.Author.Needs.{needs}
 use Rattle.files.specs.declared.LayersRead.{LayersRead}
-use Rattle.files.specs.Outcomes.{readAnswer, Small}
-use Rattle.calls.specs.Packed.{packedFile}
+use Rattle.files.specs.Outcomes.{readAnswer, SmallAnswer}
+use Rattle.calls.specs.Packed.{packed}
 use Rattle.calls.proofs.Seen.{file-seen}
 use Rattle.loxurfa_c.proofs.loxurfa_read_layers.Statement.{statement}
 use Rattle.loxurfa_c.proofs.loxurfa_read_layers.Tie as tie
 
 refusal-requires : tie.Need-refusal-requires
-refusal-requires c κs = subst (λ (r : LayersRead). Small (readAnswer r)) (c .before .answer .given .1) (c .before .before .before .before .read-layers .ensures .1)
+refusal-requires c κs =
+    let at-answer = c .before in
+    let at-read-layers = at-answer .before .before .before in
+    subst (λ (r : LayersRead). SmallAnswer (readAnswer r)) (at-answer .answer .given .1) (at-read-layers .read-layers .ensures .1)
 
 returns : tie.Need-returns
 returns c =
-    let e = c .before .before .before .before .before .read-layers .ensures .0 in
-    file-seen e (c .refusal .ensures ∙ ap (λ (r : LayersRead). packedFile (readAnswer r)) (sym (c .before .before .answer .given .1)))
+    let at-answer = c .before .before in
+    let at-read-layers = at-answer .before .before .before in
+    let e = at-read-layers .read-layers .ensures .0 in
+    file-seen e (c .refusal .ensures ∙ ap (λ (r : LayersRead). packed (readAnswer r)) (sym (at-answer .answer .given .1)))
 
 success-requires : tie.Need-success-requires
 success-requires c κs =
-    subst (λ (r : LayersRead). Small (readAnswer r)) (c .before .answer2 .given .1) (c .before .before .before .before .read-layers .ensures .1)
+    let at-answer2 = c .before in
+    let at-read-layers = at-answer2 .before .before .before in
+    subst (λ (r : LayersRead). SmallAnswer (readAnswer r)) (at-answer2 .answer2 .given .1) (at-read-layers .read-layers .ensures .1)
 
 returns-2 : tie.Need-returns-2
 returns-2 c =
-    let e = c .before .before .before .before .before .read-layers .ensures .0 in
-    file-seen e (c .success .ensures ∙ ap (λ (r : LayersRead). packedFile (readAnswer r)) (sym (c .before .before .answer2 .given .1)))
+    let at-answer2 = c .before .before in
+    let at-read-layers = at-answer2 .before .before .before in
+    let e = at-read-layers .read-layers .ensures .0 in
+    file-seen e (c .success .ensures ∙ ap (λ (r : LayersRead). packed (readAnswer r)) (sym (at-answer2 .answer2 .given .1)))
 
 pub loxurfa-read-layers-spec : {M : Type 1} → statement M
 loxurfa-read-layers-spec =

@@ -17,8 +17,11 @@ event-at-requires-4 c κs = tt
 
 returns : tie.Need-returns
 returns c =
-    let s = c .before .before .before .before .before .before in
-    base-list (s .args .a) (s .args .b) (s .pre) _ _ _ _ _ refl (c .before .before .before .event-at .ensures) (c .before .before .event-at2 .ensures) (c .before .event-at3 .ensures) (c .event-at4 .ensures)
+    let at-event-at3 = c .before in
+    let at-event-at2 = at-event-at3 .before in
+    let at-event-at = at-event-at2 .before in
+    let at-start = at-event-at .before .before .before in
+    base-list (at-start .args .a) (at-start .args .b) (at-start .pre) _ _ _ _ _ refl (at-event-at .event-at .ensures) (at-event-at2 .event-at2 .ensures) (at-event-at3 .event-at3 .ensures) (c .event-at4 .ensures)
 
 pub base-events-spec : {M : Type 1} → statement M
 base-events-spec = tie.close (tie.spec event-at-requires event-at-requires-2 event-at-requires-3 event-at-requires-4 returns)

@@ -2,26 +2,43 @@ use mathlib.Core.Path.{_≡_, sym, _∙_, ap}
 use mathlib.Core.Bool.{true}
 use borrow.Author.Needs.{needs}
 use Rattle.integer.specs.Fraction.{Fraction, before}
-use Rattle.geometry.specs.declared.Crossing.the-variants.{Parallel}
+use Rattle.geometry.specs.declared.Crossing.the-variants.{Nowhere}
 use Rattle.geometry.specs.Positions.{crosses, meet}
 use Rattle.geometry.specs.Ranges.{crossing}
-use Rattle.geometry_code.specs.Code.{fractionOf, Small}
+use Rattle.geometry_code.specs.Code.{fractionOf, SmallPosition}
 use Rattle.geometry_code.proofs.Branches.{parallel, crossed}
 use Rattle.overlaps_code.proofs.Window.{between-parallel, between-left, between-right, between-inside}
 use Rattle.overlaps_code.proofs.crossing_between.Statement.{statement}
 use Rattle.overlaps_code.proofs.crossing_between.Tie as tie
 
 module _ (c : tie.After-known-told) where
-  found : (crosses (c .before .before .before .before .args .l) (c .before .before .before .before .args .m) ≡ true) × (fractionOf (c .before .c .given .0 .0) ≡ meet (c .before .before .before .before .args .l) (c .before .before .before .before .args .m)) × Small (c .before .c .given .0 .0)
-  found = crossed (c .before .before .before .before .args .l) (c .before .before .before .before .args .m) (c .before .before .before .crossing-of .result) (c .before .c .given .0 .0) (c .before .before .before .crossing-of .ensures) (c .before .c .given .1)
+  found :
+      let at-c = c .before in
+      let at-start = at-c .before .before .before in
+      (crosses (at-start .args .l) (at-start .args .m) ≡ true) × (fractionOf (at-c .c .given .0 .0) ≡ meet (at-start .args .l) (at-start .args .m)) × SmallPosition (at-c .c .given .0 .0)
+  found =
+      let at-c = c .before in
+      let at-crossing-of = at-c .before .before in
+      let at-start = at-crossing-of .before in
+      crossed (at-start .args .l) (at-start .args .m) (at-crossing-of .crossing-of .result) (at-c .c .given .0 .0) (at-crossing-of .crossing-of .ensures) (at-c .c .given .1)
 
 module _ (c : tie.After-is-before) where
-  after : before (fractionOf (c .before .before .before .before .before .args .lo)) (meet (c .before .before .before .before .before .args .l) (c .before .before .before .before .before .args .m)) ≡ c .is-before .result
-  after = ap (before (fractionOf (c .before .before .before .before .before .args .lo))) (sym (found (c .before) .1)) ∙ sym (c .is-before .ensures)
+  after :
+      let at-start = c .before .before .before .before .before in
+      before (fractionOf (at-start .args .lo)) (meet (at-start .args .l) (at-start .args .m)) ≡ c .is-before .result
+  after =
+      let at-known-told = c .before in
+      let at-start = at-known-told .before .before .before .before in
+      ap (before (fractionOf (at-start .args .lo))) (sym (found at-known-told .1)) ∙ sym (c .is-before .ensures)
 
 module _ (c : tie.After-is-before2) where
-  earlier : before (meet (c .before .before .before .before .before .before .before .args .l) (c .before .before .before .before .before .before .before .args .m)) (fractionOf (c .before .before .before .before .before .before .before .args .hi)) ≡ c .is-before2 .result
-  earlier = ap (λ (x : Fraction). before x (fractionOf (c .before .before .before .before .before .before .before .args .hi))) (sym (found (c .before .before .before) .1)) ∙ sym (c .is-before2 .ensures)
+  earlier :
+      let at-start = c .before .before .before .before .before .before .before in
+      before (meet (at-start .args .l) (at-start .args .m)) (fractionOf (at-start .args .hi)) ≡ c .is-before2 .result
+  earlier =
+      let at-known-told = c .before .before .before in
+      let at-start = at-known-told .before .before .before .before in
+      ap (λ (x : Fraction). before x (fractionOf (at-start .args .hi))) (sym (found at-known-told .1)) ∙ sym (c .is-before2 .ensures)
 
 crossing-of-requires : tie.Need-crossing-of-requires
 crossing-of-requires c κs = (c .pre .0, c .pre .1)
@@ -29,30 +46,48 @@ crossing-of-requires c κs = (c .pre .0, c .pre .1)
 returns : tie.Need-returns
 returns c =
     let s = c .before .before .before .args in
-    let e : c .before .before .crossing-of .result ≡ Parallel = cc in
+    let e : c .before .before .crossing-of .result ≡ Nowhere = cc in
     between-parallel (fractionOf (s .lo)) (fractionOf (s .hi)) (crossing (s .l) (s .m)) (parallel (s .l) (s .m) (c .before .before .crossing-of .result) (c .before .before .crossing-of .ensures) e)
 
 is-before-requires : tie.Need-is-before-requires
-is-before-requires c κs = (c .before .before .before .before .pre .2, found c .2)
+is-before-requires c κs =
+    let at-start = c .before .before .before .before in
+    (at-start .pre .2, found c .2)
 
 is-before-requires-2 : tie.Need-is-before-requires-2
-is-before-requires-2 c κs = (found (c .before .before) .2, c .before .before .before .before .before .before .pre .3)
+is-before-requires-2 c κs =
+    let at-known-told = c .before .before in
+    let at-start = at-known-told .before .before .before .before in
+    (found at-known-told .2, at-start .pre .3)
 
 returns-2 : tie.Need-returns-2
 returns-2 c =
-    let s = c .before .before .before .before .before .before .before .before .args in
-    let k = found (c .before .before .before .before) in
-    (between-inside (fractionOf (s .lo)) (fractionOf (s .hi)) (crossing (s .l) (s .m)) (k .0) (after (c .before .before .before) ∙ c .before .before .if1 .taken) (earlier (c .before) ∙ c .if2 .taken), record { is = k .1; small = k .2 })
+    let at-is-before2 = c .before in
+    let at-if1 = at-is-before2 .before in
+    let at-is-before = at-if1 .before in
+    let at-known-told = at-is-before .before in
+    let at-start = at-known-told .before .before .before .before in
+    let s = at-start .args in
+    let k = found at-known-told in
+    (between-inside (fractionOf (s .lo)) (fractionOf (s .hi)) (crossing (s .l) (s .m)) (k .0) (after at-is-before ∙ at-if1 .if1 .taken) (earlier at-is-before2 ∙ c .if2 .taken), record { is = k .1; small = k .2 })
 
 returns-3 : tie.Need-returns-3
 returns-3 c =
-    let s = c .before .before .before .before .before .before .before .before .args in
-    between-right (fractionOf (s .lo)) (fractionOf (s .hi)) (crossing (s .l) (s .m)) (found (c .before .before .before .before) .0) (after (c .before .before .before) ∙ c .before .before .if1 .taken) (earlier (c .before) ∙ c .if2 .left)
+    let at-is-before2 = c .before in
+    let at-if1 = at-is-before2 .before in
+    let at-is-before = at-if1 .before in
+    let at-known-told = at-is-before .before in
+    let at-start = at-known-told .before .before .before .before in
+    let s = at-start .args in
+    between-right (fractionOf (s .lo)) (fractionOf (s .hi)) (crossing (s .l) (s .m)) (found at-known-told .0) (after at-is-before ∙ at-if1 .if1 .taken) (earlier at-is-before2 ∙ c .if2 .left)
 
 returns-4 : tie.Need-returns-4
 returns-4 c =
-    let s = c .before .before .before .before .before .before .args in
-    between-left (fractionOf (s .lo)) (fractionOf (s .hi)) (crossing (s .l) (s .m)) (found (c .before .before) .0) (after (c .before) ∙ c .if1 .left)
+    let at-is-before = c .before in
+    let at-known-told = at-is-before .before in
+    let at-start = at-known-told .before .before .before .before in
+    let s = at-start .args in
+    between-left (fractionOf (s .lo)) (fractionOf (s .hi)) (crossing (s .l) (s .m)) (found at-known-told .0) (after at-is-before ∙ c .if1 .left)
 
 pub crossing-between-spec : {M : Type 1} → statement M
 crossing-between-spec =

@@ -1,3 +1,4 @@
+-- Before turn i: a search from `best` through the events from number i on finds what a search through all of them, at most 8, finds.
 use Prim.Native.Nat.{_-_}
 use native.Mathlib.Omega.{arith}
 use borrow.Author.Needs.{needs}
@@ -19,7 +20,11 @@ array-copy-out-e : tie.Need-array-copy-out-e Inv-loop μ-loop
 array-copy-out-e c = omega (arith, c .before .loop .inv .few, c .loop-test .taken)
 
 better-requires : tie.Need-better-requires Inv-loop μ-loop
-better-requires c κs = let h = c .before .before .loop .inv in (h .placed, c .before .before .before .before .pre .1, placed-here _ _ _ _ _ h _ (c .before .loop-test .taken))
+better-requires c κs =
+    let at-loop-test = c .before in
+    let at-loop = at-loop-test .before in
+    let at-start = at-loop .before .before in
+    let h = at-loop .loop .inv in (h .placed, at-start .pre .1, placed-here _ _ _ _ _ h _ (at-loop-test .loop-test .taken))
 
 loop-again : tie.Need-loop-again Inv-loop μ-loop
 loop-again c = look-next _ _ _ _ _ (c .before .before .before .loop .inv) _ _ (c .before .before .loop-test .taken) (c .better .ensures)

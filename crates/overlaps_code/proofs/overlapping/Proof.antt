@@ -6,7 +6,7 @@ use Rattle.geometry.specs.Ranges.{crossing, commonLeft, commonRight}
 use Rattle.geometry.proofs.Fitness.{bottom-grid, top-grid}
 use Rattle.overlay.specs.Overlaps.{overlapRight}
 use Rattle.overlaps_code.specs.Code.{crossBetween}
-use Rattle.overlaps_code.proofs.Window.{apart, at-start, at-first, at-second}
+use Rattle.overlaps_code.proofs.Window.{apart, from-start, from-first, from-second}
 use Rattle.overlaps_code.proofs.overlapping.Statement.{statement}
 use Rattle.overlaps_code.proofs.overlapping.Tie as tie
 
@@ -16,13 +16,22 @@ module _ (c : tie.After-is-before) where
   wide = sym (c .is-before .ensures ∙ rw (c .before .before .common-left .ensures .is, c .before .common-right .ensures .is))
 
 module _ (c : tie.After-overlap-right) where
-  start : overlapRight (c .before .before .before .before .before .before .before .args .a .shape) (c .before .before .before .before .before .before .before .args .b .shape) (commonLeft (c .before .before .before .before .before .before .before .args .a .shape) (c .before .before .before .before .before .before .before .args .b .shape)) ≡ c .overlap-right .result
-  start = sym (c .overlap-right .ensures ∙ rw (c .before .before .before .before .before .before .common-left .ensures .is))
+  start :
+      let at-start = c .before .before .before .before .before .before .before in
+      overlapRight (at-start .args .a .shape) (at-start .args .b .shape) (commonLeft (at-start .args .a .shape) (at-start .args .b .shape)) ≡ c .overlap-right .result
+  start =
+      let at-common-left = c .before .before .before .before .before .before in
+      sym (c .overlap-right .ensures ∙ rw (at-common-left .common-left .ensures .is))
 
 module _ (c : tie.After-overlap-from) where
-  first : crossBetween (commonLeft (c .before .before .before .before .before .before .before .before .before .args .a .shape) (c .before .before .before .before .before .before .before .before .before .args .b .shape)) (commonRight (c .before .before .before .before .before .before .before .before .before .args .a .shape) (c .before .before .before .before .before .before .before .before .before .args .b .shape)) (crossing (c .before .before .before .before .before .before .before .before .before .args .a .shape .bottom) (c .before .before .before .before .before .before .before .before .before .args .b .shape .top))
-      && overlapRight (c .before .before .before .before .before .before .before .before .before .args .a .shape) (c .before .before .before .before .before .before .before .before .before .args .b .shape) (position (crossing (c .before .before .before .before .before .before .before .before .before .args .a .shape .bottom) (c .before .before .before .before .before .before .before .before .before .args .b .shape .top))) ≡ c .overlap-from .result
-  first = sym (c .overlap-from .ensures ∙ rw (c .before .before .before .before .before .before .before .before .common-left .ensures .is, c .before .before .before .before .before .before .before .common-right .ensures .is))
+  first :
+      let at-start = c .before .before .before .before .before .before .before .before .before in
+      crossBetween (commonLeft (at-start .args .a .shape) (at-start .args .b .shape)) (commonRight (at-start .args .a .shape) (at-start .args .b .shape)) (crossing (at-start .args .a .shape .bottom) (at-start .args .b .shape .top))
+      && overlapRight (at-start .args .a .shape) (at-start .args .b .shape) (position (crossing (at-start .args .a .shape .bottom) (at-start .args .b .shape .top))) ≡ c .overlap-from .result
+  first =
+      let at-common-right = c .before .before .before .before .before .before .before in
+      let at-common-left = at-common-right .before in
+      sym (c .overlap-from .ensures ∙ rw (at-common-left .common-left .ensures .is, at-common-right .common-right .ensures .is))
 
 common-left-requires : tie.Need-common-left-requires
 common-left-requires c κs = c .pre
@@ -34,36 +43,67 @@ is-before-requires : tie.Need-is-before-requires
 is-before-requires c κs = (c .before .common-left .ensures .small, c .common-right .ensures .small)
 
 overlap-right-requires : tie.Need-overlap-right-requires
-overlap-right-requires c κs = let h = c .before .before .before .before .before .before .pre in (h .first .fit, h .second .fit, c .before .before .before .before .before .common-left .ensures .small)
+overlap-right-requires c κs =
+    let at-common-left = c .before .before .before .before .before in
+    let at-start = at-common-left .before in
+    let h = at-start .pre in (h .first .fit, h .second .fit, at-common-left .common-left .ensures .small)
 
 returns : tie.Need-returns
 returns c =
-    let s = c .before .before .before .before .before .before .before .before .args in
-    at-start (s .a .shape) (s .b .shape) (wide (c .before .before .before .before .before) ∙ c .before .before .before .before .if1 .taken) (start (c .before) ∙ c .if2 .taken)
+    let at-overlap-right = c .before in
+    let at-if1 = at-overlap-right .before .before .before in
+    let at-is-before = at-if1 .before in
+    let at-start = at-is-before .before .before .before in
+    let s = at-start .args in
+    from-start (s .a .shape) (s .b .shape) (wide at-is-before ∙ at-if1 .if1 .taken) (start at-overlap-right ∙ c .if2 .taken)
 
 overlap-from-requires : tie.Need-overlap-from-requires
 overlap-from-requires c κs =
-    let h = c .before .before .before .before .before .before .before .before .pre in
-    (h .first .fit, h .second .fit, bottom-grid (h .first .fit), top-grid (h .second .fit), c .before .before .before .before .before .before .before .common-left .ensures .small, c .before .before .before .before .before .before .common-right .ensures .small)
+    let at-common-right = c .before .before .before .before .before .before in
+    let at-common-left = at-common-right .before in
+    let at-start = at-common-left .before in
+    let h = at-start .pre in
+    (h .first .fit, h .second .fit, bottom-grid (h .first .fit), top-grid (h .second .fit), at-common-left .common-left .ensures .small, at-common-right .common-right .ensures .small)
 
 returns-2 : tie.Need-returns-2
 returns-2 c =
-    let s = c .before .before .before .before .before .before .before .before .before .before .args in
-    at-first (s .a .shape) (s .b .shape) (wide (c .before .before .before .before .before .before .before) ∙ c .before .before .before .before .before .before .if1 .taken) (start (c .before .before .before) ∙ c .before .before .if2 .left) (first (c .before) ∙ c .if3 .taken)
+    let at-overlap-from = c .before in
+    let at-if2 = at-overlap-from .before in
+    let at-overlap-right = at-if2 .before in
+    let at-if1 = at-overlap-right .before .before .before in
+    let at-is-before = at-if1 .before in
+    let at-start = at-is-before .before .before .before in
+    let s = at-start .args in
+    from-first (s .a .shape) (s .b .shape) (wide at-is-before ∙ at-if1 .if1 .taken) (start at-overlap-right ∙ at-if2 .if2 .left) (first at-overlap-from ∙ c .if3 .taken)
 
 overlap-from-requires-2 : tie.Need-overlap-from-requires-2
 overlap-from-requires-2 c κs =
-    let h = c .before .before .before .before .before .before .before .before .before .before .pre in
-    (h .first .fit, h .second .fit, top-grid (h .first .fit), bottom-grid (h .second .fit), c .before .before .before .before .before .before .before .before .before .common-left .ensures .small, c .before .before .before .before .before .before .before .before .common-right .ensures .small)
+    let at-common-right = c .before .before .before .before .before .before .before .before in
+    let at-common-left = at-common-right .before in
+    let at-start = at-common-left .before in
+    let h = at-start .pre in
+    (h .first .fit, h .second .fit, top-grid (h .first .fit), bottom-grid (h .second .fit), at-common-left .common-left .ensures .small, at-common-right .common-right .ensures .small)
 
 returns-3 : tie.Need-returns-3
 returns-3 c =
-    let s = c .before .before .before .before .before .before .before .before .before .before .before .args in
-    at-second (s .a .shape) (s .b .shape) (wide (c .before .before .before .before .before .before .before .before) ∙ c .before .before .before .before .before .before .before .if1 .taken) (start (c .before .before .before .before) ∙ c .before .before .before .if2 .left) (first (c .before .before) ∙ c .before .if3 .left)
-    (c .overlap-from2 .ensures ∙ rw (c .before .before .before .before .before .before .before .before .before .before .common-left .ensures .is, c .before .before .before .before .before .before .before .before .before .common-right .ensures .is))
+    let at-if3 = c .before in
+    let at-overlap-from = at-if3 .before in
+    let at-if2 = at-overlap-from .before in
+    let at-overlap-right = at-if2 .before in
+    let at-if1 = at-overlap-right .before .before .before in
+    let at-is-before = at-if1 .before in
+    let at-common-right = at-is-before .before in
+    let at-common-left = at-common-right .before in
+    let at-start = at-common-left .before in
+    let s = at-start .args in
+    from-second (s .a .shape) (s .b .shape) (wide at-is-before ∙ at-if1 .if1 .taken) (start at-overlap-right ∙ at-if2 .if2 .left) (first at-overlap-from ∙ at-if3 .if3 .left)
+    (c .overlap-from2 .ensures ∙ rw (at-common-left .common-left .ensures .is, at-common-right .common-right .ensures .is))
 
 returns-4 : tie.Need-returns-4
-returns-4 c = let s = c .before .before .before .before .args in apart (s .a .shape) (s .b .shape) (wide (c .before) ∙ c .if1 .left)
+returns-4 c =
+    let at-is-before = c .before in
+    let at-start = at-is-before .before .before .before in
+    let s = at-start .args in apart (s .a .shape) (s .b .shape) (wide at-is-before ∙ c .if1 .left)
 
 pub overlapping-spec : {M : Type 1} → statement M
 overlapping-spec =

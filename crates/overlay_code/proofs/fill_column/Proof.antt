@@ -1,3 +1,5 @@
+-- Before turn k: of the column's trapezoids with the tag n are in `out`, all but those whose top is a side from number k of the order on.
+-- The next has the side `lower` as its bottom, and lies in a and in b as `inside_a` and `inside_b` say.
 use mathlib.Core.Path.{_≡_, sym, _∙_, subst}
 use Prim.Native.Nat.{ℕ, _*_, _-_}
 use native.Mathlib.Omega.{arith}
@@ -26,17 +28,21 @@ abbrev μ-loop : tie.MeasureT-loop
 
 returns : tie.Need-returns Inv-loop μ-loop
 returns c =
-    let s = c .before .before .before .before .before .before in
-    let a = s .args in
-    let e = not-true (c .before .present .result) (c .if1 .taken) in
-    stack-none (a .tag) (a .a) (a .b) (a .p .base) (a .q .base) (a .c .in_a) (a .c .in_b) (a .c .order) (s .pre .3) (a .out .now) (a .room) (s .pre .4) (sym (c .before .present .ensures) ∙ e)
+    let at-present = c .before in
+    let at-start = at-present .before .before .before .before .before in
+    let a = at-start .args in
+    let e = not-true (at-present .present .result) (c .if1 .taken) in
+    stack-none (a .tag) (a .a) (a .b) (a .p .base) (a .q .base) (a .c .in_a) (a .c .in_b) (a .c .order) (at-start .pre .3) (a .out .now) (a .room) (at-start .pre .4) (sym (at-present .present .ensures) ∙ e)
 
 loop-holds : tie.Need-loop-holds Inv-loop μ-loop
 loop-holds c =
-    let s = c .before .before .before .before .before .before .before .before in
-    let a = s .args in
-    let e = not-false (c .before .before .before .present .result) (c .before .before .if1 .left) in
-    stack-start (a .tag) (a .a) (a .b) (a .p .base) (a .q .base) (a .c .in_a) (a .c .in_b) (a .c .order) (s .pre .3) (a .out .now) (a .room) (s .pre .4) (sym (c .before .before .before .present .ensures) ∙ e) _ _ (c .before .pass .ensures) (c .pass2 .ensures)
+    let at-pass = c .before in
+    let at-if1 = at-pass .before in
+    let at-present = at-if1 .before in
+    let at-start = at-present .before .before .before .before .before in
+    let a = at-start .args in
+    let e = not-false (at-present .present .result) (at-if1 .if1 .left) in
+    stack-start (a .tag) (a .a) (a .b) (a .p .base) (a .q .base) (a .c .in_a) (a .c .in_b) (a .c .order) (at-start .pre .3) (a .out .now) (a .room) (at-start .pre .4) (sym (at-present .present .ensures) ∙ e) _ _ (at-pass .pass .ensures) (c .pass2 .ensures)
 
 returns-2 : tie.Need-returns-2 Inv-loop μ-loop
 returns-2 c =
@@ -45,69 +51,87 @@ returns-2 c =
 
 is-below-requires : tie.Need-is-below-requires Inv-loop μ-loop
 is-below-requires c κs =
-    let s = c .before .before .before .before .before .before .before .before .before .before .before .before .before .before in
-    let a = s .args in
-    let g : (i : ℕ) → OnGrid coordinateLimit (lineOfSide (a .a) (a .b) i) = λ i. side-grid (a .a) (a .b) i (s .pre .0) (s .pre .1) in
-    (subst (OnGrid coordinateLimit) (sym (c .before .side .ensures)) (g _), subst (OnGrid coordinateLimit) (sym (c .side2 .ensures)) (g _), s .pre .2 .small)
+    let at-line-of-side = c .before in
+    let at-start = at-line-of-side .before .before .before .before .before .before .before .before .before .before .before .before .before in
+    let a = at-start .args in
+    let g : (i : ℕ) → OnGrid coordinateLimit (lineOfSide (a .a) (a .b) i) = λ i. side-grid (a .a) (a .b) i (at-start .pre .0) (at-start .pre .1) in
+    (subst (OnGrid coordinateLimit) (sym (at-line-of-side .line-of-side .ensures)) (g _), subst (OnGrid coordinateLimit) (sym (c .line-of-side2 .ensures)) (g _), at-start .pre .2 .small)
 
 mul-put-if : tie.Need-mul-put-if Inv-loop μ-loop
 mul-put-if c =
-    let h = c .before .before .before .before .before .before .before .loop .inv .writing in
-    omega (arith, h .upto, h .wide, c .before .before .before .before .before .before .before .before .before .before .before .before .before .before .before .before .good .1 .1 .1 .1 .1 .1 .0)
+    let at-loop = c .before .before .before .before .before .before .before in
+    let at-start = at-loop .before .before .before .before .before .before .before .before .before in
+    let h = at-loop .loop .inv .writing in
+    omega (arith, h .upto, h .wide, at-start .good .1 .1 .1 .1 .1 .1 .0)
 
 mul-put-if-2 : tie.Need-mul-put-if-2 Inv-loop μ-loop
 mul-put-if-2 c =
-    let h = c .before .before .before .before .before .before .before .loop .inv .writing in
-    omega (arith, h .upto, h .wide, c .before .before .before .before .before .before .before .before .before .before .before .before .before .before .before .before .good .1 .1 .1 .1 .1 .1 .0)
+    let at-loop = c .before .before .before .before .before .before .before in
+    let at-start = at-loop .before .before .before .before .before .before .before .before .before in
+    let h = at-loop .loop .inv .writing in
+    omega (arith, h .upto, h .wide, at-start .good .1 .1 .1 .1 .1 .1 .0)
 
 put-if-requires : tie.Need-put-if-requires Inv-loop μ-loop
 put-if-requires c κs =
-    write-borrowed (c .before .before .before .before .before .before .before .before .loop .inv .writing)
+    let at-loop = c .before .before .before .before .before .before .before .before in
+    write-borrowed (at-loop .loop .inv .writing)
 
 same-length-2 : tie.Need-same-length-2 Inv-loop μ-loop
 same-length-2 c = search needs
 
 returns-3 : tie.Need-returns-3 Inv-loop μ-loop
 returns-3 c =
-    let o = c .before .before .before .before .before .before in
-    let w = o .before .before in
-    let v = w .before in
-    let u = v .before in
-    let y = u .before .before in
-    let r = y .before in
-    let l = r .before .before in
-    let s = l .before .before .before .before .before .before .before .before .before in
-    let e = not-false (r .present2 .result) (y .if2 .left) in
-    let n : length (c .before .clear .last .0) ≡ length (s .args .out .now) = same-length-2 c in
-    let z = blank-of (pos 0) (c .before .clear .last .0) (length (putMid (memoryWidth * l .loop .n) (length (l .loop .out) - memoryWidth * l .loop .n) (l .loop .out) (o .put-if .last .1 .1 .0))) (c .before .clear .ensures) in
-    (stack-full _ _ _ _ _ _ _ (l .loop .inv) (r .before .loop-test .taken) (sym (r .present2 .ensures) ∙ e) _ _ _ _ _ (u .before .side .ensures) (u .side2 .ensures) (s .pre .2 .is) (v .is-below .ensures) (w .wanted .ensures) _ _ (o .put-if .ensures) (c .before .before .before .enum-told .given .1), rw (← n) z)
+    let at-clear = c .before in
+    let at-enum-told = at-clear .before .before in
+    let at-put-if = at-enum-told .before .before .before in
+    let at-wanted = at-put-if .before .before in
+    let at-is-below = at-wanted .before in
+    let at-line-of-side2 = at-is-below .before in
+    let at-line-of-side = at-line-of-side2 .before in
+    let at-if2 = at-line-of-side .before in
+    let at-present2 = at-if2 .before in
+    let at-loop-test = at-present2 .before in
+    let at-loop = at-loop-test .before in
+    let at-start = at-loop .before .before .before .before .before .before .before .before .before in
+    let e = not-false (at-present2 .present2 .result) (at-if2 .if2 .left) in
+    let n : length (at-clear .clear .last .0) ≡ length (at-start .args .out .now) = same-length-2 c in
+    let z = blank-of (pos 0) (at-clear .clear .last .0) (length (putMid (memoryWidth * at-loop .loop .n) (length (at-loop .loop .out) - memoryWidth * at-loop .loop .n) (at-loop .loop .out) (at-put-if .put-if .last .1 .1 .0))) (at-clear .clear .ensures) in
+    (stack-full _ _ _ _ _ _ _ (at-loop .loop .inv) (at-loop-test .loop-test .taken) (sym (at-present2 .present2 .ensures) ∙ e) _ _ _ _ _ (at-line-of-side .line-of-side .ensures) (at-line-of-side2 .line-of-side2 .ensures) (at-start .pre .2 .is) (at-is-below .is-below .ensures) (at-wanted .wanted .ensures) _ _ (at-put-if .put-if .ensures) (at-enum-told .enum-told .given .1), rw (← n) z)
 
 add-n : tie.Need-add-n Inv-loop μ-loop
 add-n c =
-    let o = c .before .before .before .before in
-    let w = o .before .before in
-    let v = w .before in
-    let u = v .before in
-    let y = u .before .before in
-    let r = y .before in
-    let l = r .before .before in
-    let s = l .before .before .before .before .before .before .before .before .before in
-    let e = not-false (r .present2 .result) (y .if2 .left) in
-    let k = stack-upto _ _ _ _ _ _ _ (l .loop .inv) (r .before .loop-test .taken) (sym (r .present2 .ensures) ∙ e) _ _ _ _ _ (u .before .side .ensures) (u .side2 .ensures) (s .pre .2 .is) (v .is-below .ensures) (w .wanted .ensures) _ _ (o .put-if .ensures) _ (c .before .f .given .1) in
-    omega (arith, k, l .loop .inv .writing .wide, s .good .1 .1 .1 .1 .1 .1 .0)
+    let at-f = c .before in
+    let at-put-if = at-f .before .before .before in
+    let at-wanted = at-put-if .before .before in
+    let at-is-below = at-wanted .before in
+    let at-line-of-side2 = at-is-below .before in
+    let at-line-of-side = at-line-of-side2 .before in
+    let at-if2 = at-line-of-side .before in
+    let at-present2 = at-if2 .before in
+    let at-loop-test = at-present2 .before in
+    let at-loop = at-loop-test .before in
+    let at-start = at-loop .before .before .before .before .before .before .before .before .before in
+    let e = not-false (at-present2 .present2 .result) (at-if2 .if2 .left) in
+    let k = stack-upto _ _ _ _ _ _ _ (at-loop .loop .inv) (at-loop-test .loop-test .taken) (sym (at-present2 .present2 .ensures) ∙ e) _ _ _ _ _ (at-line-of-side .line-of-side .ensures) (at-line-of-side2 .line-of-side2 .ensures) (at-start .pre .2 .is) (at-is-below .is-below .ensures) (at-wanted .wanted .ensures) _ _ (at-put-if .put-if .ensures) _ (at-f .f .given .1) in
+    omega (arith, k, at-loop .loop .inv .writing .wide, at-start .good .1 .1 .1 .1 .1 .1 .0)
 
 loop-again : tie.Need-loop-again Inv-loop μ-loop
 loop-again c =
-    let o = c .before .before .before .before .before .before .before in
-    let w = o .before .before in
-    let v = w .before in
-    let u = v .before in
-    let y = u .before .before in
-    let r = y .before in
-    let l = r .before .before in
-    let s = l .before .before .before .before .before .before .before .before .before in
-    let e = not-false (r .present2 .result) (y .if2 .left) in
-    stack-next _ _ _ _ _ _ _ (l .loop .inv) (r .before .loop-test .taken) (sym (r .present2 .ensures) ∙ e) _ _ _ _ _ (u .before .side .ensures) (u .side2 .ensures) (s .pre .2 .is) (v .is-below .ensures) (w .wanted .ensures) _ _ (o .put-if .ensures) _ (c .before .before .before .before .f .given .1) _ _ _ (c .before .before .raised .ensures) (c .before .pass3 .ensures) (c .pass4 .ensures)
+    let at-pass3 = c .before in
+    let at-raised = at-pass3 .before in
+    let at-f = at-raised .before .before in
+    let at-put-if = at-f .before .before .before in
+    let at-wanted = at-put-if .before .before in
+    let at-is-below = at-wanted .before in
+    let at-line-of-side2 = at-is-below .before in
+    let at-line-of-side = at-line-of-side2 .before in
+    let at-if2 = at-line-of-side .before in
+    let at-present2 = at-if2 .before in
+    let at-loop-test = at-present2 .before in
+    let at-loop = at-loop-test .before in
+    let at-start = at-loop .before .before .before .before .before .before .before .before .before in
+    let e = not-false (at-present2 .present2 .result) (at-if2 .if2 .left) in
+    stack-next _ _ _ _ _ _ _ (at-loop .loop .inv) (at-loop-test .loop-test .taken) (sym (at-present2 .present2 .ensures) ∙ e) _ _ _ _ _ (at-line-of-side .line-of-side .ensures) (at-line-of-side2 .line-of-side2 .ensures) (at-start .pre .2 .is) (at-is-below .is-below .ensures) (at-wanted .wanted .ensures) _ _ (at-put-if .put-if .ensures) _ (at-f .f .given .1) _ _ _ (at-raised .raised .ensures) (at-pass3 .pass3 .ensures) (c .pass4 .ensures)
 
 returns-4 : tie.Need-returns-4 Inv-loop μ-loop
 returns-4 c =

@@ -1,3 +1,4 @@
+-- Before each turn: `out` holds n trapezoids with the tag, all but those right of the event p; c is the column right of p.
 use mathlib.Core.Path.{_≡_, _∙_}
 use Prim.Native.Nat.{_*_, _-_}
 use native.Mathlib.Omega.{arith}
@@ -26,71 +27,94 @@ event-at-requires : tie.Need-event-at-requires Inv-loop μ-loop
 event-at-requires c κs = tt
 
 next-event-requires : tie.Need-next-event-requires Inv-loop μ-loop
-next-event-requires c κs = (c .before .before .before .events-of .ensures .well, event-of (c .event-at .result) (c .event-at .ensures .0) (c .event-at .ensures .1) (c .before .before .before .before .pre .0 .first .left))
+next-event-requires c κs =
+    let at-events-of = c .before .before .before in
+    let at-start = at-events-of .before in
+    (at-events-of .events-of .ensures .well, event-of (c .event-at .result) (c .event-at .ensures .0) (c .event-at .ensures .1) (at-start .pre .0 .first .left))
 
 returns : tie.Need-returns Inv-loop μ-loop
 returns c =
-    let s = c .before .before .before .before .before .before .before in
-    let k = no-event _ _ (s .pre .0 .first .fit) (s .pre .0 .second .fit) (c .before .before .before .before .before .before .events-of .result) (c .before .before .before .before .before .before .events-of .ensures .names) _ (c .enum-told .given .1) (c .before .before .next-event .ensures) in
-    fill-none _ _ _ _ _ (s .pre .2) k
+    let at-next-event = c .before .before in
+    let at-events-of = at-next-event .before .before .before .before in
+    let at-start = at-events-of .before in
+    let k = no-event _ _ (at-start .pre .0 .first .fit) (at-start .pre .0 .second .fit) (at-events-of .events-of .result) (at-events-of .events-of .ensures .names) _ (c .enum-told .given .1) (at-next-event .next-event .ensures) in
+    fill-none _ _ _ _ _ (at-start .pre .2) k
 
 column-at-requires : tie.Need-column-at-requires Inv-loop μ-loop
-column-at-requires c κs = (c .before .before .before .before .before .before .before .before .pre .0, found-event _ _ (c .before .first .given .1) (c .before .before .before .next-event .ensures .placed) .small, first-four)
+column-at-requires c κs =
+    let at-first = c .before in
+    let at-next-event = at-first .before .before in
+    let at-start = at-next-event .before .before .before .before .before in
+    (at-start .pre .0, found-event _ _ (at-first .first .given .1) (at-next-event .next-event .ensures .placed) .small, first-four)
 
 loop-holds : tie.Need-loop-holds Inv-loop μ-loop
 loop-holds c =
-    let s = c .before .before .before .before .before .before .before .before .before in
-    let ha = s .pre .0 .first .fit in
-    let hb = s .pre .0 .second .fit in
-    let v = c .before .before .before .before .before .before .before .before .events-of in
-    let e = c .before .before .first .given .1 in
-    let r = c .before .before .before .before .next-event .ensures in
-    fill-start _ _ _ _ _ (s .pre .2) _ _ (first-event _ _ ha hb (v .result) (v .ensures .names) _ _ e r) (found-event _ _ e (r .placed)) (first-proper _ _ ha hb (v .result) (v .ensures .names) _ _ e r) (c .column-at .ensures)
+    let at-first = c .before .before in
+    let at-next-event = at-first .before .before in
+    let at-events-of = at-next-event .before .before .before .before in
+    let at-start = at-events-of .before in
+    let ha = at-start .pre .0 .first .fit in
+    let hb = at-start .pre .0 .second .fit in
+    let v = at-events-of .events-of in
+    let e = at-first .first .given .1 in
+    let r = at-next-event .next-event .ensures in
+    fill-start _ _ _ _ _ (at-start .pre .2) _ _ (first-event _ _ ha hb (v .result) (v .ensures .names) _ _ e r) (found-event _ _ e (r .placed)) (first-proper _ _ ha hb (v .result) (v .ensures .names) _ _ e r) (c .column-at .ensures)
 
 next-event-requires-2 : tie.Need-next-event-requires-2 Inv-loop μ-loop
-next-event-requires-2 c κs = (c .before .before .before .before .before .before .before .before .before .events-of .ensures .well, c .loop .inv .event)
+next-event-requires-2 c κs =
+    let at-events-of = c .before .before .before .before .before .before .before .before .before in
+    (at-events-of .events-of .ensures .well, c .loop .inv .event)
 
 same-length : tie.Need-same-length Inv-loop μ-loop
 same-length c = c .before .before .before .loop .inv .writing .long
 
 returns-2 : tie.Need-returns-2 Inv-loop μ-loop
 returns-2 c =
-    let o = c .before .before in
-    let v = o .before .before .before .before .before .before .before .before .before .before in
-    let s = v .before in
-    let ha = s .pre .0 .first .fit in
-    let hb = s .pre .0 .second .fit in
-    let h = o .before .loop .inv in
-    fill-stop ha hb (s .pre .1) h (last-event _ _ ha hb (v .events-of .result) (v .events-of .ensures .names) _ (h .proper) _ (o .next-event2 .ensures) (c .enum-told2 .given .1))
+    let at-next-event2 = c .before .before in
+    let at-loop = at-next-event2 .before in
+    let at-events-of = at-loop .before .before .before .before .before .before .before .before .before in
+    let at-start = at-events-of .before in
+    let ha = at-start .pre .0 .first .fit in
+    let hb = at-start .pre .0 .second .fit in
+    let h = at-loop .loop .inv in
+    fill-stop ha hb (at-start .pre .1) h (last-event _ _ ha hb (at-events-of .events-of .result) (at-events-of .events-of .ensures .names) _ (h .proper) _ (at-next-event2 .next-event2 .ensures) (c .enum-told2 .given .1))
 
 mul-fill-column : tie.Need-mul-fill-column Inv-loop μ-loop
 mul-fill-column c =
-    let l = c .before .before .before .before in
-    let h = l .loop .inv in
-    omega (arith, h .writing .long, h .writing .wide, h .writing .upto, l .before .before .before .before .before .before .before .before .before .before .good .1 .1 .1 .0)
+    let at-loop = c .before .before .before .before in
+    let at-start = at-loop .before .before .before .before .before .before .before .before .before .before in
+    let h = at-loop .loop .inv in
+    omega (arith, h .writing .long, h .writing .wide, h .writing .upto, at-start .good .1 .1 .1 .0)
 
 mul-fill-column-2 : tie.Need-mul-fill-column-2 Inv-loop μ-loop
 mul-fill-column-2 c =
-    let l = c .before .before .before .before in
-    let h = l .loop .inv in
-    omega (arith, h .writing .long, h .writing .wide, h .writing .upto, l .before .before .before .before .before .before .before .before .before .before .good .1 .1 .1 .0)
+    let at-loop = c .before .before .before .before in
+    let at-start = at-loop .before .before .before .before .before .before .before .before .before .before in
+    let h = at-loop .loop .inv in
+    omega (arith, h .writing .long, h .writing .wide, h .writing .upto, at-start .good .1 .1 .1 .0)
 
 sub-fill-column : tie.Need-sub-fill-column Inv-loop μ-loop
-sub-fill-column c = let h = c .before .before .before .before .loop .inv in omega (arith, h .writing .long, h .writing .wide, h .writing .upto)
+sub-fill-column c =
+    let at-loop = c .before .before .before .before in
+    let h = at-loop .loop .inv in omega (arith, h .writing .long, h .writing .wide, h .writing .upto)
 
 part-fill-column-end : tie.Need-part-fill-column-end Inv-loop μ-loop
-part-fill-column-end c = let h = c .before .before .before .before .loop .inv in omega (arith, h .writing .long, h .writing .wide, h .writing .upto)
+part-fill-column-end c =
+    let at-loop = c .before .before .before .before in
+    let h = at-loop .loop .inv in omega (arith, h .writing .long, h .writing .wide, h .writing .upto)
 
 sub-fill-column-2 : tie.Need-sub-fill-column-2 Inv-loop μ-loop
-sub-fill-column-2 c = c .before .before .before .before .before .loop .inv .writing .upto
+sub-fill-column-2 c =
+    let at-loop = c .before .before .before .before .before in
+    at-loop .loop .inv .writing .upto
 
 fill-column-requires : tie.Need-fill-column-requires Inv-loop μ-loop
 fill-column-requires c κs =
-    let l = c .before .before .before .before .before in
-    let s = l .before .before .before .before .before .before .before .before .before .before in
-    let ha = s .pre .0 .first .fit in
-    let hb = s .pre .0 .second .fit in
-    let h = l .loop .inv in
+    let at-loop = c .before .before .before .before .before in
+    let at-start = at-loop .before .before .before .before .before .before .before .before .before .before in
+    let ha = at-start .pre .0 .first .fit in
+    let hb = at-start .pre .0 .second .fit in
+    let h = at-loop .loop .inv in
     (ha, hb, h .event, column-four ha hb _ _ (h .column) .long, write-borrowed (h .writing))
 
 clear-requires : tie.Need-clear-requires Inv-loop μ-loop
@@ -98,79 +122,93 @@ clear-requires c κs = tt
 
 same-length-2 : tie.Need-same-length-2 Inv-loop μ-loop
 same-length-2 c =
-    let l = c .before .before .before .before .before .before .before .before .before .before .before .before .loop in
-    let f = c .before .before .before .before .before .before .fill-column in
-    c .before .clear .kept .0 ∙ same-len-mid (memoryWidth * l .n) (length (l .out) - memoryWidth * l .n) (l .out) (f .last .1 .1 .1 .1 .1 .1 .0) (f .kept .1 .1 .1 .1 .1 .1 .0) ∙ l .inv .writing .long
+    let at-clear = c .before in
+    let at-fill-column = at-clear .before .before .before .before .before in
+    let at-loop = at-fill-column .before .before .before .before .before .before in
+    let l = at-loop .loop in
+    let f = at-fill-column .fill-column in
+    at-clear .clear .kept .0 ∙ same-len-mid (memoryWidth * l .n) (length (l .out) - memoryWidth * l .n) (l .out) (f .last .1 .1 .1 .1 .1 .1 .0) (f .kept .1 .1 .1 .1 .1 .1 .0) ∙ l .inv .writing .long
 
 returns-3 : tie.Need-returns-3 Inv-loop μ-loop
 returns-3 c =
-    let k = c .before .before .before .before .before .before .before .before .before in
-    let o = k .before .before in
-    let l = o .before .loop in
-    let v = o .before .before .before .before .before .before .before .before .before .before in
-    let s = v .before in
-    let ha = s .pre .0 .first .fit in
-    let hb = s .pre .0 .second .fit in
+    let at-clear = c .before in
+    let at-enum-told3 = at-clear .before .before in
+    let at-fill-column = at-enum-told3 .before .before .before in
+    let at-next = at-fill-column .before .before .before in
+    let at-next-event2 = at-next .before .before in
+    let at-loop = at-next-event2 .before in
+    let at-events-of = at-loop .before .before .before .before .before .before .before .before .before in
+    let at-start = at-events-of .before in
+    let l = at-loop .loop in
+    let ha = at-start .pre .0 .first .fit in
+    let hb = at-start .pre .0 .second .fit in
     let h = l .inv in
-    let f = c .before .before .before .before .before .before .fill-column in
-    let turn = later-event _ _ ha hb (v .events-of .result) (v .events-of .ensures .names) _ (h .proper) _ (o .next-event2 .ensures) _ (k .next .given .1) in
-    let n : length (c .before .clear .last .0) ≡ length (s .args .out .now) = same-length-2 c in
-    let z = blank-of (pos 0) (c .before .clear .last .0) (length (putMid (memoryWidth * l .n) (length (l .out) - memoryWidth * l .n) (l .out) (f .last .1 .1 .1 .1 .1 .1 .0))) (c .before .clear .ensures) in
-    (fill-full ha hb (s .pre .1) h (k .next .given .0 .0) turn _ _ (f .ensures) (c .before .before .before .enum-told3 .given .1), rw (← n) z)
+    let f = at-fill-column .fill-column in
+    let turn = later-event _ _ ha hb (at-events-of .events-of .result) (at-events-of .events-of .ensures .names) _ (h .proper) _ (at-next-event2 .next-event2 .ensures) _ (at-next .next .given .1) in
+    let n : length (at-clear .clear .last .0) ≡ length (at-start .args .out .now) = same-length-2 c in
+    let z = blank-of (pos 0) (at-clear .clear .last .0) (length (putMid (memoryWidth * l .n) (length (l .out) - memoryWidth * l .n) (l .out) (f .last .1 .1 .1 .1 .1 .1 .0))) (at-clear .clear .ensures) in
+    (fill-full ha hb (at-start .pre .1) h (at-next .next .given .0 .0) turn _ _ (f .ensures) (at-enum-told3 .enum-told3 .given .1), rw (← n) z)
 
 add-n : tie.Need-add-n Inv-loop μ-loop
 add-n c =
-    let k = c .before .before .before .before .before .before .before in
-    let o = k .before .before in
-    let l = o .before .loop in
-    let v = o .before .before .before .before .before .before .before .before .before .before in
-    let s = v .before in
-    let ha = s .pre .0 .first .fit in
-    let hb = s .pre .0 .second .fit in
+    let at-f = c .before in
+    let at-fill-column = at-f .before .before .before in
+    let at-next = at-fill-column .before .before .before in
+    let at-next-event2 = at-next .before .before in
+    let at-loop = at-next-event2 .before in
+    let at-events-of = at-loop .before .before .before .before .before .before .before .before .before in
+    let at-start = at-events-of .before in
+    let l = at-loop .loop in
+    let ha = at-start .pre .0 .first .fit in
+    let hb = at-start .pre .0 .second .fit in
     let h = l .inv in
-    let turn = later-event _ _ ha hb (v .events-of .result) (v .events-of .ensures .names) _ (h .proper) _ (o .next-event2 .ensures) _ (k .next .given .1) in
-    let u = fill-upto ha hb (s .pre .1) h (k .next .given .0 .0) turn _ _ (c .before .before .before .before .fill-column .ensures) _ (c .before .f .given .1) in
-    omega (arith, u, h .writing .wide, s .good .1 .1 .1 .0)
+    let turn = later-event _ _ ha hb (at-events-of .events-of .result) (at-events-of .events-of .ensures .names) _ (h .proper) _ (at-next-event2 .next-event2 .ensures) _ (at-next .next .given .1) in
+    let u = fill-upto ha hb (at-start .pre .1) h (at-next .next .given .0 .0) turn _ _ (at-fill-column .fill-column .ensures) _ (at-f .f .given .1) in
+    omega (arith, u, h .writing .wide, at-start .good .1 .1 .1 .0)
 
 column-at-requires-2 : tie.Need-column-at-requires-2 Inv-loop μ-loop
 column-at-requires-2 c κs =
-    let k = c .before .before .before .before .before .before .before in
-    let o = k .before .before in
-    let l = o .before .loop in
-    let v = o .before .before .before .before .before .before .before .before .before .before in
-    let s = v .before in
-    let ha = s .pre .0 .first .fit in
-    let hb = s .pre .0 .second .fit in
+    let at-next = c .before .before .before .before .before .before .before in
+    let at-next-event2 = at-next .before .before in
+    let at-loop = at-next-event2 .before in
+    let at-start = at-loop .before .before .before .before .before .before .before .before .before .before in
+    let l = at-loop .loop in
+    let ha = at-start .pre .0 .first .fit in
+    let hb = at-start .pre .0 .second .fit in
     let h = l .inv in
-    (s .pre .0, found-event _ _ (k .next .given .1) (o .next-event2 .ensures .placed) .small, column-four ha hb _ _ (h .column))
+    (at-start .pre .0, found-event _ _ (at-next .next .given .1) (at-next-event2 .next-event2 .ensures .placed) .small, column-four ha hb _ _ (h .column))
 
 loop-less : tie.Need-loop-less Inv-loop μ-loop
 loop-less c =
-    let k = c .before .before .before .before .before .before .before .before in
-    let o = k .before .before in
-    let l = o .before .loop in
-    let v = o .before .before .before .before .before .before .before .before .before .before in
-    let s = v .before in
-    let ha = s .pre .0 .first .fit in
-    let hb = s .pre .0 .second .fit in
+    let at-next = c .before .before .before .before .before .before .before .before in
+    let at-next-event2 = at-next .before .before in
+    let at-loop = at-next-event2 .before in
+    let at-events-of = at-loop .before .before .before .before .before .before .before .before .before in
+    let at-start = at-events-of .before in
+    let l = at-loop .loop in
+    let ha = at-start .pre .0 .first .fit in
+    let hb = at-start .pre .0 .second .fit in
     let h = l .inv in
-    fewer _ _ ha hb (v .events-of .result) (v .events-of .ensures .names) _ (h .proper) _ (o .next-event2 .ensures) _ (k .next .given .1)
+    fewer _ _ ha hb (at-events-of .events-of .result) (at-events-of .events-of .ensures .names) _ (h .proper) _ (at-next-event2 .next-event2 .ensures) _ (at-next .next .given .1)
 
 loop-again : tie.Need-loop-again Inv-loop μ-loop
 loop-again c =
-    let k = c .before .before .before .before .before .before .before .before in
-    let o = k .before .before in
-    let l = o .before .loop in
-    let v = o .before .before .before .before .before .before .before .before .before .before in
-    let s = v .before in
-    let ha = s .pre .0 .first .fit in
-    let hb = s .pre .0 .second .fit in
+    let at-f = c .before .before in
+    let at-fill-column = at-f .before .before .before in
+    let at-next = at-fill-column .before .before .before in
+    let at-next-event2 = at-next .before .before in
+    let at-loop = at-next-event2 .before in
+    let at-events-of = at-loop .before .before .before .before .before .before .before .before .before in
+    let at-start = at-events-of .before in
+    let l = at-loop .loop in
+    let ha = at-start .pre .0 .first .fit in
+    let hb = at-start .pre .0 .second .fit in
     let h = l .inv in
-    let turn = later-event _ _ ha hb (v .events-of .result) (v .events-of .ensures .names) _ (h .proper) _ (o .next-event2 .ensures) _ (k .next .given .1) in
-    let e = k .next .given .1 in
-    let r = o .next-event2 .ensures in
-    fill-turn ha hb (s .pre .1) h _ turn _ _ (c .before .before .before .before .before .fill-column .ensures) _ (c .before .before .f .given .1) (found-event _ _ e (r .placed))
-    (later-proper _ _ ha hb (v .events-of .result) (v .events-of .ensures .names) _ (h .proper) _ r _ e) _ (c .column-at2 .ensures)
+    let turn = later-event _ _ ha hb (at-events-of .events-of .result) (at-events-of .events-of .ensures .names) _ (h .proper) _ (at-next-event2 .next-event2 .ensures) _ (at-next .next .given .1) in
+    let e = at-next .next .given .1 in
+    let r = at-next-event2 .next-event2 .ensures in
+    fill-turn ha hb (at-start .pre .1) h _ turn _ _ (at-fill-column .fill-column .ensures) _ (at-f .f .given .1) (found-event _ _ e (r .placed))
+    (later-proper _ _ ha hb (at-events-of .events-of .result) (at-events-of .events-of .ensures .names) _ (h .proper) _ r _ e) _ (c .column-at2 .ensures)
 
 pub fill-columns-spec : {M : Type 1} → statement M
 fill-columns-spec =

@@ -15,33 +15,51 @@ same-length c = c .before .fill-columns .kept .1 .1 .1 .0
 
 returns : tie.Need-returns
 returns c =
-    let s = c .before .before .before .before .before .args in
-    let f = c .before .fill-columns in
-    overlay-columns (s .a .shape) (s .b .shape) (s .tag) (s .room) (length (s .out .now)) (f .result) (f .last .1 .1 .1 .0) (sym (c .before .before .before .before .overlapping .ensures) ∙ c .before .before .before .if1 .taken) (f .ensures)
+    let at-fill-columns = c .before in
+    let at-if1 = at-fill-columns .before .before in
+    let at-overlapping = at-if1 .before in
+    let at-start = at-overlapping .before in
+    let s = at-start .args in
+    let f = at-fill-columns .fill-columns in
+    overlay-columns (s .a .shape) (s .b .shape) (s .tag) (s .room) (length (s .out .now)) (f .result) (f .last .1 .1 .1 .0) (sym (at-overlapping .overlapping .ensures) ∙ at-if1 .if1 .taken) (f .ensures)
 
 put-requires : tie.Need-put-requires
-put-requires c κs = c .before .before .before .before .pre .2
+put-requires c κs =
+    let at-start = c .before .before .before .before in
+    at-start .pre .2
 
 same-length-2 : tie.Need-same-length-2
 same-length-2 c = c .before .put .kept .1 .0
 
 returns-2 : tie.Need-returns-2
 returns-2 c =
-    let s = c .before .before .before .before .before .before .args in
-    let f = c .before .put in
-    overlay-first (s .a .shape) (s .b .shape) (s .tag) (s .room) (length (s .out .now)) (f .result) (f .last .1 .0) (sym (c .before .before .before .before .before .overlapping .ensures) ∙ c .before .before .before .before .if1 .left) (c .before .before .before .if2 .taken) (f .ensures)
+    let at-put = c .before in
+    let at-if2 = at-put .before .before in
+    let at-if1 = at-if2 .before in
+    let at-overlapping = at-if1 .before in
+    let at-start = at-overlapping .before in
+    let s = at-start .args in
+    let f = at-put .put in
+    overlay-first (s .a .shape) (s .b .shape) (s .tag) (s .room) (length (s .out .now)) (f .result) (f .last .1 .0) (sym (at-overlapping .overlapping .ensures) ∙ at-if1 .if1 .left) (at-if2 .if2 .taken) (f .ensures)
 
 put-if-requires : tie.Need-put-if-requires
-put-if-requires c κs = c .before .before .before .before .pre .2
+put-if-requires c κs =
+    let at-start = c .before .before .before .before in
+    at-start .pre .2
 
 same-length-3 : tie.Need-same-length-3
 same-length-3 c = c .before .put-if .kept .1 .1 .0
 
 returns-3 : tie.Need-returns-3
 returns-3 c =
-    let s = c .before .before .before .before .before .before .args in
-    let f = c .before .put-if in
-    overlay-second (s .a .shape) (s .b .shape) (s .tag) (s .room) (length (s .out .now)) (f .result) (f .last .1 .1 .0) (sym (c .before .before .before .before .before .overlapping .ensures) ∙ c .before .before .before .before .if1 .left) (c .before .before .before .if2 .left) (f .ensures)
+    let at-put-if = c .before in
+    let at-if2 = at-put-if .before .before in
+    let at-if1 = at-if2 .before in
+    let at-overlapping = at-if1 .before in
+    let at-start = at-overlapping .before in
+    let s = at-start .args in
+    let f = at-put-if .put-if in
+    overlay-second (s .a .shape) (s .b .shape) (s .tag) (s .room) (length (s .out .now)) (f .result) (f .last .1 .1 .0) (sym (at-overlapping .overlapping .ensures) ∙ at-if1 .if1 .left) (at-if2 .if2 .left) (f .ensures)
 
 pub overlay-into-spec : {M : Type 1} → statement M
 overlay-into-spec =

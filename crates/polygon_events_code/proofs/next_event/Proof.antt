@@ -1,3 +1,4 @@
+-- Before turn i: a search from `best` through the crossings among the edges from number i on finds what a search through all events finds.
 use Prim.Native.Nat.{_-_}
 use native.Mathlib.Omega.{arith}
 use borrow.Author.Needs.{needs}
@@ -16,17 +17,19 @@ abbrev μ-loop : tie.MeasureT-loop
 
 loop-holds : tie.Need-loop-holds Inv-loop μ-loop
 loop-holds c =
-    let s = c .before .before in
-    meeting-start (s .args .v) (after (s .args .started) (s .args .g)) (marks (s .args .limit) (polygonOf (s .args .words .now))) (s .pre .2) _ (c .next-mark .ensures)
+    let at-start = c .before .before in
+    meeting-start (at-start .args .v) (after (at-start .args .started) (at-start .args .g)) (marks (at-start .args .limit) (polygonOf (at-start .args .words .now))) (at-start .pre .2) _ (c .next-mark .ensures)
 
 array-copy-out-d : tie.Need-array-copy-out-d Inv-loop μ-loop
 array-copy-out-d c = omega (arith, c .before .loop .inv .well .few, c .loop-test .taken)
 
 with-pairs-requires : tie.Need-with-pairs-requires Inv-loop μ-loop
 with-pairs-requires c κs =
-    let h = c .before .before .loop .inv in
-    let s = c .before .before .before .before .before in
-    (h .placed, s .pre .3, meeting-grid _ _ _ _ _ h _ (c .before .loop-test .taken), h .well)
+    let at-loop-test = c .before in
+    let at-loop = at-loop-test .before in
+    let at-start = at-loop .before .before .before in
+    let h = at-loop .loop .inv in
+    (h .placed, at-start .pre .3, meeting-grid _ _ _ _ _ h _ (at-loop-test .loop-test .taken), h .well)
 
 loop-again : tie.Need-loop-again Inv-loop μ-loop
 loop-again c = meeting-next _ _ _ _ _ (c .before .before .before .loop .inv) _ (c .before .before .loop-test .taken) _ (c .with-pairs .ensures)

@@ -1,3 +1,4 @@
+-- Before each turn: a search from `best` through the marks of the vertices from word k on finds what a search through all marks finds.
 use Prim.Native.Nat.{_-_}
 use native.Mathlib.Omega.{arith}
 use borrow.Author.Needs.{needs}
@@ -20,16 +21,22 @@ add-loop c = omega (arith, c .loop .inv .within, c .before .good .0)
 
 mark-at-requires : tie.Need-mark-at-requires Inv-loop μ-loop
 mark-at-requires c κs =
-    let s = c .before .before .before in
-    (marking-within _ _ _ _ _ (c .before .before .loop .inv) (c .before .loop-test .taken) _ (c .get .ensures .0), s .pre .1)
+    let at-start = c .before .before .before in
+    (marking-within _ _ _ _ _ (c .before .before .loop .inv) (c .before .loop-test .taken) _ (c .get .ensures .0), at-start .pre .1)
 
 better-requires : tie.Need-better-requires Inv-loop μ-loop
 better-requires c κs =
-    let s = c .before .before .before .before in
-    (c .before .before .before .loop .inv .placed, s .pre .2, c .mark-at .ensures .event)
+    let at-loop = c .before .before .before in
+    let at-start = at-loop .before in
+    (at-loop .loop .inv .placed, at-start .pre .2, c .mark-at .ensures .event)
 
 loop-again : tie.Need-loop-again Inv-loop μ-loop
-loop-again c = marking-next _ _ _ _ _ (c .before .before .before .before .loop .inv) (c .before .before .before .loop-test .taken) _ (c .before .before .get .ensures .0) _ _ (c .before .mark-at .ensures) (c .better .ensures)
+loop-again c =
+    let at-mark-at = c .before in
+    let at-get = at-mark-at .before in
+    let at-loop-test = at-get .before in
+    let at-loop = at-loop-test .before in
+    marking-next _ _ _ _ _ (at-loop .loop .inv) (at-loop-test .loop-test .taken) _ (at-get .get .ensures .0) _ _ (at-mark-at .mark-at .ensures) (c .better .ensures)
 
 returns : tie.Need-returns Inv-loop μ-loop
 returns c = marking-last _ _ _ _ _ (c .before .loop .inv) (omega (arith, c .loop-test .left))

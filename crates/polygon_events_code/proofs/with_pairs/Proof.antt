@@ -1,3 +1,4 @@
+-- Before turn j: a search from `r` through the crossings of d with the edges from number j on finds what one from `best`, from `first` on, finds.
 use Prim.Native.Nat.{_-_}
 use native.Mathlib.Omega.{arith}
 use borrow.Author.Needs.{needs}
@@ -14,17 +15,19 @@ abbrev μ-loop : tie.MeasureT-loop
 
 loop-holds : tie.Need-loop-holds Inv-loop μ-loop
 loop-holds c =
-    let s = c .before in
-    pairing-start (s .args .v) (after (s .args .started) (s .args .g)) (s .args .d) (s .args .best) (s .args .first) (s .pre .3) (s .pre .0)
+    let at-start = c .before in
+    pairing-start (at-start .args .v) (after (at-start .args .started) (at-start .args .g)) (at-start .args .d) (at-start .args .best) (at-start .args .first) (at-start .pre .3) (at-start .pre .0)
 
 array-copy-out-e : tie.Need-array-copy-out-e Inv-loop μ-loop
 array-copy-out-e c = omega (arith, c .before .loop .inv .well .few, c .loop-test .taken)
 
 with-pair-requires : tie.Need-with-pair-requires Inv-loop μ-loop
 with-pair-requires c κs =
-    let h = c .before .before .loop .inv in
-    let s = c .before .before .before .before in
-    (h .placed, s .pre .1, s .pre .2, pairing-grid _ _ _ _ _ _ _ h _ (c .before .loop-test .taken))
+    let at-loop-test = c .before in
+    let at-loop = at-loop-test .before in
+    let at-start = at-loop .before .before in
+    let h = at-loop .loop .inv in
+    (h .placed, at-start .pre .1, at-start .pre .2, pairing-grid _ _ _ _ _ _ _ h _ (at-loop-test .loop-test .taken))
 
 loop-again : tie.Need-loop-again Inv-loop μ-loop
 loop-again c = pairing-next _ _ _ _ _ _ _ (c .before .before .before .loop .inv) _ (c .before .before .loop-test .taken) _ (c .with-pair .ensures)

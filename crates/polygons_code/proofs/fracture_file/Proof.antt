@@ -1,3 +1,4 @@
+-- Before turn i: `out` holds the n trapezoids of the polygons before number i, and the polygons from number i on are on the grid.
 use mathlib.Core.Path.{_≡_, _∙_}
 use Prim.Native.Nat.{_*_, _-_, _<_}
 use native.Mathlib.Omega.{arith}
@@ -22,22 +23,28 @@ abbrev μ-loop : tie.MeasureT-loop
 μ-loop file limit out₀ room count i₀ n₀ out i n = count - i
 
 polygon-count-requires : tie.Need-polygon-count-requires Inv-loop μ-loop
-polygon-count-requires c κs = let s = c .before in checked-pairs (s .args .limit) (s .args .file .now) (s .pre .0)
+polygon-count-requires c κs =
+    let at-start = c .before in
+    checked-pairs (at-start .args .limit) (at-start .args .file .now) (at-start .pre .0)
 
 loop-holds : tie.Need-loop-holds Inv-loop μ-loop
-loop-holds c = let s = c .before .before in cutting-start (s .args .limit) (s .args .file .now) (s .args .out .now) (s .args .room) (s .pre .0) (s .pre .2)
+loop-holds c =
+    let at-start = c .before .before in
+    cutting-start (at-start .args .limit) (at-start .args .file .now) (at-start .args .out .now) (at-start .args .room) (at-start .pre .0) (at-start .pre .2)
 
 mul-fracture-numbered : tie.Need-mul-fracture-numbered Inv-loop μ-loop
 mul-fracture-numbered c =
-    let s = c .before .before .before .before in
-    let h = c .before .loop .inv .writing in
-    omega (arith, h .long, h .wide, h .upto, s .good .1 .1 .0)
+    let at-loop = c .before in
+    let at-start = at-loop .before .before .before in
+    let h = at-loop .loop .inv .writing in
+    omega (arith, h .long, h .wide, h .upto, at-start .good .1 .1 .0)
 
 mul-fracture-numbered-2 : tie.Need-mul-fracture-numbered-2 Inv-loop μ-loop
 mul-fracture-numbered-2 c =
-    let s = c .before .before .before .before in
-    let h = c .before .loop .inv .writing in
-    omega (arith, h .long, h .wide, h .upto, s .good .1 .1 .0)
+    let at-loop = c .before in
+    let at-start = at-loop .before .before .before in
+    let h = at-loop .loop .inv .writing in
+    omega (arith, h .long, h .wide, h .upto, at-start .good .1 .1 .0)
 
 sub-fracture-numbered : tie.Need-sub-fracture-numbered Inv-loop μ-loop
 sub-fracture-numbered c = let h = c .before .loop .inv .writing in omega (arith, h .long, h .wide, h .upto)
@@ -50,61 +57,67 @@ sub-fracture-numbered-2 c = c .before .before .loop .inv .writing .upto
 
 fracture-numbered-requires : tie.Need-fracture-numbered-requires Inv-loop μ-loop
 fracture-numbered-requires c κs =
-    let t = c .before in
-    let l = t .before in
-    let k = l .before in
-    let s = k .before .before in
-    let less : l .loop .i < countIn (fileWords (s .args .file .now)) = omega (arith, t .loop-test .taken, k .polygon-count .ensures .0) in
-    (checked-pairs (s .args .limit) (s .args .file .now) (s .pre .0), k .polygon-count .ensures .0, less, cutting-grid (l .loop .inv) less, s .pre .1, write-borrowed (l .loop .inv .writing))
+    let at-loop-test = c .before in
+    let at-loop = at-loop-test .before in
+    let at-polygon-count = at-loop .before in
+    let at-start = at-polygon-count .before .before in
+    let less : at-loop .loop .i < countIn (fileWords (at-start .args .file .now)) = omega (arith, at-loop-test .loop-test .taken, at-polygon-count .polygon-count .ensures .0) in
+    (checked-pairs (at-start .args .limit) (at-start .args .file .now) (at-start .pre .0), at-polygon-count .polygon-count .ensures .0, less, cutting-grid (at-loop .loop .inv) less, at-start .pre .1, write-borrowed (at-loop .loop .inv .writing))
 
 same-length : tie.Need-same-length Inv-loop μ-loop
 same-length c =
-    let d = c .before in
-    let o = d .before .before .before .before .before in
-    let l = o .before .before .before in
-    d .clear .kept .0 ∙ same-len-mid (memoryWidth * l .loop .n) (length (l .loop .out) - memoryWidth * l .loop .n) (l .loop .out) (o .fracture-numbered .last .1 .1 .1 .1 .0) (o .fracture-numbered .kept .1 .1 .1 .1 .0) ∙ l .loop .inv .writing .long
+    let at-clear = c .before in
+    let at-fracture-numbered = at-clear .before .before .before .before .before in
+    let at-loop = at-fracture-numbered .before .before .before in
+    at-clear .clear .kept .0 ∙ same-len-mid (memoryWidth * at-loop .loop .n) (length (at-loop .loop .out) - memoryWidth * at-loop .loop .n) (at-loop .loop .out) (at-fracture-numbered .fracture-numbered .last .1 .1 .1 .1 .0) (at-fracture-numbered .fracture-numbered .kept .1 .1 .1 .1 .0) ∙ at-loop .loop .inv .writing .long
 
 returns : tie.Need-returns Inv-loop μ-loop
 returns c =
-    let d = c .before in
-    let o = d .before .before .before .before .before in
-    let t = o .before .before in
-    let l = t .before in
-    let k = l .before in
-    let s = k .before .before in
-    let less : l .loop .i < countIn (fileWords (s .args .file .now)) = omega (arith, t .loop-test .taken, k .polygon-count .ensures .0) in
-    let n : length (d .clear .last .0) ≡ length (s .args .out .now) = same-length c in
-    let z = blank-of (pos 0) (d .clear .last .0) (length (putMid (memoryWidth * l .loop .n) (length (l .loop .out) - memoryWidth * l .loop .n) (l .loop .out) (o .fracture-numbered .last .1 .1 .1 .1 .0))) (d .clear .ensures) in
-    (cutting-full (l .loop .inv) less _ _ (o .fracture-numbered .ensures) (d .before .before .enum-told .given .1), rw (← n) z)
+    let at-clear = c .before in
+    let at-enum-told = at-clear .before .before in
+    let at-fracture-numbered = at-enum-told .before .before .before in
+    let at-loop-test = at-fracture-numbered .before .before in
+    let at-loop = at-loop-test .before in
+    let at-polygon-count = at-loop .before in
+    let at-start = at-polygon-count .before .before in
+    let less : at-loop .loop .i < countIn (fileWords (at-start .args .file .now)) = omega (arith, at-loop-test .loop-test .taken, at-polygon-count .polygon-count .ensures .0) in
+    let n : length (at-clear .clear .last .0) ≡ length (at-start .args .out .now) = same-length c in
+    let z = blank-of (pos 0) (at-clear .clear .last .0) (length (putMid (memoryWidth * at-loop .loop .n) (length (at-loop .loop .out) - memoryWidth * at-loop .loop .n) (at-loop .loop .out) (at-fracture-numbered .fracture-numbered .last .1 .1 .1 .1 .0))) (at-clear .clear .ensures) in
+    (cutting-full (at-loop .loop .inv) less _ _ (at-fracture-numbered .fracture-numbered .ensures) (at-enum-told .enum-told .given .1), rw (← n) z)
 
 add-n : tie.Need-add-n Inv-loop μ-loop
 add-n c =
-    let o = c .before .before .before .before in
-    let t = o .before .before in
-    let l = t .before in
-    let k = l .before in
-    let s = k .before .before in
-    let less : l .loop .i < countIn (fileWords (s .args .file .now)) = omega (arith, t .loop-test .taken, k .polygon-count .ensures .0) in
-    let e = cutting-upto (l .loop .inv) less _ _ (o .fracture-numbered .ensures) _ (c .before .f .given .1) in
-    omega (arith, e, l .loop .inv .writing .wide, s .good .1 .1 .0)
+    let at-f = c .before in
+    let at-fracture-numbered = at-f .before .before .before in
+    let at-loop-test = at-fracture-numbered .before .before in
+    let at-loop = at-loop-test .before in
+    let at-polygon-count = at-loop .before in
+    let at-start = at-polygon-count .before .before in
+    let less : at-loop .loop .i < countIn (fileWords (at-start .args .file .now)) = omega (arith, at-loop-test .loop-test .taken, at-polygon-count .polygon-count .ensures .0) in
+    let e = cutting-upto (at-loop .loop .inv) less _ _ (at-fracture-numbered .fracture-numbered .ensures) _ (at-f .f .given .1) in
+    omega (arith, e, at-loop .loop .inv .writing .wide, at-start .good .1 .1 .0)
 
 add-i : tie.Need-add-i Inv-loop μ-loop
 add-i c =
-    let t = c .before .before .before .before .before .before in
-    record { fits = omega (arith, t .loop-test .taken, t .before .before .polygon-count .ensures .1) }
+    let at-loop-test = c .before .before .before .before .before .before in
+    let at-polygon-count = at-loop-test .before .before in
+    record { fits = omega (arith, at-loop-test .loop-test .taken, at-polygon-count .polygon-count .ensures .1) }
 
 loop-less : tie.Need-loop-less Inv-loop μ-loop
-loop-less c = let t = c .before .before .before .before .before .before in omega (arith, t .loop-test .taken)
+loop-less c =
+    let at-loop-test = c .before .before .before .before .before .before in
+    omega (arith, at-loop-test .loop-test .taken)
 
 loop-again : tie.Need-loop-again Inv-loop μ-loop
 loop-again c =
-    let o = c .before .before .before .before in
-    let t = o .before .before in
-    let l = t .before in
-    let k = l .before in
-    let s = k .before .before in
-    let less : l .loop .i < countIn (fileWords (s .args .file .now)) = omega (arith, t .loop-test .taken, k .polygon-count .ensures .0) in
-    cutting-next (l .loop .inv) less _ _ (o .fracture-numbered .ensures) _ (c .before .f .given .1)
+    let at-f = c .before in
+    let at-fracture-numbered = at-f .before .before .before in
+    let at-loop-test = at-fracture-numbered .before .before in
+    let at-loop = at-loop-test .before in
+    let at-polygon-count = at-loop .before in
+    let at-start = at-polygon-count .before .before in
+    let less : at-loop .loop .i < countIn (fileWords (at-start .args .file .now)) = omega (arith, at-loop-test .loop-test .taken, at-polygon-count .polygon-count .ensures .0) in
+    cutting-next (at-loop .loop .inv) less _ _ (at-fracture-numbered .fracture-numbered .ensures) _ (at-f .f .given .1)
 
 same-length-2 : tie.Need-same-length-2 Inv-loop μ-loop
 same-length-2 c = c .before .loop .inv .writing .long

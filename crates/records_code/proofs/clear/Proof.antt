@@ -1,3 +1,4 @@
+-- Before each turn: the first `at` words are 0, and the rest are as they were.
 use Prim.Native.Nat.{_-_}
 use lib.ListN.{length}
 use lib.IntN.{pos}

@@ -1,3 +1,4 @@
+-- Before turn i: the first i bytes are 0, and the rest are as they were.
 use Prim.Native.Nat.{_-_}
 use lib.ListN.{length}
 use borrow.Author.Needs.{needs}

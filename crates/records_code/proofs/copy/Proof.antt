@@ -1,3 +1,4 @@
+-- Before turn i: the first i words of `dst` are those of `src`, which is as long, and the rest are as they were.
 use Prim.Native.Nat.{_-_}
 use lib.ListN.{length}
 use lib.IntN.{pos}

@@ -50,40 +50,42 @@ natural x f t = go x f (subst (λ (z : ℤ). ltZ z (pos 0) ≡ false) (toZ-ofZ f
 
 sub-k : tie.Need-sub-k
 unfolding turned
-sub-k c = let s = c .before in turned-fits (s .args .x) (s .fits .x) (negative (s .args .x) (s .fits .x) (c .if1 .taken))
+sub-k c =
+    let at-start = c .before in
+    turned-fits (at-start .args .x) (at-start .fits .x) (negative (at-start .args .x) (at-start .fits .x) (c .if1 .taken))
 
 cast-result : tie.Need-cast-result
 unfolding turned
 cast-result c =
-    let s = c .before in
-    let h = negative (s .args .x) (s .fits .x) (c .if1 .taken) in
-    subst (λ (z : ℤ). T (nonNeg z) × Fits w64 (natAbs z)) (sym (kept (s .args .x) (s .fits .x) h)) (tt, record { fits = omega (arith, h .range) })
+    let at-start = c .before in
+    let h = negative (at-start .args .x) (at-start .fits .x) (c .if1 .taken) in
+    subst (λ (z : ℤ). T (nonNeg z) × Fits w64 (natAbs z)) (sym (kept (at-start .args .x) (at-start .fits .x) h)) (tt, record { fits = omega (arith, h .range) })
 
 sub-result : tie.Need-sub-result
 unfolding turned
 sub-result c =
-    let s = c .before in
-    let h = negative (s .args .x) (s .fits .x) (c .if1 .taken) in
-    subst (λ (z : ℤ). natAbs z ≤ 4294967295) (sym (kept (s .args .x) (s .fits .x) h)) (omega (arith, h .range))
+    let at-start = c .before in
+    let h = negative (at-start .args .x) (at-start .fits .x) (c .if1 .taken) in
+    subst (λ (z : ℤ). natAbs z ≤ 4294967295) (sym (kept (at-start .args .x) (at-start .fits .x) h)) (omega (arith, h .range))
 
 returns : tie.Need-returns
 unfolding turned
 returns c =
-    let s = c .before in
-    let h = negative (s .args .x) (s .fits .x) (c .if1 .taken) in
-    subst (λ (z : ℤ). (4294967295 - natAbs z ≡ pattern (s .args .x)) × (4294967295 - natAbs z < 4294967296)) (sym (kept (s .args .x) (s .fits .x) h)) (sym (ap pattern (h .is)), omega arith)
+    let at-start = c .before in
+    let h = negative (at-start .args .x) (at-start .fits .x) (c .if1 .taken) in
+    subst (λ (z : ℤ). (4294967295 - natAbs z ≡ pattern (at-start .args .x)) × (4294967295 - natAbs z < 4294967296)) (sym (kept (at-start .args .x) (at-start .fits .x) h)) (sym (ap pattern (h .is)), omega arith)
 
 cast-result-2 : tie.Need-cast-result-2
 cast-result-2 c =
-    let s = c .before in
-    let h = natural (s .args .x) (s .fits .x) (c .if1 .left) in
-    subst (λ (z : ℤ). T (nonNeg z) × Fits w64 (natAbs z)) (sym (toZ-ofZ (s .fits .x) ∙ h .1)) (tt, record { fits = omega (arith, h .2) })
+    let at-start = c .before in
+    let h = natural (at-start .args .x) (at-start .fits .x) (c .if1 .left) in
+    subst (λ (z : ℤ). T (nonNeg z) × Fits w64 (natAbs z)) (sym (toZ-ofZ (at-start .fits .x) ∙ h .1)) (tt, record { fits = omega (arith, h .2) })
 
 returns-2 : tie.Need-returns-2
 returns-2 c =
-    let s = c .before in
-    let h = natural (s .args .x) (s .fits .x) (c .if1 .left) in
-    subst (λ (z : ℤ). (natAbs z ≡ pattern (s .args .x)) × (natAbs z < 4294967296)) (sym (toZ-ofZ (s .fits .x) ∙ h .1)) (sym (ap pattern (h .1)), omega (arith, h .2))
+    let at-start = c .before in
+    let h = natural (at-start .args .x) (at-start .fits .x) (c .if1 .left) in
+    subst (λ (z : ℤ). (natAbs z ≡ pattern (at-start .args .x)) × (natAbs z < 4294967296)) (sym (toZ-ofZ (at-start .fits .x) ∙ h .1)) (sym (ap pattern (h .1)), omega (arith, h .2))
 
 pub pattern-spec : {M : Type 1} → statement M
 pattern-spec = tie.close (tie.spec sub-k cast-result sub-result returns cast-result-2 returns-2)

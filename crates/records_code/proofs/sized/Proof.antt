@@ -1,5 +1,4 @@
 use Prim.Native.Nat.{_%_}
-use borrow.Author.Needs.{needs}
 use borrow.Author.Tests.{eq-eqb, ne-eqb}
 use Rattle.records.specs.Limits.{sized, memoryWidth}
 use Rattle.records_code.proofs.sized.Statement.{statement}

@@ -18,7 +18,9 @@ slice-write-s-4 : tie.Need-slice-write-s-4
 slice-write-s-4 c = simp length-set (omega arith)
 
 returns : tie.Need-returns
-returns c = let s = c .before .before in word-put (s .args .s .now) (s .args .i) (s .args .x) (c .pattern .result) (c .pattern .ensures .0 ∙ ap pattern (toZ-ofZ (s .fits .x))) (s .pre)
+returns c =
+    let at-start = c .before .before in
+    word-put (at-start .args .s .now) (at-start .args .i) (at-start .args .x) (c .pattern .result) (c .pattern .ensures .0 ∙ ap pattern (toZ-ofZ (at-start .fits .x))) (at-start .pre)
 
 pub store-word-spec : {M : Type 1} → statement M
 store-word-spec =

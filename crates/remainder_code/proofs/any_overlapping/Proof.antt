@@ -26,15 +26,23 @@ overlapping-requires c κs = record { first = placed-own (c .placed-at .ensures)
 
 returns : tie.Need-returns Inv-loop μ-loop
 returns c =
-    let p = c .before .before in
-    let b = p .before .before .before .args .b .shape in
-    search-found (λ ts. overlapsAny ts b) (λ t. overlaps t b) (λ t ts. refl) (p .before .before .loop .inv) (p .before .loop-test .taken) (p .placed-at .result .shape) (p .placed-at .ensures .shape) (sym (c .before .overlapping .ensures) ∙ c .if1 .taken)
+    let at-overlapping = c .before in
+    let at-placed-at = at-overlapping .before in
+    let at-loop-test = at-placed-at .before in
+    let at-loop = at-loop-test .before in
+    let at-start = at-loop .before in
+    let b = at-start .args .b .shape in
+    search-found (λ ts. overlapsAny ts b) (λ t. overlaps t b) (λ t ts. refl) (at-loop .loop .inv) (at-loop-test .loop-test .taken) (at-placed-at .placed-at .result .shape) (at-placed-at .placed-at .ensures .shape) (sym (at-overlapping .overlapping .ensures) ∙ c .if1 .taken)
 
 loop-again : tie.Need-loop-again Inv-loop μ-loop
 loop-again c =
-    let p = c .before .before in
-    let b = p .before .before .before .args .b .shape in
-    search-turn (λ ts. overlapsAny ts b) (λ t. overlaps t b) (λ t ts. refl) (p .before .before .loop .inv) (p .before .loop-test .taken) (p .placed-at .result .shape) (p .placed-at .ensures .shape) (sym (c .before .overlapping .ensures) ∙ c .if1 .left)
+    let at-overlapping = c .before in
+    let at-placed-at = at-overlapping .before in
+    let at-loop-test = at-placed-at .before in
+    let at-loop = at-loop-test .before in
+    let at-start = at-loop .before in
+    let b = at-start .args .b .shape in
+    search-turn (λ ts. overlapsAny ts b) (λ t. overlaps t b) (λ t ts. refl) (at-loop .loop .inv) (at-loop-test .loop-test .taken) (at-placed-at .placed-at .result .shape) (at-placed-at .placed-at .ensures .shape) (sym (at-overlapping .overlapping .ensures) ∙ c .if1 .left)
 
 returns-2 : tie.Need-returns-2 Inv-loop μ-loop
 returns-2 c = sym (walk-stop (c .before .loop .inv) (c .loop-test .left))

@@ -26,13 +26,21 @@ overlapping-requires c κs = record { first = c .before .before .before .pre .0;
 
 returns : tie.Need-returns Inv-loop μ-loop
 returns c =
-    let p = c .before .before in
-    pass-found (p .before .before .before .args .a .shape) (p .before .before .loop .inv) (p .before .loop-test .taken) (p .placed-at .result .shape) (p .placed-at .ensures .shape) (sym (c .before .overlapping .ensures) ∙ c .if1 .taken)
+    let at-overlapping = c .before in
+    let at-placed-at = at-overlapping .before in
+    let at-loop-test = at-placed-at .before in
+    let at-loop = at-loop-test .before in
+    let at-start = at-loop .before in
+    pass-found (at-start .args .a .shape) (at-loop .loop .inv) (at-loop-test .loop-test .taken) (at-placed-at .placed-at .result .shape) (at-placed-at .placed-at .ensures .shape) (sym (at-overlapping .overlapping .ensures) ∙ c .if1 .taken)
 
 loop-again : tie.Need-loop-again Inv-loop μ-loop
 loop-again c =
-    let p = c .before .before in
-    pass-turn (p .before .before .before .args .a .shape) (p .before .before .loop .inv) (p .before .loop-test .taken) (p .placed-at .result .shape) (p .placed-at .ensures .shape) (sym (c .before .overlapping .ensures) ∙ c .if1 .left)
+    let at-overlapping = c .before in
+    let at-placed-at = at-overlapping .before in
+    let at-loop-test = at-placed-at .before in
+    let at-loop = at-loop-test .before in
+    let at-start = at-loop .before in
+    pass-turn (at-start .args .a .shape) (at-loop .loop .inv) (at-loop-test .loop-test .taken) (at-placed-at .placed-at .result .shape) (at-placed-at .placed-at .ensures .shape) (sym (at-overlapping .overlapping .ensures) ∙ c .if1 .left)
 
 returns-2 : tie.Need-returns-2 Inv-loop μ-loop
 returns-2 c = pass-stop (c .before .before .args .a .shape) (c .before .loop .inv) (c .loop-test .left)

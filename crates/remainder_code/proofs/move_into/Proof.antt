@@ -10,23 +10,33 @@ use Rattle.remainder_code.proofs.move_into.Statement.{statement}
 use Rattle.remainder_code.proofs.move_into.Tie as tie
 
 slice-aggregate-copy : tie.Need-slice-aggregate-copy
-slice-aggregate-copy c = let s = c .before in sym (length-take-le (memoryWidth * s .args .n) (s .args .out .now) (s .pre .0))
+slice-aggregate-copy c =
+    let at-start = c .before in
+    sym (length-take-le (memoryWidth * at-start .args .n) (at-start .args .out .now) (at-start .pre .0))
 
 slice-aggregate-copy-2 : tie.Need-slice-aggregate-copy-2
-slice-aggregate-copy-2 c = let s = c .before .before in sym (length-take-le (memoryWidth * s .args .n) (s .args .scratch .now) (s .pre .1))
+slice-aggregate-copy-2 c =
+    let at-start = c .before .before in
+    sym (length-take-le (memoryWidth * at-start .args .n) (at-start .args .scratch .now) (at-start .pre .1))
 
 copy-requires : tie.Need-copy-requires
-copy-requires c κs = let s = c .before .before in length-take-le (memoryWidth * s .args .n) (s .args .out .now) (s .pre .0) ∙ sym (length-take-le (memoryWidth * s .args .n) (s .args .scratch .now) (s .pre .1))
+copy-requires c κs =
+    let at-start = c .before .before in
+    length-take-le (memoryWidth * at-start .args .n) (at-start .args .out .now) (at-start .pre .0) ∙ sym (length-take-le (memoryWidth * at-start .args .n) (at-start .args .scratch .now) (at-start .pre .1))
 
 slice-aggregate-clear : tie.Need-slice-aggregate-clear
-slice-aggregate-clear c = let s = c .before .before .before .before .before in sym (length-take-le (memoryWidth * s .args .n) (s .args .out .now) (s .pre .0))
+slice-aggregate-clear c =
+    let at-start = c .before .before .before .before .before in
+    sym (length-take-le (memoryWidth * at-start .args .n) (at-start .args .out .now) (at-start .pre .0))
 
 returns : tie.Need-returns
 returns c =
-    let s = c .before .before .before .before .before .before .before in
-    let e = memoryWidth * s .args .n in
-    let l = length-take-le e (s .args .out .now) (s .pre .0) in
-    (ap (λ (t : List ℤ). t ++ drop e (s .args .out .now)) (c .before .clear .ensures ∙ ap (λ (m : ℕ). replicate m (pos 0)) l), ap (λ (t : List ℤ). t ++ drop e (s .args .scratch .now)) (c .before .before .before .before .copy .ensures))
+    let at-clear = c .before in
+    let at-copy = at-clear .before .before .before in
+    let at-start = at-copy .before .before .before in
+    let e = memoryWidth * at-start .args .n in
+    let l = length-take-le e (at-start .args .out .now) (at-start .pre .0) in
+    (ap (λ (t : List ℤ). t ++ drop e (at-start .args .out .now)) (at-clear .clear .ensures ∙ ap (λ (m : ℕ). replicate m (pos 0)) l), ap (λ (t : List ℤ). t ++ drop e (at-start .args .scratch .now)) (at-copy .copy .ensures))
 
 pub move-into-spec : {M : Type 1} → statement M
 move-into-spec =

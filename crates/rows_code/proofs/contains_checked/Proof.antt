@@ -7,20 +7,33 @@ use Rattle.rows_code.proofs.Rows.{contains-lengths, contains-code, cont
 use Rattle.rows_code.proofs.contains_checked.Statement.{statement}
 use Rattle.rows_code.proofs.contains_checked.Tie as tie
 
-layers-checked-requires : tie.Need-layers-checked-requires
-layers-checked-requires c κs =
-    let s = c .before .before .before .before .before in
-    (s .pre, sized-most (length (s .args .a .now)) (and-left _ _ (sym (c .before .before .before .before .layers-sized .ensures) ∙ c .before .before .before .if1 .taken)))
+both-checked-requires : tie.Need-both-checked-requires
+both-checked-requires c κs =
+    let at-if1 = c .before .before .before in
+    let at-layers-sized = at-if1 .before in
+    let at-start = at-layers-sized .before in
+    (at-start .pre, sized-most (length (at-start .args .a .now)) (and-left _ _ (sym (at-layers-sized .layers-sized .ensures) ∙ at-if1 .if1 .taken)))
 
 returns : tie.Need-returns
 returns c =
-    let s = c .before .before .before .before .before .before .args in
-    c .layers-checked .ensures ∙ contains-layers (s .limit) _ (s .a .now) (s .b .now) (s .code) (sym (c .before .before .before .before .before .layers-sized .ensures) ∙ c .before .before .before .before .if1 .taken) (c .before .before .before .if2 .taken) (sym (c .before .before .point-passes .ensures) ∙ c .before .if3 .taken)
+    let at-if3 = c .before in
+    let at-point-passes = at-if3 .before in
+    let at-if2 = at-point-passes .before in
+    let at-if1 = at-if2 .before in
+    let at-layers-sized = at-if1 .before in
+    let at-start = at-layers-sized .before in
+    let s = at-start .args in
+    c .both-checked .ensures ∙ contains-layers (s .limit) _ (s .a .now) (s .b .now) (s .code) (sym (at-layers-sized .layers-sized .ensures) ∙ at-if1 .if1 .taken) (at-if2 .if2 .taken) (sym (at-point-passes .point-passes .ensures) ∙ at-if3 .if3 .taken)
 
 returns-2 : tie.Need-returns-2
 returns-2 c =
-    let s = c .before .before .before .before .before .args in
-    contains-point (s .limit) _ (s .a .now) (s .b .now) (s .code) (sym (c .before .before .before .before .layers-sized .ensures) ∙ c .before .before .before .if1 .taken) (c .before .before .if2 .taken) (sym (c .before .point-passes .ensures) ∙ c .if3 .left)
+    let at-point-passes = c .before in
+    let at-if2 = at-point-passes .before in
+    let at-if1 = at-if2 .before in
+    let at-layers-sized = at-if1 .before in
+    let at-start = at-layers-sized .before in
+    let s = at-start .args in
+    contains-point (s .limit) _ (s .a .now) (s .b .now) (s .code) (sym (at-layers-sized .layers-sized .ensures) ∙ at-if1 .if1 .taken) (at-if2 .if2 .taken) (sym (at-point-passes .point-passes .ensures) ∙ c .if3 .left)
 
 returns-3 : tie.Need-returns-3
 returns-3 c =
@@ -38,7 +51,7 @@ contains-checked-spec =
     (tie.spec
     (λ c κs. search needs)
     (λ c κs. search needs)
-    layers-checked-requires
+    both-checked-requires
     returns
     returns-2
     returns-3

@@ -6,8 +6,11 @@ use Rattle.rows_code.proofs.fracture_checked.Tie as tie
 
 returns : tie.Need-returns
 returns c =
-    let s = c .before .before .before .before .args in
-    c .check-polygon-file .ensures ∙ fracture-rows (s .limit) (s .file .now) (s .out) (s .scratch) (sym (c .before .before .buffers-sized .ensures) ∙ c .before .if1 .taken)
+    let at-if1 = c .before in
+    let at-buffers-sized = at-if1 .before in
+    let at-start = at-buffers-sized .before .before in
+    let s = at-start .args in
+    c .check-polygon-file .ensures ∙ fracture-rows (s .limit) (s .file .now) (s .out) (s .scratch) (sym (at-buffers-sized .buffers-sized .ensures) ∙ at-if1 .if1 .taken)
 
 returns-2 : tie.Need-returns-2
 returns-2 c =

@@ -11,13 +11,19 @@ within-times-requires c κs = (c .before .before .pre, denominator-small (c .bef
 
 within-times-requires-2 : tie.Need-within-times-requires-2
 within-times-requires-2 c κs =
-    let s = c .before .before .before .before in
-    (s .pre, denominator-small (s .args .d .v) (sym (c .before .before .before .denominator-passes .ensures) ∙ c .before .before .if1 .taken))
+    let at-if1 = c .before .before in
+    let at-denominator-passes = at-if1 .before in
+    let at-start = at-denominator-passes .before in
+    (at-start .pre, denominator-small (at-start .args .d .v) (sym (at-denominator-passes .denominator-passes .ensures) ∙ at-if1 .if1 .taken))
 
 returns : tie.Need-returns
 unfolding pointPasses
 returns c =
-    holds (sym (c .before .before .before .before .denominator-passes .ensures) ∙ c .before .before .before .if1 .taken) (holds (sym (c .before .before .within-times .ensures) ∙ c .before .if2 .taken) (c .within-times2 .ensures))
+    let at-if2 = c .before in
+    let at-within-times = at-if2 .before in
+    let at-if1 = at-within-times .before in
+    let at-denominator-passes = at-if1 .before in
+    holds (sym (at-denominator-passes .denominator-passes .ensures) ∙ at-if1 .if1 .taken) (holds (sym (at-within-times .within-times .ensures) ∙ at-if2 .if2 .taken) (c .within-times2 .ensures))
 
 returns-2 : tie.Need-returns-2
 unfolding pointPasses

@@ -17,14 +17,17 @@ neg-requires c κs = rw (c .mul .ensures .1, c .before .natural .ensures .1) (om
 
 returns : tie.Need-returns
 returns c =
-    let s = c .before .before .before .before .before .before .args in
-    let m : c .before .before .before .before .mul .result .v ≡ pos (s .limit) ⊗ s .d .v = cc in
+    let at-mul = c .before .before .before .before in
+    let at-start = at-mul .before .before in
+    let s = at-start .args in
+    let m : at-mul .mul .result .v ≡ pos (s .limit) ⊗ s .d .v = cc in
     let e : leZ (⊝ (pos (s .limit) ⊗ s .d .v)) (s .z .v) ≡ true = cc in
     rw e (c .at-most2 .ensures ∙ rw m)
 
 returns-2 : tie.Need-returns-2
 returns-2 c =
-    let s = c .before .before .before .before .before .args in
+    let at-start = c .before .before .before .before .before in
+    let s = at-start .args in
     let m : c .before .before .before .mul .result .v ≡ pos (s .limit) ⊗ s .d .v = cc in
     let e : leZ (⊝ (pos (s .limit) ⊗ s .d .v)) (s .z .v) ≡ false = cc in
     rw e

@@ -7,10 +7,16 @@ is-before-requires : tie.Need-is-before-requires
 is-before-requires c κs = let h = c .before .before .pre in (h .first .right .small, h .second .right .small)
 
 returns : tie.Need-returns
-returns c = let s = c .before .before .before .before in right-first (s .args .a) (s .args .b) (s .pre) (sym (c .before .is-before .ensures) ∙ c .if1 .taken)
+returns c =
+    let at-is-before = c .before in
+    let at-start = at-is-before .before .before .before in
+    right-first (at-start .args .a) (at-start .args .b) (at-start .pre) (sym (at-is-before .is-before .ensures) ∙ c .if1 .taken)
 
 returns-2 : tie.Need-returns-2
-returns-2 c = let s = c .before .before .before .before in right-second (s .args .a) (s .args .b) (s .pre) (sym (c .before .is-before .ensures) ∙ c .if1 .left)
+returns-2 c =
+    let at-is-before = c .before in
+    let at-start = at-is-before .before .before .before in
+    right-second (at-start .args .a) (at-start .args .b) (at-start .pre) (sym (at-is-before .is-before .ensures) ∙ c .if1 .left)
 
 pub common-right-spec : {M : Type 1} → statement M
 common-right-spec = tie.close (tie.spec is-before-requires returns returns-2)

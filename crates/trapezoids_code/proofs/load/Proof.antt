@@ -5,7 +5,8 @@ use Rattle.trapezoids_code.proofs.load.Tie as tie
 
 returns : tie.Need-returns
 returns c =
-    let s = c .before .before .before .before .before .before .args in
+    let at-start = c .before .before .before .before .before .before in
+    let s = at-start .args in
     cc (trapezoid-at (s .s .now) (s .i))
 
 pub load-spec : {M : Type 1} → statement M

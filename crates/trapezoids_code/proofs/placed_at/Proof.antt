@@ -9,7 +9,9 @@ use Rattle.trapezoids_code.proofs.placed_at.Statement.{statement}
 use Rattle.trapezoids_code.proofs.placed_at.Tie as tie
 
 place-requires : tie.Need-place-requires
-place-requires c κs = let s = c .before in subst (FitFor coordinateLimit) (sym (c .load .ensures)) (all-record (FitFor coordinateLimit) (s .args .layer .now) (s .args .i) (s .pre .0) (s .pre .1))
+place-requires c κs =
+    let at-start = c .before in
+    subst (FitFor coordinateLimit) (sym (c .load .ensures)) (all-record (FitFor coordinateLimit) (at-start .args .layer .now) (at-start .args .i) (at-start .pre .0) (at-start .pre .1))
 
 returns : tie.Need-returns
 returns c = subst (λ (t : Trapezoid). PlacedAs t (c .place .result)) (c .before .load .ensures) (c .place .ensures)

@@ -6,7 +6,11 @@ use Rattle.trapezoids_code.proofs.put_if.Statement.{statement}
 use Rattle.trapezoids_code.proofs.put_if.Tie as tie
 
 returns : tie.Need-returns
-returns c = let e : c .before .before .before .before .args .yes ≡ true = c .before .before .before .if1 .taken in rw e (c .before .put .ensures)
+returns c =
+    let at-put = c .before in
+    let at-if1 = at-put .before .before in
+    let at-start = at-if1 .before in
+    let e : at-start .args .yes ≡ true = at-if1 .if1 .taken in rw e (at-put .put .ensures)
 
 returns-2 : tie.Need-returns-2
 returns-2 c = let e : c .before .args .yes ≡ false = c .if1 .left in rw e (fill-nothing (c .before .args .out .now) (c .before .args .room) (c .before .pre))

@@ -7,15 +7,15 @@ use Rattle.trapezoids_code.proofs.store.Tie as tie
 returns : tie.Need-returns
 unfolding trapezoidWords
 returns c =
-    let c6 = c .before in
-    let c5 = c6 .before .before .before in
-    let c4 = c5 .before .before .before in
-    let c3 = c4 .before .before .before in
-    let c2 = c3 .before .before .before in
-    let c1 = c2 .before .before .before in
-    let c0 = c1 .before .before .before .before .before .before .before .before .before .before in
-    rw (c6 .store-line6 .ensures, c5 .store-line5 .ensures, c4 .store-line4 .ensures, c3 .store-line3 .ensures, c2 .store-line2 .ensures, c1 .store-line .ensures)
-    (sets-eq (trapezoidWords (c0 .args .t)) (c0 .args .s .now) 0 (c0 .pre))
+    let at-store-line6 = c .before in
+    let at-store-line5 = at-store-line6 .before .before .before in
+    let at-store-line4 = at-store-line5 .before .before .before in
+    let at-store-line3 = at-store-line4 .before .before .before in
+    let at-store-line2 = at-store-line3 .before .before .before in
+    let at-store-line = at-store-line2 .before .before .before in
+    let at-start = at-store-line .before .before .before .before .before .before .before .before .before .before in
+    rw (at-store-line6 .store-line6 .ensures, at-store-line5 .store-line5 .ensures, at-store-line4 .store-line4 .ensures, at-store-line3 .store-line3 .ensures, at-store-line2 .store-line2 .ensures, at-store-line .store-line .ensures)
+    (sets-eq (trapezoidWords (at-start .args .t)) (at-start .args .s .now) 0 (at-start .pre))
 
 pub store-spec : {M : Type 1} → statement M
 store-spec =

@@ -7,12 +7,13 @@ use Rattle.geometry.specs.declared.Checked.the-variants.{Passed}
 use Rattle.geometry.specs.Trapezoids.{trapezoidCodec, layerOf}
 use Rattle.geometry.specs.Fitness.{firstRefusal}
 use Rattle.rows_code.proofs.Refusals.{first-passed, first-refused}
-use Rattle.rows_code.proofs.layers_checked.Statement.{statement}
-use Rattle.rows_code.proofs.layers_checked.Tie as tie
+use Rattle.rows_code.proofs.both_checked.Statement.{statement}
+use Rattle.rows_code.proofs.both_checked.Tie as tie
 
 returns : tie.Need-returns
 returns c =
-    let s = c .before .before .before .before .args in
+    let at-start = c .before .before .before .before in
+    let s = at-start .args in
     let f = c .before .before .before .first-refused in
     let e : f .result ≡ Passed = cc in
     let n = length-from trapezoidCodec (count trapezoidCodec (s .a .now)) (s .a .now) 0 in
@@ -22,11 +23,14 @@ returns c =
 
 returns-2 : tie.Need-returns-2
 returns-2 c =
-    let s = c .before .before .before .before .args in
-    first-refused (s .limit) (layerOf (s .a .now)) (layerOf (s .b .now)) (sym (c .before .before .before .first-refused .ensures) ∙ c .before .first .given .1)
+    let at-first = c .before in
+    let at-first-refused = at-first .before .before in
+    let at-start = at-first-refused .before in
+    let s = at-start .args in
+    first-refused (s .limit) (layerOf (s .a .now)) (layerOf (s .b .now)) (sym (at-first-refused .first-refused .ensures) ∙ at-first .first .given .1)
 
-pub layers-checked-spec : {M : Type 1} → statement M
-layers-checked-spec =
+pub both-checked-spec : {M : Type 1} → statement M
+both-checked-spec =
     tie.close
     (tie.spec
     (λ c κs. search needs)

@@ -1,9 +1,10 @@
+-- Before each turn: `v` has the edges up to the vertex whose words start at k, at most k / 2 of them; those from that vertex on are to come.
 use Prim.Native.Nat.{_-_}
 use native.Mathlib.Omega.{arith}
 use borrow.Author.Needs.{needs}
 use Rattle.fracture_code.proofs.Building.{Building, no-vertices, building-start, building-grid, building-room, building-next-grid, building-next, building-last}
-use Rattle.fracture_code.proofs.sides_of.Statement.{statement}
-use Rattle.fracture_code.proofs.sides_of.Tie as tie
+use Rattle.fracture_code.proofs.edges_of.Statement.{statement}
+use Rattle.fracture_code.proofs.edges_of.Tie as tie
 
 abbrev Inv-loop : tie.InvT-loop
 Inv-loop words n v₀ k₀ v k = Building words v k
@@ -13,13 +14,13 @@ abbrev μ-loop : tie.MeasureT-loop
 
 returns : tie.Need-returns Inv-loop μ-loop
 returns c =
-    let s = c .before .before in
-    no-vertices (s .args .words .now) _ (omega (arith, c .if1 .taken)) (c .before .no-sides .ensures .0) (c .before .no-sides .ensures .1)
+    let at-start = c .before .before in
+    no-vertices (at-start .args .words .now) _ (omega (arith, c .if1 .taken)) (c .before .no-edges .ensures .0) (c .before .no-edges .ensures .1)
 
 loop-holds : tie.Need-loop-holds Inv-loop μ-loop
 loop-holds c =
-    let s = c .before .before in
-    building-start (s .args .words .now) _ (omega (arith, c .if1 .left)) (s .pre .1) (s .pre .0) (c .before .no-sides .ensures .0) (c .before .no-sides .ensures .1)
+    let at-start = c .before .before in
+    building-start (at-start .args .words .now) _ (omega (arith, c .if1 .left)) (at-start .pre .1) (at-start .pre .0) (c .before .no-edges .ensures .0) (c .before .no-edges .ensures .1)
 
 add-loop : tie.Need-add-loop Inv-loop μ-loop
 add-loop c = let h = c .loop .inv in omega (arith, h .within, h .few)
@@ -53,8 +54,8 @@ with-edge-requires-2 c κs =
 returns-2 : tie.Need-returns-2 Inv-loop μ-loop
 returns-2 c = building-last _ _ _ (c .before .before .loop .inv) (omega (arith, c .before .loop-test .left)) _ (c .with-edge2 .ensures)
 
-pub sides-of-spec : {M : Type 1} → statement M
-sides-of-spec =
+pub edges-of-spec : {M : Type 1} → statement M
+edges-of-spec =
     tie.close
     (tie.spec
     Inv-loop

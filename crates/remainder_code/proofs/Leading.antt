@@ -17,7 +17,7 @@ use Rattle.geometry.specs.declared.Trapezoid.{Trapezoid}
 use Rattle.geometry.specs.Trapezoids.{trapezoidCodec, layerOf}
 use Rattle.geometry.proofs.Trapezoids.{trapezoid-faithful}
 use Rattle.trapezoids_code.proofs.Writing.{tail}
-use Rattle.remainder_code.specs.Code.{front, rest, held, Remaining, ScratchFor}
+use Rattle.remainder_code.specs.Code.{front, rest, leading, Remaining, ScratchFor}
 
 -- ---- the two parts
 module _ (d : List ℤ) (k : ℕ) where
@@ -73,19 +73,19 @@ module _ (out scratch : List ℤ) (k : ℕ) (h : ScratchFor out scratch) where
 
 -- ---- what the buffer holds
 module _ (d : List ℤ) (k room : ℕ) (h : Remaining d k room) where
-  pub held-fits : memoryWidth * k ≤ length d
-  held-fits = omega (arith, h .within, h .wide)
+  pub leading-fits : memoryWidth * k ≤ length d
+  leading-fits = omega (arith, h .within, h .wide)
 
-  size : memoryWidth * length (held d k) ≡ memoryWidth * k
+  size : memoryWidth * length (leading d k) ≡ memoryWidth * k
   size = ap (λ (m : ℕ). memoryWidth * m) (length-from trapezoidCodec k d 0)
 
-  pub front-words : front d k ≡ wordsOf trapezoidCodec (held d k)
-  front-words = ap (λ (m : ℕ). take m d) (sym size) ∙ ap (take (memoryWidth * length (held d k))) (h .is) ∙ image-take trapezoidCodec trapezoid-faithful (length d) (held d k)
+  pub front-words : front d k ≡ wordsOf trapezoidCodec (leading d k)
+  front-words = ap (λ (m : ℕ). take m d) (sym size) ∙ ap (take (memoryWidth * length (leading d k))) (h .is) ∙ image-take trapezoidCodec trapezoid-faithful (length d) (leading d k)
 
   pub rest-blanks : rest d k ≡ replicate (length d - memoryWidth * k) (pos 0)
   rest-blanks =
-      ap (λ (m : ℕ). drop m d) (sym size) ∙ ap (drop (memoryWidth * length (held d k))) (h .is) ∙ image-drop trapezoidCodec trapezoid-faithful (length d) (held d k)
+      ap (λ (m : ℕ). drop m d) (sym size) ∙ ap (drop (memoryWidth * length (leading d k))) (h .is) ∙ image-drop trapezoidCodec trapezoid-faithful (length d) (leading d k)
       ∙ ap (λ (m : ℕ). replicate (length d - m) (pos 0)) size
 
-  pub front-held : layerOf (front d k) ≡ held d k
-  front-held = ap layerOf front-words ∙ records-words trapezoidCodec trapezoid-faithful (held d k) (all-of (λ (t : Trapezoid). Unit {0}) (λ t. tt) (held d k))
+  pub front-leading : layerOf (front d k) ≡ leading d k
+  front-leading = ap layerOf front-words ∙ records-words trapezoidCodec trapezoid-faithful (leading d k) (all-of (λ (t : Trapezoid). Unit {0}) (λ t. tt) (leading d k))

@@ -1,4 +1,4 @@
--- Chains: numbers that lead from one to another, each to the next by a relation.
+-- Paths: numbers that lead from one to another, each to the next by a relation.
 use mathlib.Core.Path.{_≡_}
 use mathlib.Core.List.{List, [], _∷_}
 use Prim.Native.Nat.{ℕ}
@@ -11,7 +11,7 @@ abbrev pub Leads : (ℕ → ℕ → Type 0) → ℕ → List ℕ → ℕ → Typ
 Leads R i [] k = i ≡ k
 Leads R i (j ∷ js) k = R i j × Leads R j js k
 
-pub record Chained (R : ℕ → ℕ → Type 0) (i k : ℕ) : Type 0 where
+pub record Reachable (R : ℕ → ℕ → Type 0) (i k : ℕ) : Type 0 where
   pub through : List ℕ
   pub leads : Leads R i through k
 
