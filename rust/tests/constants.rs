@@ -69,7 +69,7 @@ fn constants() -> Vec<(&'static str, i64, i64)> {
     let width = defined(LIMITS, "memoryWidth");
     let most = defined(LIMITS, "maxRecords");
     let limit = defined("crates/calls/specs/Rows.antt", "plateLimit");
-    let denominator = between("crates/calls/specs/Rows.antt", "leZ (P .D) (pos ", "))");
+    let denominator = defined("crates/geometry/specs/Limit.antt", "maxDenominator");
     let (polygons, layers) = (format("polygonFile"), format("layerFile"));
     let bytes = between(FORMATS, "leb n ", ")");
     let words = 1 + 2 * layers["count"] + layers["unit"] * layers["total"];
@@ -303,7 +303,7 @@ fn functions() {
     assert_eq!(bytes, named["MAX_FILE_BYTES"]);
     let rows = "crates/rows_code/src/lib.rt";
     assert_eq!(constant(rows, "CODES: u32"), codes().len() as i64);
-    let denominator = between(rows, "let most = integer_code::natural(", ")");
+    let denominator = constant(calls, "MAX_DENOMINATOR: u32");
     assert_eq!(denominator, named["MAX_DENOMINATOR"]);
 }
 

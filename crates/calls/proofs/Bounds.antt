@@ -11,17 +11,18 @@ use Rattle.integer.specs.Integer.{⊝_, _⊗_}
 use Rattle.integer.proofs.Linear.{zarith, parts, one-part, minus⁺, minus⁻}
 use Rattle.integer.proofs.Magnitude.{mul-magnitude}
 use Rattle.integer.proofs.Tests.{le-yes}
+use Rattle.geometry.specs.Limit.{maxDenominator}
 use Rattle.geometry.specs.Points.{Point, IsPoint}
 use Rattle.calls.specs.Rows.{withinTimes, pointPasses}
 
-module _ (d : ℤ) (e : leZ (pos 1) d && leZ d (pos 1024) ≡ true) where
+module _ (d : ℤ) (e : leZ (pos 1) d && leZ d (pos maxDenominator) ≡ true) where
   least : pos 1 ≤ℤ d
-  least = le-yes (pos 1) d (and-left (leZ (pos 1) d) (leZ d (pos 1024)) e)
+  least = le-yes (pos 1) d (and-left (leZ (pos 1) d) (leZ d (pos maxDenominator)) e)
 
-  most : d ≤ℤ pos 1024
-  most = le-yes d (pos 1024) (and-right (leZ (pos 1) d) (leZ d (pos 1024)) e)
+  most : d ≤ℤ pos maxDenominator
+  most = le-yes d (pos maxDenominator) (and-right (leZ (pos 1) d) (leZ d (pos maxDenominator)) e)
 
-  pub denominator-small : natAbs d ≤ 1024
+  pub denominator-small : natAbs d ≤ maxDenominator
   denominator-small = let a = least in let b = most in omega (zarith, parts d, one-part d)
 
   pub denominator-positive : pos 0 <ℤ d
@@ -44,17 +45,17 @@ within-magnitude L n z d e =
     times-within L n z d (le-yes (⊝ b) z (and-left (leZ (⊝ b) z) (leZ z b) e)) (le-yes z b (and-right (leZ (⊝ b) z) (leZ z b) e))
 
 module _ (L : ℕ) (P : Point) where
-  pub denominator-of : pointPasses L P ≡ true → leZ (pos 1) (P .D) && leZ (P .D) (pos 1024) ≡ true
+  pub denominator-of : pointPasses L P ≡ true → leZ (pos 1) (P .D) && leZ (P .D) (pos maxDenominator) ≡ true
   unfolding pointPasses
-  denominator-of e = and-left (leZ (pos 1) (P .D) && leZ (P .D) (pos 1024)) _ e
+  denominator-of e = and-left (leZ (pos 1) (P .D) && leZ (P .D) (pos maxDenominator)) _ e
 
   pub across-of : pointPasses L P ≡ true → withinTimes L (P .X) (P .D) ≡ true
   unfolding pointPasses
-  across-of e = and-left (withinTimes L (P .X) (P .D)) _ (and-right (leZ (pos 1) (P .D) && leZ (P .D) (pos 1024)) _ e)
+  across-of e = and-left (withinTimes L (P .X) (P .D)) _ (and-right (leZ (pos 1) (P .D) && leZ (P .D) (pos maxDenominator)) _ e)
 
   pub up-of : pointPasses L P ≡ true → withinTimes L (P .Y) (P .D) ≡ true
   unfolding pointPasses
-  up-of e = and-right (withinTimes L (P .X) (P .D)) _ (and-right (leZ (pos 1) (P .D) && leZ (P .D) (pos 1024)) _ e)
+  up-of e = and-right (withinTimes L (P .X) (P .D)) _ (and-right (leZ (pos 1) (P .D) && leZ (P .D) (pos maxDenominator)) _ e)
 
   pub point-real : pointPasses L P ≡ true → IsPoint P
   point-real e = denominator-positive (P .D) (denominator-of e)

@@ -10,6 +10,7 @@ use Rattle.integer.specs.Integer.{⊝_, _⊗_}
 use Rattle.records.specs.Limits.{sized}
 use Rattle.geometry.specs.declared.Checked.{Checked}
 use Rattle.geometry.specs.declared.Checked.the-variants.{Refused}
+use Rattle.geometry.specs.Limit.{maxDenominator}
 use Rattle.geometry.specs.Points.{Point}
 use Rattle.geometry.specs.Trapezoids.{layerOf}
 use Rattle.geometry.specs.Fitness.{firstRefusal}
@@ -40,7 +41,7 @@ abbrev pub withinTimes : ℕ → ℤ → ℤ → Bool
 withinTimes L z d = leZ (⊝ (pos L ⊗ d)) z && leZ z (pos L ⊗ d)
 
 unfoldable pub pointPasses : ℕ → Point → Bool
-pointPasses L P = (leZ (pos 1) (P .D) && leZ (P .D) (pos 1024)) && (withinTimes L (P .X) (P .D) && withinTimes L (P .Y) (P .D))
+pointPasses L P = (leZ (pos 1) (P .D) && leZ (P .D) (pos maxDenominator)) && (withinTimes L (P .X) (P .D) && withinTimes L (P .Y) (P .D))
 
 -- rows 7 to 11: "A's pieces before B's, numbered on from A"
 abbrev pub bothChecked : ℕ → List ℤ → List ℤ → Checked

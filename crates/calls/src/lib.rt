@@ -1,7 +1,10 @@
-// What the public functions answer, and the coordinate limit that they go by.
+// What the public functions answer, and the limits that they go by.
 
 // Grid coordinates run from -PLATE_LIMIT to PLATE_LIMIT.
 pub const PLATE_LIMIT: u32 = 2048;
+
+// Denominators of points run from 1 to MAX_DENOMINATOR.
+pub const MAX_DENOMINATOR: u32 = 1024;
 
 // What `fracture` answers: the refusal's number and place, or the trapezoids written and the overlays made, which are none.
 pub enum Fractured {

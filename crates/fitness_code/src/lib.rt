@@ -8,9 +8,10 @@ use geometry::Verdict;
 use integer::Int;
 use integer::Ordering;
 ghost use mathlib.Core.Path.{_≡_};
-ghost use Prim.Native.Nat.{_≤_};
+ghost use Prim.Native.Nat.{_*_, _≤_};
 ghost use Rattle.lists.specs.Lists.{All};
 ghost use Rattle.lists.specs.Tests.{all};
+ghost use Rattle.records.specs.Limits.{maxRecords};
 ghost use Rattle.geometry.specs.Limit.{coordinateLimit, onGrid, OnGrid};
 ghost use Rattle.geometry.specs.Trapezoids.{linesOf, layerOf};
 ghost use Rattle.geometry.specs.Fitness.{lineOnGrid, isLine, apartBy, belowBetween, shapeVerdict, verdict, firstRefusal};
@@ -159,7 +160,7 @@ pub fn judge(t: Trapezoid, limit: u32) -> Verdict
 
 // The first refusal of a layer's words, with places numbered on from a start.
 pub fn first_refused(words: &[i32], limit: u32, start: usize) -> Checked
-    requires { ⌜ (limit ≤ coordinateLimit) × (start ≤ 1024) ⌝ }
+    requires { ⌜ (limit ≤ coordinateLimit) × (start ≤ 2 * maxRecords) ⌝ }
     ensures { λ r. ⌜ r ≡ firstRefusal limit start (layerOf (now (words .entry))) ⌝ }
 {
     let n = words.len() / records::MEMORY_WIDTH;

@@ -10,6 +10,10 @@ use Rattle.geometry.specs.declared.Line.{Line}
 abbrev pub coordinateLimit : ℕ
 coordinateLimit = 2048
 
+-- the largest denominator of a point that is asked for: "D not 1 to 1,024"
+abbrev pub maxDenominator : ℕ
+maxDenominator = 1024
+
 -- z is a grid coordinate under the limit L
 unfoldable pub onGrid : ℕ → ℤ → Bool
 onGrid L z = leZ (⊝ (pos L)) z && leZ z (pos L)

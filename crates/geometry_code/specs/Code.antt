@@ -16,7 +16,7 @@ use Rattle.geometry.specs.declared.Meeting.{Meeting}
 use Rattle.geometry.specs.declared.Position.{Position}
 use Rattle.geometry.specs.declared.Crossing.{Crossing}
 use Rattle.geometry.specs.declared.Crossing.the-variants.{Nowhere, At}
-use Rattle.geometry.specs.Limit.{coordinateLimit, detBound, numerBound}
+use Rattle.geometry.specs.Limit.{coordinateLimit, maxDenominator, detBound, numerBound}
 use Rattle.geometry.specs.Lines.{dx, dy, offset, det, numer}
 use Rattle.geometry.specs.Positions.{crosses, meet, position}
 use Rattle.geometry.specs.Points.{Point}
@@ -71,6 +71,6 @@ pointOf x y d = record { X = x .v; Y = y .v; D = d .v }
 
 -- X, Y and D as row 3 lets them pass: D up to 1,024, X and Y up to D times the limit
 pub record SmallPoint (x y d : Int) : Type 0 where
-  pub x-small : natAbs (x .v) ≤ 1024 * coordinateLimit
-  pub y-small : natAbs (y .v) ≤ 1024 * coordinateLimit
-  pub d-small : natAbs (d .v) ≤ 1024
+  pub x-small : natAbs (x .v) ≤ maxDenominator * coordinateLimit
+  pub y-small : natAbs (y .v) ≤ maxDenominator * coordinateLimit
+  pub d-small : natAbs (d .v) ≤ maxDenominator

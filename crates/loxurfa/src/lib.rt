@@ -14,22 +14,13 @@ use geometry::Checked;
 use geometry::Fill;
 use integer::Int;
 ghost use mathlib.Core.Path.{_≡_};
-ghost use lib.ListN.{length};
 ghost use Rattle.files.specs.Outcomes.{readAnswer, writtenAnswer, SmallAnswer};
 ghost use Rattle.calls.specs.Components.{connectedAnswer, SmallComponentsAnswer};
 ghost use Rattle.calls.specs.Contracts.{ComponentsKept, ReadKept, WriteKept, FractureKept, CombineKept, DeoverlapKept, EqualKept, ContainsKept};
 ghost use Rattle.calls.specs.Answers.{fracturedAnswer, combinedAnswer, deoverlappedAnswer, equalityAnswer, pointAnswer, SmallEqualityAnswer, SmallPointAnswer};
 ghost use Rattle.calls.specs.Rows.{plateLimit};
-ghost use Rattle.calls.specs.Outcomes.{zeros, containsAnswer};
+ghost use Rattle.calls.specs.Outcomes.{containsAnswer};
 ghost use Rattle.geometry_code.specs.Code.{pointOf};
-
-// An output and its scratch area set to 0.
-fn clear_both(out: &mut [i32], scratch: &mut [i32])
-    ensures { λ _. ⌜ (now (out .exit) ≡ zeros (length (now (out .entry)))) × (now (scratch .exit) ≡ zeros (length (now (scratch .entry)))) ⌝ }
-{
-    records_code::clear(out);
-    records_code::clear(scratch);
-}
 
 // The trapezoids of the polygons of a polygon file, written to `out`. `scratch` is as long as `out`.
 pub fn fracture(file: &[u8], out: &mut [i32], scratch: &mut [i32]) -> Fractured
@@ -44,7 +35,7 @@ pub fn fracture(file: &[u8], out: &mut [i32], scratch: &mut [i32]) -> Fractured
         Checked::Passed => {}
     }
     let room = out.len() / records::MEMORY_WIDTH;
-    clear_both(out, scratch);
+    records_code::clear_both(out, scratch);
     let f = polygons_code::fracture_file(file, calls::PLATE_LIMIT, out, room);
     match f {
         Fill::NoRoom => {
@@ -82,7 +73,7 @@ pub fn combine(code: u32, a: &[i32], b: &[i32], out: &mut [i32], scratch: &mut [
         Checked::Passed => {}
     }
     let room = out.len() / records::MEMORY_WIDTH;
-    clear_both(out, scratch);
+    records_code::clear_both(out, scratch);
     let f = boolean_code::combine_into(code, a, b, out, scratch, room);
     match f {
         Folded::NoRoom(_) => {
@@ -116,7 +107,7 @@ pub fn deoverlap(a: &[i32], out: &mut [i32], scratch: &mut [i32]) -> Deoverlappe
         Checked::Passed => {}
     }
     let room = out.len() / records::MEMORY_WIDTH;
-    clear_both(out, scratch);
+    records_code::clear_both(out, scratch);
     let f = deoverlap_code::deoverlap_into(a, out, scratch, room);
     match f {
         Folded::NoRoom(_) => {
@@ -150,7 +141,7 @@ pub fn equal(a: &[i32], b: &[i32], out: &mut [i32], scratch: &mut [i32]) -> Equa
         Checked::Passed => {}
     }
     let room = out.len() / records::MEMORY_WIDTH;
-    clear_both(out, scratch);
+    records_code::clear_both(out, scratch);
     let f = boolean_code::equal_into(a, b, out, scratch, room);
     match f {
         Compared::NoRoom(_) => {

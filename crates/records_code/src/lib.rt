@@ -25,6 +25,14 @@ pub fn clear(words: &mut [i32])
     }
 }
 
+// An output and its scratch area set to 0.
+pub fn clear_both(out: &mut [i32], scratch: &mut [i32])
+    ensures { λ _. ⌜ (now (out .exit) ≡ replicate (length (now (out .entry))) (pos 0)) × (now (scratch .exit) ≡ replicate (length (now (scratch .entry))) (pos 0)) ⌝ }
+{
+    clear(out);
+    clear(scratch);
+}
+
 // The same for bytes.
 pub fn clear_bytes(bytes: &mut [u8])
     ensures { λ _. ⌜ now (bytes .exit) ≡ replicate (length (now (bytes .entry))) 0 ⌝ }

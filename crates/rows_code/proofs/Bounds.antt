@@ -4,7 +4,7 @@ use mathlib.Core.Bool.{true}
 use Prim.Native.Nat.{ℕ, _≤_}
 use native.Mathlib.Omega.{arith}
 use Rattle.integer.specs.declared.Int.{Int}
-use Rattle.geometry.specs.Limit.{coordinateLimit}
+use Rattle.geometry.specs.Limit.{coordinateLimit, maxDenominator}
 use Rattle.calls.specs.Rows.{pointPasses}
 use Rattle.calls.proofs.Bounds.{across-of, denominator-of, denominator-small, up-of, within-magnitude}
 use Rattle.geometry_code.specs.Code.{pointOf, SmallPoint}
@@ -14,7 +14,7 @@ point-small L l x y d e =
     let P = pointOf x y d in
     let k = denominator-small (d .v) (denominator-of L P e) in
     record {
-      x-small = omega (arith, l, within-magnitude L 1024 (x .v) (d .v) (across-of L P e) k);
-      y-small = omega (arith, l, within-magnitude L 1024 (y .v) (d .v) (up-of L P e) k);
+      x-small = omega (arith, l, within-magnitude L maxDenominator (x .v) (d .v) (across-of L P e) k);
+      y-small = omega (arith, l, within-magnitude L maxDenominator (y .v) (d .v) (up-of L P e) k);
       d-small = k;
     }

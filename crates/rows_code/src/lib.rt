@@ -8,7 +8,7 @@ ghost use lib.ListN.{length};
 ghost use lib.IntN.{pos, natAbs};
 ghost use lib.Signed.{leZ};
 ghost use Rattle.records.specs.Limits.{sized, maxWords};
-ghost use Rattle.geometry.specs.Limit.{coordinateLimit};
+ghost use Rattle.geometry.specs.Limit.{coordinateLimit, maxDenominator};
 ghost use Rattle.calls.specs.Components.{listsSized, componentsChecked};
 ghost use Rattle.calls.specs.Rows.{buffersSized, withinTimes, pointPasses, bothChecked, fractureChecked, combineChecked, deoverlapChecked, equalChecked, containsChecked};
 ghost use Rattle.geometry_code.specs.Code.{pointOf};
@@ -60,7 +60,7 @@ fn layers_sized(a: usize, b: usize) -> bool
 
 // Whether z is from -limit times d to limit times d.
 fn within_times(limit: u32, z: Int, d: Int) -> bool
-    requires { ⌜ (limit ≤ coordinateLimit) × (natAbs (d .v) ≤ 1024) ⌝ }
+    requires { ⌜ (limit ≤ coordinateLimit) × (natAbs (d .v) ≤ maxDenominator) ⌝ }
     ensures { λ r. ⌜ r ≡ withinTimes limit (z .v) (d .v) ⌝ }
 {
     let l = integer_code::natural(limit);
@@ -72,12 +72,12 @@ fn within_times(limit: u32, z: Int, d: Int) -> bool
     false
 }
 
-// Whether d is from 1 to 1,024.
+// Whether d is from 1 to MAX_DENOMINATOR.
 fn denominator_passes(d: Int) -> bool
-    ensures { λ r. ⌜ r ≡ leZ (pos 1) (d .v) && leZ (d .v) (pos 1024) ⌝ }
+    ensures { λ r. ⌜ r ≡ leZ (pos 1) (d .v) && leZ (d .v) (pos maxDenominator) ⌝ }
 {
     let one = integer_code::natural(1);
-    let most = integer_code::natural(1024);
+    let most = integer_code::natural(calls::MAX_DENOMINATOR);
     if integer_code::at_most(one, d) {
         return integer_code::at_most(d, most);
     }
