@@ -1,6 +1,8 @@
 // Parts of the programs `cases` and `layer_cases`: the lines that they print, polygon files of staircases, and layers of squares.
 use libc::STDOUT_FILENO;
+ghost use mathlib.Core.Path.{_≡_};
 ghost use Prim.Native.Nat.{_≤_};
+ghost use Rattle.case_parts.specs.Code.{withWord, withNumber};
 
 pub fn refused(number: u32, place: usize) {
     io::write_all(STDOUT_FILENO, b"refused ");
@@ -87,14 +89,18 @@ pub fn show_same(a: &[i32], b: &[i32]) {
 }
 
 // Word number i of a file, if it has so many, set to x.
-pub fn put_word(file: &mut [u8], i: usize, x: i32) {
+pub fn put_word(file: &mut [u8], i: usize, x: i32)
+    ensures { λ _. ⌜ now (file .exit) ≡ withWord (now (file .entry)) i x ⌝ }
+{
     if i < file.len() / 4 {
         records_code::store_word(file, i, x);
     }
 }
 
 // The same with a number below 65,536.
-pub fn put_number(file: &mut [u8], i: usize, n: usize) {
+pub fn put_number(file: &mut [u8], i: usize, n: usize)
+    ensures { λ _. ⌜ now (file .exit) ≡ withNumber (now (file .entry)) i n ⌝ }
+{
     if n < 65536 {
         put_word(file, i, n as i32);
     }

@@ -101,7 +101,7 @@ fn components(a: &[i32], numbers: &mut [u32]) {
 // With 512 squares, and 513.
 fn component_counts(a: &[i32], more: &[i32]) {
     io::write_all(STDOUT_FILENO, b"components\n");
-    let mut numbers = [0u32; 512];
+    let mut numbers = [0u32; records::MAX_RECORDS];
     // components 512: no two touch
     components(a, &mut numbers);
     let mut more_numbers = [0u32; 513];

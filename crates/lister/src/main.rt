@@ -56,7 +56,7 @@ fn print_listing(file: &[u8]) {
     let mut first = [0i32; records::MAX_WORDS];
     let mut out = [0i32; records::MAX_WORDS];
     let mut scratch = [0i32; records::MAX_WORDS];
-    let mut text = [0u8; 147468];
+    let mut text = [0u8; listing::LISTING_ROOM];
     let n = list_file(file, &mut first, &mut out, &mut scratch, &mut text);
     let is_written = io::write_all(STDOUT_FILENO, &text[..n]);
     if !is_written {

@@ -14,9 +14,6 @@ use Rattle.boolean_code.proofs.combine_into.Tie as tie
 union-into-requires : tie.Need-union-into-requires
 union-into-requires c κs =
     let at-start = c .before .before .before in
-    let a = at-start .args in
-    let A = layerOf (a .first .now) in
-    let B = layerOf (a .second .now) in
     ((at-start .pre .0 .1, at-start .pre .0 .2, at-start .pre .1 .0 .0, at-start .pre .1 .0 .1), at-start .pre .1 .1)
 
 returns : tie.Need-returns
@@ -33,9 +30,6 @@ returns c =
 intersection-into-requires : tie.Need-intersection-into-requires
 intersection-into-requires c κs =
     let at-start = c .before .before .before in
-    let a = at-start .args in
-    let A = layerOf (a .first .now) in
-    let B = layerOf (a .second .now) in
     (at-start .pre .0 .1, at-start .pre .0 .2, at-start .pre .1 .0 .0)
 
 returns-2 : tie.Need-returns-2
@@ -53,8 +47,6 @@ difference-into-requires : tie.Need-difference-into-requires
 difference-into-requires c κs =
     let at-start = c .before .before .before .before .before in
     let a = at-start .args in
-    let A = layerOf (a .first .now) in
-    let B = layerOf (a .second .now) in
     ((at-start .pre .0 .1, at-start .pre .0 .2, holding-none (a .out .now) (a .room) (at-start .pre .1 .0 .0), at-start .pre .1 .0 .1), at-start .pre .1 .1)
 
 returns-3 : tie.Need-returns-3
@@ -73,8 +65,6 @@ difference-into-requires-2 : tie.Need-difference-into-requires-2
 difference-into-requires-2 c κs =
     let at-start = c .before .before .before .before .before .before in
     let a = at-start .args in
-    let A = layerOf (a .first .now) in
-    let B = layerOf (a .second .now) in
     ((at-start .pre .0 .2, at-start .pre .0 .1, holding-none (a .out .now) (a .room) (at-start .pre .1 .0 .0), at-start .pre .1 .0 .1), at-start .pre .1 .1)
 
 returns-4 : tie.Need-returns-4
@@ -92,9 +82,6 @@ returns-4 c =
 symmetric-difference-into-requires : tie.Need-symmetric-difference-into-requires
 symmetric-difference-into-requires c κs =
     let at-start = c .before .before .before .before .before .before in
-    let a = at-start .args in
-    let A = layerOf (a .first .now) in
-    let B = layerOf (a .second .now) in
     ((at-start .pre .0 .1, at-start .pre .0 .2, at-start .pre .1 .0 .0, at-start .pre .1 .0 .1), at-start .pre .1 .1)
 
 returns-5 : tie.Need-returns-5

@@ -50,8 +50,6 @@ difference-into-requires c κs =
     let at-if1 = at-copy .before .before .before in
     let at-start = at-if1 .before in
     let a = at-start .args in
-    let A = layerOf (a .first .now) in
-    let B = layerOf (a .second .now) in
     let p = at-copy .copy in
     let l : count trapezoidCodec (a .first .now) ≤ a .room = omega (arith, at-if1 .if1 .left) in
     let w : p .last .1 .0 ++ drop (memoryWidth * count trapezoidCodec (a .first .now)) (a .out .now) ≡ take (memoryWidth * count trapezoidCodec (a .first .now)) (a .first .now) ++ drop (memoryWidth * count trapezoidCodec (a .first .now)) (a .out .now)

@@ -1,0 +1,2 @@
+-- What the programs of cases put into a file.
+pub mod Code
