@@ -1,48 +1,51 @@
 //! Rows for connected components.
 
+use super::deoverlap::two_and_two;
+use super::layers::Apart;
+use super::print;
+use super::timing::{in_turn, Timed};
 use crate::reference::{self, WORDS};
-use crate::support::shapes::{apart, comb, reordered, snake, tiles};
+use crate::support::shapes::{comb, reordered, snake, tiles};
 use crate::support::Random;
 use loxurfa::raw;
 use std::hint::black_box;
 
-fn row(kind: &str, layer: &[i32]) {
-    let mut numbers = vec![1; layer.len() / WORDS];
-    let (library, answer) = crate::best(|| raw::components(black_box(layer), &mut numbers));
-    let mut right_numbers = vec![1; numbers.len()];
-    let (reference, right) =
-        crate::best(|| reference::components::components(black_box(layer), &mut right_numbers));
-    assert!(answer == right && numbers == right_numbers, "they disagree");
-    assert!(answer >> 63 == 0, "{kind}: refused");
-    println!(
-        "| {:<22} | {:>4} | {:>10} | {:>12.1} | {:>14.1} | {:>7.2} |",
-        kind,
-        numbers.len(),
-        answer >> 32,
-        library.as_secs_f64() * 1e6,
-        reference.as_secs_f64() * 1e6,
-        library.as_secs_f64() / reference.as_secs_f64(),
-    );
-}
-
 pub fn rows() {
-    println!();
-    println!("Connected components.");
-    println!();
-    println!(
-        "| kind                   |    A | components | library (us) | reference (us) |   ratio |"
-    );
-    println!(
-        "|------------------------|-----:|-----------:|-------------:|---------------:|--------:|"
-    );
-
-    row("tiles", &tiles());
-    row("apart", &apart());
     row("comb, backbone last", &comb(511));
+    for apart in Apart::ALL {
+        let [a, _] = apart.layers(22);
+        row(&apart.name(22), &a);
+    }
+    row("tiles", &tiles());
     let mut order: Vec<usize> = (0..512).collect();
     row("snake", &snake());
     order.reverse();
     row("snake from its end", &reordered(&snake(), &order));
     Random(1).shuffle(&mut order);
     row("snake in random order", &reordered(&snake(), &order));
+    let [a, _] = Apart::Grid.layers(2);
+    row("apart, 2 by 2", &a);
+    row("overlapping, two and two", &two_and_two());
+}
+
+/// Times both. They must write the same.
+pub fn time(layer: &[i32]) -> Timed {
+    let mut numbers = vec![1; layer.len() / WORDS];
+    let mut right = numbers.clone();
+    let timed = in_turn(
+        || raw::components(black_box(layer), &mut numbers),
+        || reference::components::components(black_box(layer), &mut right),
+    );
+    assert!(numbers == right, "they disagree");
+    assert!(timed.answer >> 63 == 0, "refused");
+    timed
+}
+
+fn row(kind: &str, layer: &[i32]) {
+    let timed = time(layer);
+    let result = match timed.answer >> 32 {
+        1 => "1 component".to_string(),
+        many => format!("{many} components"),
+    };
+    print(kind, "components", &[layer.len() / WORDS], &result, &timed);
 }

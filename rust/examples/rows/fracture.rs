@@ -1,45 +1,15 @@
 //! Rows for fracture.
 
+use super::print;
+use super::timing::in_turn;
 use crate::reference::files::Polygon;
-use crate::reference::{self, LIMIT, WORDS};
+use crate::reference::{self, LIMIT, LONGEST};
 use crate::support::polygons::polygon_file;
 use crate::support::Random;
 use loxurfa::raw;
 use std::hint::black_box;
 
-fn row(kind: &str, polygons: &[Polygon]) {
-    let file = polygon_file(polygons);
-    let mut out = vec![1; 512 * WORDS];
-    let mut scratch = vec![1; 512 * WORDS];
-    let (library, answer) = crate::best(|| raw::fracture(black_box(&file), &mut out, &mut scratch));
-    let mut right_out = vec![1; 512 * WORDS];
-    let (reference, right) = crate::best(|| {
-        reference::fracture::fracture(black_box(&file), &mut right_out, &mut scratch)
-    });
-    assert!(answer == right && out == right_out, "they disagree");
-    let result = match answer >> 63 {
-        0 => format!("{} pieces", answer >> 32),
-        _ => format!("refused {}", answer >> 32 & 0xff),
-    };
-    println!(
-        "| {:<21} | {:>8} | {:>8} | {:<11} | {:>12.1} | {:>14.1} | {:>7.2} |",
-        kind,
-        polygons.len(),
-        polygons[0].len(),
-        result,
-        library.as_secs_f64() * 1e6,
-        reference.as_secs_f64() * 1e6,
-        library.as_secs_f64() / reference.as_secs_f64(),
-    );
-}
-
 pub fn rows() {
-    println!();
-    println!("Fracture.");
-    println!();
-    println!("| kind                  | polygons | vertices | result      | library (us) | reference (us) |   ratio |");
-    println!("|-----------------------|---------:|---------:|-------------|-------------:|---------------:|--------:|");
-
     let random = &mut Random(1);
     let mut anywhere = |count: usize| -> Polygon {
         (0..count)
@@ -49,15 +19,18 @@ pub fn rows() {
     let mut polygons = |number: usize, count: usize| -> Vec<Polygon> {
         (0..number).map(|_| anywhere(count)).collect()
     };
-    row("random", &polygons(64, 32));
-    row("random", &polygons(64, 3));
+    row("random polygons", &polygons(64, 32));
+    row("random triangles", &polygons(64, 3));
     // One whose result has room.
     let fits = |polygon: &[Polygon]| {
         let trapezoids = reference::fracture::fracture_polygon(&polygon[0]);
         trapezoids.len() <= 512
     };
     let one = (0..1000).map(|_| polygons(1, 32)).find(|one| fits(one));
-    row("random", &one.expect("some have few trapezoids"));
+    row(
+        "one random polygon",
+        &one.expect("some have few trapezoids"),
+    );
 
     // Vertices are corners of a rectangle, in any order: few trapezoids, edges that coincide.
     let mut corners = || -> Polygon {
@@ -85,4 +58,21 @@ pub fn rows() {
     };
     let polygons: Vec<Polygon> = (0..64).map(stack).collect();
     row("stacks", &polygons);
+}
+
+fn row(kind: &str, polygons: &[Polygon]) {
+    let file = polygon_file(polygons);
+    let area = || (vec![1; LONGEST], vec![1; LONGEST]);
+    let ((mut out, mut scratch), (mut right, mut right_scratch)) = (area(), area());
+    let timed = in_turn(
+        || raw::fracture(black_box(&file), &mut out, &mut scratch),
+        || reference::fracture::fracture(black_box(&file), &mut right, &mut right_scratch),
+    );
+    assert!(out == right && scratch == right_scratch, "they disagree");
+    let result = match timed.answer >> 63 {
+        0 => format!("{} trapezoids", timed.answer >> 32),
+        _ => format!("refused {}", timed.answer >> 32 & 0xff),
+    };
+    let counts = [polygons.len(), polygons[0].len()];
+    print(kind, "fracture", &counts, &result, &timed);
 }
