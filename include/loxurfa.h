@@ -44,7 +44,7 @@ extern "C" {
 #define LOXURFA_MAX_LAYERS 16          /* in a layer file */
 #define LOXURFA_MAX_FILE_BYTES 65532   /* more are refused unread */
 #define LOXURFA_MAX_LAYER_FILE_WORDS 12321 /* of a layer file that passes: 1 + 2 * 16 + 24 * 512 */
-#define LOXURFA_STACK_BYTES 16384      /* more than any call takes */
+#define LOXURFA_STACK_BYTES 65536      /* more than any call takes */
 
 /* Codes of set operations. */
 #define LOXURFA_UNION 0

@@ -38,7 +38,7 @@ pub const MAX_DENOMINATOR: i32 = 1024;
 pub const MAX_FILE_BYTES: usize = 65_532;
 
 /// Bytes of stack, more than any call takes.
-pub const STACK_BYTES: usize = 16_384;
+pub const STACK_BYTES: usize = 65_536;
 
 /// The numbers of refusals, by what is refused.
 pub mod refused {

@@ -105,7 +105,7 @@ fn constants() -> Vec<(&'static str, i64, i64)> {
             loxurfa::MAX_LAYER_FILE_WORDS as i64,
         ),
         // Measured: tests/calls.rs.
-        ("STACK_BYTES", 16_384, loxurfa::STACK_BYTES as i64),
+        ("STACK_BYTES", 65_536, loxurfa::STACK_BYTES as i64),
     ]
 }
 

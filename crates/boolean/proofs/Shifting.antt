@@ -66,7 +66,7 @@ common-raise k j a (b ∷ bs) =
 pub common-shift : (room k free : ℕ) (a : Trapezoid) (bs : List Trapezoid) → k + free ≡ room → space room (commonStages k a bs) ≡ space free (commonStages 0 a bs)
 common-shift room k free a bs l = shift (λ (x : ℕ). commonStages x a bs) (λ k. common-raise k 0 a bs) room k free l
 
--- ---- the stages of one trapezoid in hand
+-- ---- the stages of the remainder, and of one trapezoid in hand
 minus-raise : (k j : ℕ) (rs : List Trapezoid) (b : Trapezoid) → minusStages (k + j) rs b ≡ map (raise k) (minusStages j rs b)
 unfolding minusStages
 minus-raise k j [] b = refl
@@ -75,6 +75,9 @@ minus-raise k j (r ∷ rs) b =
     let e : k + j + n + length rs ≡ k + (j + n + length rs) = omega arith in
     let f : k + j + n ≡ k + (j + n) = omega arith in
     rw (e, f, minus-raise k (j + n) rs b) refl
+
+pub minus-shift : (room k free : ℕ) (rs : List Trapezoid) (b : Trapezoid) → k + free ≡ room → space room (minusStages k rs b) ≡ space free (minusStages 0 rs b)
+minus-shift room k free rs b l = shift (λ (x : ℕ). minusStages x rs b) (λ k. minus-raise k 0 rs b) room k free l
 
 all-raise : (k j : ℕ) (rs bs : List Trapezoid) → minusAllStages (k + j) rs bs ≡ map (raise k) (minusAllStages j rs bs)
 unfolding minusAllStages

@@ -1,6 +1,6 @@
 -- The operations put together from differences: what an answer about one part says of the whole.
 use mathlib.Core.Path.{_≡_, refl, sym, _∙_, ap, subst}
-use mathlib.Core.List.{List, [], _∷_, _++_}
+use mathlib.Core.List.{List, _∷_, _++_}
 use Prim.Native.Nat.{ℕ, _*_, _-_, _<_, _≤_}
 use native.Mathlib.Omega.{arith}
 use lib.ListN.{length, take, drop, replicate}
@@ -10,35 +10,20 @@ use Rattle.lists.proofs.Lists.{all-of}
 use Rattle.lists.proofs.Parts.{drop-replicate}
 use Rattle.records.specs.Limits.{memoryWidth}
 use Rattle.records.specs.Records.{wordsOf, image, count}
-use Rattle.records.proofs.Records.{length-from, from-none, words-from}
-use Rattle.records.proofs.Buffer.{image-none, image-records, length-image}
+use Rattle.records.proofs.Records.{length-from, words-from}
+use Rattle.records.proofs.Buffer.{image-records, length-image}
 use Rattle.geometry.specs.declared.Trapezoid.{Trapezoid}
 use Rattle.geometry.specs.Trapezoids.{trapezoidCodec, layerOf}
 use Rattle.geometry.proofs.Trapezoids.{trapezoid-faithful}
 use Rattle.boolean.specs.declared.Folded.{Folded}
 use Rattle.boolean.specs.declared.Folded.the-variants.{NoRoom, Done}
-use Rattle.boolean.specs.Operations.{Code, codeAt, result}
-use Rattle.boolean.specs.Space.{Stage, addition, no-room, plus, space, stages}
-use Rattle.boolean.proofs.Space.{plus-none, space-enough}
+use Rattle.boolean.specs.Operations.{difference, Code, codeAt, result}
+use Rattle.boolean.specs.Space.{Stage, addition, no-room, plus, space, differenceStages, stages}
+use Rattle.boolean.proofs.Space.{plus-none, space-enough, space-no-room}
 use Rattle.trapezoids_code.specs.Tails.{Borrowed}
 use Rattle.remainder_code.specs.Code.{leading, Holding, withOverlays, FoldedAs}
 use Rattle.remainder_code.proofs.Answers.{filled-leading}
-
--- ---- nothing in front
-module _ (d : List ℤ) (room : ℕ) (h : Borrowed d room) where
-  none-leading : leading d 0 ≡ []
-  none-leading = from-none trapezoidCodec 0 d 0 (omega arith)
-
-  pub holding-none : Holding d 0 room
-  holding-none =
-      record {
-        is = h .blank ∙ sym (image-none trapezoidCodec trapezoid-faithful (length d)) ∙ ap (image trapezoidCodec (length d)) (sym none-leading);
-        within = omega arith;
-        wide = h .wide;
-      }
-
-  pub folded-none : (ts : List Trapezoid) (ms : List Stage) (r : Folded) (t : List ℤ) → FoldedAs (length d) room (leading d 0 ++ ts) ms r t → FoldedAs (length d) room ts ms r t
-  folded-none ts ms r t g = subst (λ (us : List Trapezoid). FoldedAs (length d) room us ms r t) (ap (λ (us : List Trapezoid). us ++ ts) none-leading) g
+use Rattle.difference_code.proofs.Alone.{folded-known}
 
 -- ---- after what a success has left
 module _ (n room : ℕ) (ts : List Trapezoid) (ms : List Stage) (p c : ℕ) (t : List ℤ) (g : FoldedAs n room ts ms (Done p c) t) (long : length t ≡ n) (wide : memoryWidth * room ≤ n) where
@@ -119,6 +104,15 @@ module _ (first d : List ℤ) (room : ℕ) (h : Borrowed d room) where
         go : (r : Folded) → FoldedAs (length d) room (A ++ us) (ns (length A)) r v → FoldedAs (length d) room (A ++ us) (addition (length A) ∷ ns (length A)) r v
         go (NoRoom k) x = (e ∙ x .0, x .1)
         go (Done q k) x = (e ∙ x .0, x .1)
+
+-- ---- both differences in a row
+-- the first had no room
+pub symmetric-no-room : (room : ℕ) (A B : List Trapezoid) (n : ℕ) (d : List ℤ) (f : Folded) (c : ℕ) → f ≡ NoRoom c → FoldedAs n room (difference A B) (differenceStages 0 A B) f d
+    → FoldedAs n room (difference A B ++ difference B A) (differenceStages 0 A B ++ differenceStages (length (difference A B)) B A) f d
+symmetric-no-room room A B n d f c e g =
+    let h = folded-known n room (difference A B) (differenceStages 0 A B) f (NoRoom c) d e g in
+    subst (λ (x : Folded). FoldedAs n room (difference A B ++ difference B A) (differenceStages 0 A B ++ differenceStages (length (difference A B)) B A) x d) (sym e)
+    (space-no-room room c (differenceStages 0 A B) (differenceStages (length (difference A B)) B A) (h .0), h .1)
 
 -- ---- by the code's number
 pub code-folded : (code : ℕ) (c : Code) → codeAt code ≡ c → (n room : ℕ) (A B : List Trapezoid) (r : Folded) (d : List ℤ) → FoldedAs n room (result c A B) (stages c A B) r d

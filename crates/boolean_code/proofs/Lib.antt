@@ -1,3 +1,1 @@
 pub mod Combining
-pub mod Comparing
-pub mod Containing

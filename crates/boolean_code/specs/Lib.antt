@@ -1,2 +1,2 @@
--- What the set operations write and what the equality test answers, by the definitions.
+-- What the set operations write, by the definitions, and layers of few trapezoids.
 pub mod Code

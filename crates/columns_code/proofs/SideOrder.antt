@@ -1,30 +1,36 @@
 -- The functions of a column, branch by branch as they go: the side of a number, the order of two sides, and the order of all four by five
 -- exchanges.
 use mathlib.Core.Path.{_≡_, refl, sym, _∙_, ap, ap₂, subst}
-use mathlib.Core.Bool.{Bool, true, false, cond}
+use mathlib.Core.Bool.{Bool, true, false, cond, not}
 use mathlib.Core.List.{List, [], _∷_}
+use mathlib.Core.Logic.{inl, inr}
 use Prim.Native.Nat.{ℕ, _<_, _≤_}
 use native.Mathlib.Omega.{arith}
-use lib.Dec.{eqb, ltb}
+use lib.Dec.{eqb, ltb, T-not}
 use lib.ListN.{length, getD, set, length-set}
 use borrow.Author.Tests.{lt-ltb, le-ltb, eq-eqb, ne-eqb, eqb-true, eqb-false}
-use Rattle.lists.proofs.Tests.{cond-cases}
+use Rattle.lists.proofs.Tests.{cond-cases, yes-or-no}
 use Rattle.integer.specs.declared.Ordering.{Ordering}
+use Rattle.integer.specs.declared.Ordering.the-variants.{Less, Equal, Greater}
 use Rattle.integer.specs.Fraction.{Fraction, before}
 use Rattle.geometry.specs.declared.Line.{Line}
 use Rattle.geometry.specs.declared.Trapezoid.{Trapezoid}
-use Rattle.geometry.specs.Limit.{coordinateLimit, OnGrid}
-use Rattle.geometry.specs.Positions.{rightOf}
+use Rattle.geometry.specs.Limit.{coordinateLimit}
+use Rattle.geometry.specs.Positions.{rightOf, below}
 use Rattle.geometry.specs.Fitness.{FitFor}
 use Rattle.geometry.specs.declared.Placed.{Placed}
-use Rattle.geometry.proofs.Fitness.{bottom-grid, top-grid}
+use Rattle.geometry.proofs.Heights.{below→not-below}
 use Rattle.sweep.specs.Segments.{spans}
 use Rattle.overlay.specs.declared.Column.{Column}
+use Rattle.overlay.specs.declared.Meetings.{Meetings}
+use Rattle.overlay.specs.declared.Orders.{Orders}
 use Rattle.overlay.specs.Overlay.{tagOf, inRange}
 use Rattle.geometry_code.specs.Code.{fractionOf}
+use Rattle.geometry_code.proofs.Branches.{right-meeting}
 use Rattle.trapezoids_code.specs.Placed.{PlacedAs}
-use Rattle.columns_code.specs.Order.{HasSides, lineOfSide, presentBy, lessBy, numberLess, orderAt, passing}
-use Rattle.columns_code.specs.Code.{ColumnAt, FourSides, exchanged, Exchanged}
+use Rattle.columns_code.specs.Order.{HasSides, lineOfSide, presentBy, lessBy, reverse, numberLess, orderAt, passing}
+use Rattle.columns_code.specs.Code.{MeetingsOf, SmallMeetings, OrdersBy, OrdersAt, ColumnAt, FourSides, exchanged, Exchanged}
+use Rattle.columns_code.proofs.NumberOrder.{right-less, right-greater, right-equal}
 use Rattle.columns_code.proofs.Exchanges.{Four, fourList, exchange01, exchange23, exchange02, exchange13, exchange12, sort01, sort23, sort02, sort13, sort12, network}
 use Rattle.columns_code.proofs.Network.{network-exact}
 
@@ -46,12 +52,52 @@ module _ (A B : Trapezoid) (i : ℕ) where
   unfolding lineOfSide
   side-fourth f g h = rw (ne-eqb i 0 f, ne-eqb i 1 g, ne-eqb i 2 h)
 
-  pub side-grid : FitFor coordinateLimit A → FitFor coordinateLimit B → OnGrid coordinateLimit (lineOfSide A B i)
+  -- the greater numbers stand for the last side
+  side-last : 3 ≤ i → lineOfSide A B 3 ≡ lineOfSide A B i
   unfolding lineOfSide
-  side-grid ha hb =
-      cond-cases (OnGrid coordinateLimit) (eqb i 0) (A .bottom) (cond (eqb i 1) (A .top) (cond (eqb i 2) (B .bottom) (B .top))) (λ t. bottom-grid ha)
-      (λ t. cond-cases (OnGrid coordinateLimit) (eqb i 1) (A .top) (cond (eqb i 2) (B .bottom) (B .top)) (λ t. top-grid ha)
-      (λ t. cond-cases (OnGrid coordinateLimit) (eqb i 2) (B .bottom) (B .top) (λ t. bottom-grid hb) (λ t. top-grid hb)))
+  side-last h = side-fourth (λ e. omega (arith, e)) (λ e. omega (arith, e)) (λ e. omega (arith, e))
+
+-- ---- the orders of each two sides
+pub small-meetings : {A B : Trapezoid} {m : Meetings} → MeetingsOf A B m → SmallMeetings m
+small-meetings h = record { m01 = h .m01 .small; m02 = h .m02 .small; m03 = h .m03 .small; m12 = h .m12 .small; m13 = h .m13 .small; m23 = h .m23 .small }
+
+pub orders-exact : {A B : Trapezoid} {m : Meetings} {x : Fraction} {o : Orders} → MeetingsOf A B m → OrdersBy m x o → OrdersAt A B x o
+orders-exact h k = record {
+  o01 = k .o01 ∙ right-meeting _ _ _ _ (h .m01);
+  o02 = k .o02 ∙ right-meeting _ _ _ _ (h .m02);
+  o03 = k .o03 ∙ right-meeting _ _ _ _ (h .m03);
+  o12 = k .o12 ∙ right-meeting _ _ _ _ (h .m12);
+  o13 = k .o13 ∙ right-meeting _ _ _ _ (h .m13);
+  o23 = k .o23 ∙ right-meeting _ _ _ _ (h .m23);
+}
+
+right-reverse : (x : Fraction) (l m : Line) → reverse (rightOf x l m) ≡ rightOf x m l
+right-reverse x l m = elim (yes-or-no (below x l m)) [
+  | inl h ↦ rw (right-less x l m h) (sym (right-greater x m l h))
+  | inr h ↦ elim (yes-or-no (below x m l)) [
+    | inl k ↦ rw (right-greater x l m k) (sym (right-less x m l k))
+    | inr k ↦ rw (right-equal x l m h k) (sym (right-equal x m l k h))
+  ]
+]
+
+right-itself : (x : Fraction) (l : Line) → Equal ≡ rightOf x l l
+right-itself x l = elim (yes-or-no (below x l l)) [ inl h ↦ absurd (T-not (below x l l) (below→not-below x l l h) h) | inr h ↦ sym (right-equal x l l h h) ]
+
+module _ (A B : Trapezoid) (x : Fraction) (i j : ℕ) where
+  pub order-at : {m n : ℕ} {r : Ordering} → i ≡ m → j ≡ n → r ≡ rightOf x (lineOfSide A B m) (lineOfSide A B n) → r ≡ rightOf x (lineOfSide A B i) (lineOfSide A B j)
+  order-at e f h = h ∙ ap₂ (λ (m n : ℕ). rightOf x (lineOfSide A B m) (lineOfSide A B n)) (sym e) (sym f)
+
+  pub order-below-last : {m : ℕ} {r : Ordering} → i ≡ m → 3 ≤ j → r ≡ rightOf x (lineOfSide A B m) (lineOfSide A B 3) → r ≡ rightOf x (lineOfSide A B i) (lineOfSide A B j)
+  order-below-last e l h = h ∙ ap₂ (λ (m : ℕ). rightOf x (lineOfSide A B m)) (sym e) (side-last A B j l)
+
+  pub order-last : 3 ≤ i → i < j → Equal ≡ rightOf x (lineOfSide A B i) (lineOfSide A B j)
+  order-last h l = right-itself x (lineOfSide A B 3) ∙ ap₂ (rightOf x) (side-last A B i h) (side-last A B j (omega arith))
+
+  pub order-turned : {o r : Ordering} → r ≡ reverse o → o ≡ rightOf x (lineOfSide A B j) (lineOfSide A B i) → r ≡ rightOf x (lineOfSide A B i) (lineOfSide A B j)
+  order-turned e f = e ∙ ap reverse f ∙ right-reverse x (lineOfSide A B j) (lineOfSide A B i)
+
+  pub order-same : i ≡ j → Equal ≡ rightOf x (lineOfSide A B i) (lineOfSide A B j)
+  order-same e = right-itself x (lineOfSide A B i) ∙ ap (λ (k : ℕ). rightOf x (lineOfSide A B i) (lineOfSide A B k)) e
 
 module _ (fa fb : Bool) (i : ℕ) where
   pub present-first : i < 2 → fa ≡ presentBy fa fb i
@@ -64,9 +110,24 @@ module _ (fa fb : Bool) (i : ℕ) where
 
 -- ---- the order of two sides
 module _ (A B : Trapezoid) (p : Fraction) (fa fb : Bool) (i j : ℕ) where
-  pub less-both : (l m : Line) (o : Ordering) (r : Bool) → presentBy fa fb i ≡ true → presentBy fa fb j ≡ true → l ≡ lineOfSide A B i → m ≡ lineOfSide A B j → o ≡ rightOf p l m → r ≡ lessBy o (ltb i j) → r ≡ numberLess A B p fa fb i j
+  less-both : (o : Ordering) (r : Bool) → presentBy fa fb i ≡ true → presentBy fa fb j ≡ true → o ≡ rightOf p (lineOfSide A B i) (lineOfSide A B j) → r ≡ lessBy o (ltb i j) → r ≡ numberLess A B p fa fb i j
   unfolding numberLess
-  less-both l m o r e f le me oe re = re ∙ ap (λ (o : Ordering). lessBy o (ltb i j)) (oe ∙ ap₂ (rightOf p) le me) ∙ rw (e, f)
+  less-both o r e f oe re = re ∙ ap (λ (o : Ordering). lessBy o (ltb i j)) oe ∙ rw (e, f)
+
+  -- by the order of the side with the lower number and the other
+  pub less-up : (o : Ordering) (r : Bool) → i < j → presentBy fa fb i ≡ true → presentBy fa fb j ≡ true → o ≡ rightOf p (lineOfSide A B i) (lineOfSide A B j) → r ≡ lessBy o true → r ≡ numberLess A B p fa fb i j
+  less-up o r l e f oe re = less-both o r e f oe (re ∙ ap (lessBy o) (sym (lt-ltb i j l)))
+
+  pub less-down : (o : Ordering) (r : Bool) → j < i → presentBy fa fb i ≡ true → presentBy fa fb j ≡ true → o ≡ rightOf p (lineOfSide A B j) (lineOfSide A B i) → r ≡ lessBy o true → not r ≡ numberLess A B p fa fb i j
+  less-down o r l e f oe re = less-both (reverse o) (not r) e f (order-turned A B p i j refl oe) (ap not re ∙ turned o ∙ ap (lessBy (reverse o)) (sym (le-ltb i j (omega (arith, l)))))
+    where
+      turned : (o : Ordering) → not (lessBy o true) ≡ lessBy (reverse o) false
+      turned Less = refl
+      turned Equal = refl
+      turned Greater = refl
+
+  pub less-same : i ≡ j → presentBy fa fb i ≡ true → presentBy fa fb j ≡ true → false ≡ numberLess A B p fa fb i j
+  less-same same e f = less-both Equal false e f (order-same A B p i j same) (sym (le-ltb i j (omega (arith, same))))
 
   pub less-first : presentBy fa fb i ≡ true → presentBy fa fb j ≡ false → true ≡ numberLess A B p fa fb i j
   unfolding numberLess

@@ -38,6 +38,12 @@ lessBy Less t = true
 lessBy Equal t = t
 lessBy Greater t = false
 
+-- of the lines taken the other way round
+abbrev pub reverse : Ordering → Ordering
+reverse Less = Greater
+reverse Equal = Equal
+reverse Greater = Less
+
 -- of sides that are present or not: present ones come first; s if both are, and t if neither is
 abbrev pub presentFirst : Bool → Bool → Bool → Bool → Bool
 presentFirst true true s t = s

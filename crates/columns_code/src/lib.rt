@@ -5,6 +5,8 @@ use geometry::Position;
 use geometry::Trapezoid;
 use integer::Ordering;
 use overlay::Column;
+use overlay::Meetings;
+use overlay::Orders;
 ghost use mathlib.Core.Path.{_≡_};
 ghost use Prim.Native.Nat.{_<_};
 ghost use lib.ListN.{length};
@@ -13,8 +15,8 @@ ghost use Rattle.geometry.specs.Fitness.{FitFor};
 ghost use Rattle.overlay.specs.Overlay.{inRange};
 ghost use Rattle.geometry_code.specs.Code.{fractionOf, SmallPosition};
 ghost use Rattle.trapezoids_code.specs.Placed.{PlacedAs, Pair};
-ghost use Rattle.columns_code.specs.Order.{lineOfSide, presentBy, lessBy, numberLess};
-ghost use Rattle.columns_code.specs.Code.{FourSides, ColumnAt, Exchanged};
+ghost use Rattle.columns_code.specs.Order.{lineOfSide, presentBy, lessBy, reverse};
+ghost use Rattle.columns_code.specs.Code.{MeetingsOf, SmallMeetings, OrdersBy, OrdersAt, OrderIn, LessIn, ExchangedIn, FourSides, ColumnAt};
 
 pub fn line_of_side(a: Trapezoid, b: Trapezoid, i: usize) -> Line
     ensures { λ r. ⌜ r ≡ lineOfSide a b i ⌝ }
@@ -52,25 +54,113 @@ fn less_by(o: Ordering, tie: bool) -> bool
     }
 }
 
-// The order of two sides right of a position: present ones first, then by their lines, then by number.
-fn side_less(
-    a: Trapezoid,
-    b: Trapezoid,
-    at: Position,
-    in_a: bool,
-    in_b: bool,
-    i: usize,
-    j: usize,
-) -> bool
-    requires { ⌜ FitFor coordinateLimit a × FitFor coordinateLimit b × SmallPosition at ⌝ }
-    ensures { λ r. ⌜ r ≡ numberLess a b (fractionOf at) in_a in_b i j ⌝ }
+// Where each two of the four sides meet.
+pub fn meetings_of(a: Trapezoid, b: Trapezoid) -> Meetings
+    requires { ⌜ FitFor coordinateLimit a × FitFor coordinateLimit b ⌝ }
+    ensures { λ r. ⌜ MeetingsOf a b r ⌝ }
+{
+    let m01 = geometry_code::meeting_of(a.bottom, a.top);
+    let m02 = geometry_code::meeting_of(a.bottom, b.bottom);
+    let m03 = geometry_code::meeting_of(a.bottom, b.top);
+    let m12 = geometry_code::meeting_of(a.top, b.bottom);
+    let m13 = geometry_code::meeting_of(a.top, b.top);
+    let m23 = geometry_code::meeting_of(b.bottom, b.top);
+    Meetings {
+        m01,
+        m02,
+        m03,
+        m12,
+        m13,
+        m23,
+    }
+}
+
+// The orders of each two of the four sides right of a position.
+pub fn orders_at(m: Meetings, at: Position) -> Orders
+    requires { ⌜ SmallMeetings m × SmallPosition at ⌝ }
+    ensures { λ r. ⌜ OrdersBy m (fractionOf at) r ⌝ }
+{
+    let o01 = geometry_code::order_right(m.m01, at);
+    let o02 = geometry_code::order_right(m.m02, at);
+    let o03 = geometry_code::order_right(m.m03, at);
+    let o12 = geometry_code::order_right(m.m12, at);
+    let o13 = geometry_code::order_right(m.m13, at);
+    let o23 = geometry_code::order_right(m.m23, at);
+    Orders {
+        o01,
+        o02,
+        o03,
+        o12,
+        o13,
+        o23,
+    }
+}
+
+// The order of two sides the other way round.
+fn turned(o: Ordering) -> Ordering
+    ensures { λ r. ⌜ r ≡ reverse o ⌝ }
+{
+    match o {
+        Ordering::Less => Ordering::Greater,
+        Ordering::Equal => Ordering::Equal,
+        Ordering::Greater => Ordering::Less,
+    }
+}
+
+// The order of a side and one with a greater number.
+fn order_up(o: Orders, i: usize, j: usize) -> Ordering
+    requires { ⌜ i < j ⌝ }
+    ensures { λ r. ⌜ OrderIn o i j r ⌝ }
+{
+    if i == 0 {
+        if j == 1 {
+            return o.o01;
+        }
+        if j == 2 {
+            return o.o02;
+        }
+        return o.o03;
+    }
+    if i == 1 {
+        if j == 2 {
+            return o.o12;
+        }
+        return o.o13;
+    }
+    if i == 2 {
+        return o.o23;
+    }
+    Ordering::Equal
+}
+
+// The order of two sides.
+pub fn order_of(o: Orders, i: usize, j: usize) -> Ordering
+    ensures { λ r. ⌜ OrderIn o i j r ⌝ }
+{
+    if i < j {
+        return order_up(o, i, j);
+    }
+    if j < i {
+        return turned(order_up(o, j, i));
+    }
+    Ordering::Equal
+}
+
+// Whether a side is in front of another: present ones first, then by their order, then by number.
+fn side_less(o: Orders, in_a: bool, in_b: bool, i: usize, j: usize) -> bool
+    ensures { λ r. ⌜ LessIn o in_a in_b i j r ⌝ }
 {
     if present(in_a, in_b, i) {
         if present(in_a, in_b, j) {
-            let l = line_of_side(a, b, i);
-            let m = line_of_side(a, b, j);
-            let o = geometry_code::right_order(l, m, at);
-            return less_by(o, i < j);
+            if i < j {
+                let u = order_up(o, i, j);
+                return less_by(u, true);
+            }
+            if j < i {
+                let u = order_up(o, j, i);
+                return !less_by(u, true);
+            }
+            return false;
         }
         return true;
     }
@@ -81,17 +171,16 @@ fn side_less(
 }
 
 // Two entries of the order, the lesser side in front.
-fn exchange(a: Trapezoid, b: Trapezoid, at: Position, c: Column, i: usize, j: usize) -> Column
-    requires { ⌜ FitFor coordinateLimit a × FitFor coordinateLimit b × SmallPosition at ⌝ }
+fn exchange(o: Orders, c: Column, i: usize, j: usize) -> Column
     requires { ⌜ (length (c .order) ≡ 4) × (i < 4) × (j < 4) ⌝ }
-    ensures { λ r. ⌜ Exchanged a b (fractionOf at) i j c r ⌝ }
+    ensures { λ r. ⌜ ExchangedIn o i j c r ⌝ }
 {
     let in_a = c.in_a;
     let in_b = c.in_b;
     let mut order = c.order;
     let x = order[i];
     let y = order[j];
-    if side_less(a, b, at, in_a, in_b, y, x) {
+    if side_less(o, in_a, in_b, y, x) {
         order[i] = y;
         order[j] = x;
         return Column { order, in_a, in_b };
@@ -111,19 +200,17 @@ fn in_range(a: Placed, at: Position) -> bool
 }
 
 // The column right of a position, from the column before it, however many sides meet there.
-pub fn column_at(a: Placed, b: Placed, at: Position, c: Column) -> Column
-    requires { ⌜ Pair a b × SmallPosition at × FourSides (c .order) ⌝ }
+pub fn column_at(a: Placed, b: Placed, o: Orders, at: Position, c: Column) -> Column
+    requires { ⌜ Pair a b × SmallPosition at × FourSides (c .order) × OrdersAt (a .shape) (b .shape) (fractionOf at) o ⌝ }
     ensures { λ r. ⌜ ColumnAt (a .shape) (b .shape) (fractionOf at) r ⌝ }
 {
     let in_a = in_range(a, at);
     let in_b = in_range(b, at);
-    let s = a.shape;
-    let t = b.shape;
     let order = c.order;
     let d = Column { order, in_a, in_b };
-    let e = exchange(s, t, at, d, 0, 1);
-    let f = exchange(s, t, at, e, 2, 3);
-    let g = exchange(s, t, at, f, 0, 2);
-    let h = exchange(s, t, at, g, 1, 3);
-    exchange(s, t, at, h, 1, 2)
+    let e = exchange(o, d, 0, 1);
+    let f = exchange(o, e, 2, 3);
+    let g = exchange(o, f, 0, 2);
+    let h = exchange(o, g, 1, 3);
+    exchange(o, h, 1, 2)
 }

@@ -1,19 +1,30 @@
 -- Trapezoids of a layer's words, by their numbers.
-use mathlib.Core.Path.{_≡_, sym, _∙_, ap}
-use mathlib.Core.Bool.{Bool}
+use mathlib.Core.Path.{_≡_, sym, _∙_, ap, ap₂, subst}
+use mathlib.Core.Bool.{Bool, false, not}
 use mathlib.Core.List.{List}
 use Prim.Native.Nat.{ℕ, zero, suc, _+_, _<_}
 use native.Mathlib.Omega.{arith}
+use lib.Dec.{T}
 use lib.ListN.{length}
 use lib.IntN.{ℤ}
+use borrow.Author.Tests.{not-false}
+use Rattle.lists.specs.Lists.{All}
 use Rattle.lists.specs.Tests.{testAt}
+use Rattle.lists.proofs.Tests.{is-true}
 use Rattle.records.specs.Records.{recordAt, recordsFrom, count}
 use Rattle.records.proofs.Records.{length-from}
 use Rattle.geometry.specs.declared.Trapezoid.{Trapezoid}
+use Rattle.geometry.specs.Limit.{coordinateLimit}
+use Rattle.geometry.specs.Fitness.{FitFor}
 use Rattle.geometry.specs.Trapezoids.{trapezoidCodec, layerOf}
+use Rattle.geometry.proofs.Layers.{all-record}
 use Rattle.connectivity.specs.Touching.{touches}
 use Rattle.connectivity.specs.Components.{ownNumbers, joinedAll, owners, touchingAt, componentNumbers, componentCount}
 use Rattle.connectivity.proofs.Joining.{length-own}
+use Rattle.boxes.specs.declared.Box.{Box}
+use Rattle.boxes.specs.Boxes.{boxOf, boxesApart}
+use Rattle.boxes.proofs.Rejecting.{no-touch}
+use Rattle.boxes_code.specs.Code.{boxAt, FirstBoxes}
 use Rattle.connectivity_code.proofs.Loops.{length-all}
 
 test-from : (f : Trapezoid → Bool) (n : ℕ) (s : List ℤ) (k i : ℕ) → i < n → testAt f (recordsFrom trapezoidCodec n s k) i ≡ f (recordAt trapezoidCodec s (k + i))
@@ -28,6 +39,20 @@ test-record f s i l = let e : 0 + i ≡ i = omega arith in test-from f (count tr
 pub touching-record : (s : List ℤ) (i j : ℕ) → i < count trapezoidCodec s → j < count trapezoidCodec s → touches (recordAt trapezoidCodec s i) (recordAt trapezoidCodec s j) ≡ touchingAt (layerOf s) i j
 unfolding touchingAt
 touching-record s i j l m = sym (test-record (λ (t : Trapezoid). testAt (touches t) (layerOf s) j) s i l ∙ test-record (touches (recordAt trapezoidCodec s i)) s j m)
+
+-- ---- boxes
+pub fewer-boxes : {s d : List ℤ} {i : ℕ} → FirstBoxes (i + 1) s d → FirstBoxes i s d
+fewer-boxes f = record { room = f .room; each = λ k l. f .each k (omega (arith, l)) }
+
+-- where the boxes are apart the two do not touch
+pub apart-record : (s d : List ℤ) (i j : ℕ) {e : Box} {r : Bool} → All (FitFor coordinateLimit) (layerOf s) → i < count trapezoidCodec s → j < i
+    → e ≡ boxOf (recordAt trapezoidCodec s i) → FirstBoxes i s d → r ≡ boxesApart e (boxAt d j) → not r ≡ false → false ≡ touchingAt (layerOf s) i j
+apart-record s d i j {e} {r} fit l m b f g z =
+    let n : j < count trapezoidCodec s = omega (arith, l, m) in
+    let first = all-record (FitFor coordinateLimit) s i fit l in
+    let second = all-record (FitFor coordinateLimit) s j fit n in
+    let apart = subst T (g ∙ ap₂ boxesApart b (f .each j m)) (is-true (not-false r z)) in
+    sym (no-touch coordinateLimit (omega arith) (recordAt trapezoidCodec s i) (recordAt trapezoidCodec s j) first second apart) ∙ touching-record s i j l n
 
 -- ---- the component numbers of a layer's words, as the function makes them
 length-layer : (s : List ℤ) → length (layerOf s) ≡ count trapezoidCodec s

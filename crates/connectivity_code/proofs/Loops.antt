@@ -97,6 +97,11 @@ module _ (i j : ℕ) (ns : List ℕ) where
       let o : min (numberAt ns i) (numberAt ns j) ≡ numberAt ns i = omega arith in
       sym (rw (m, o) (relabelled-same (numberAt ns i) ns))
 
+-- nothing is to be done where the numbers agree
+agree-if : (b : Bool) (i j : ℕ) (ns : List ℕ) → numberAt ns i ≡ numberAt ns j → ns ≡ joinedIf b i j ns
+agree-if true i j ns e = join-same i j ns (omega (arith, e)) (omega (arith, e))
+agree-if false i j ns e = refl
+
 -- ---- one with those before it
 length-if : (b : Bool) (i j : ℕ) (ns : List ℕ) → length (joinedIf b i j ns) ≡ length ns
 length-if true i j ns = length-joined i j ns
@@ -133,6 +138,9 @@ module _ (test : ℕ → ℕ → Bool) where
         is = g ∙ ap (λ (t : Bool). joinedIf t i j d) f ∙ ap (joinedIf (test i j) i j) (h .is) ∙ sym (first-suc i j d₀);
         long = ap length g ∙ length-if b i j d ∙ h .long;
       }
+
+  pub earlier-agree : {i j : ℕ} {d₀ d e : List ℕ} → Earlier i d₀ d j → j < i → numberAt d i ≡ numberAt d j → e ≡ d → Earlier i d₀ e (j + 1)
+  earlier-agree {i} {j} {d₀} {d} h l f g = earlier-turn h l refl (g ∙ agree-if (test i j) i j d f)
 
   pub earlier-stop : {i j : ℕ} {d₀ d : List ℕ} → Earlier i d₀ d j → i ≤ j → d ≡ joinedFirst test i i d₀
   earlier-stop {i} {j} {d₀} {d} h l = let e : j ≡ i = omega (arith, h .upto) in h .is ∙ ap (λ (k : ℕ). joinedFirst test i k d₀) e

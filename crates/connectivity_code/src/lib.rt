@@ -1,4 +1,5 @@
 // Trapezoids that touch, and the component numbers of a layer of fit trapezoids.
+use boxes::Box;
 use geometry::Crossing;
 use geometry::Line;
 use geometry::Placed;
@@ -6,7 +7,7 @@ use geometry::Position;
 use geometry::Trapezoid;
 ghost use mathlib.Core.Path.{_≡_};
 ghost use mathlib.Core.Bool.{cond};
-ghost use Prim.Native.Nat.{_+_, _<_, _≤_};
+ghost use Prim.Native.Nat.{_+_, _*_, _<_, _≤_};
 ghost use lib.Dec.{eqb};
 ghost use lib.ListN.{length};
 ghost use Rattle.lists.specs.Lists.{All};
@@ -18,8 +19,10 @@ ghost use Rattle.geometry.specs.Trapezoids.{trapezoidCodec, layerOf};
 ghost use Rattle.geometry.specs.Ranges.{crossing};
 ghost use Rattle.connectivity.specs.Touching.{notAbove, touchesAt, touchesFrom, touches};
 ghost use Rattle.connectivity.specs.Components.{ownNumbers, relabelled, joinedNumbers, joinedIf, joinedFirst, joinedAll, owners, touchingAt, componentNumbers, componentCount};
+ghost use Rattle.boxes.specs.Boxes.{boxOf};
 ghost use Rattle.geometry_code.specs.Code.{fractionOf, SmallPosition};
 ghost use Rattle.trapezoids_code.specs.Placed.{Pair, PlacedAs};
+ghost use Rattle.boxes_code.specs.Code.{boxWidth, FirstBoxes};
 ghost use Rattle.connectivity_code.specs.Code.{Numbering};
 
 // Whether a line is at or below another at a position.
@@ -150,30 +153,37 @@ fn join_if(numbers: &mut [u32], wanted: bool, i: usize, j: usize)
     }
 }
 
-// The trapezoid with number i of a layer is joined with each before it that it touches.
-fn join_earlier(layer: &[i32], a: Placed, i: usize, numbers: &mut [u32])
-    requires { ⌜ Numbering (now layer) (now numbers) ⌝ }
-    requires { ⌜ (i < count trapezoidCodec (now layer)) × PlacedAs (recordAt trapezoidCodec (now layer) i) a ⌝ }
+// The trapezoid with number i of a layer is joined with each before it that it touches. Where the boxes are apart it does not, and
+// where the numbers agree nothing is to be done.
+fn join_earlier(layer: &[i32], boxes: &[i64], a: Placed, e: Box, i: usize, numbers: &mut [u32])
+    requires { ⌜ Numbering (now layer) (now numbers) × FirstBoxes i (now layer) (now boxes) ⌝ }
+    requires { ⌜ (i < count trapezoidCodec (now layer)) × PlacedAs (recordAt trapezoidCodec (now layer) i) a × (e ≡ boxOf (recordAt trapezoidCodec (now layer) i)) ⌝ }
     ensures { λ _. ⌜ now (numbers .exit) ≡ joinedFirst (touchingAt (layerOf (now (layer .entry)))) i i (now (numbers .entry)) ⌝ }
 {
     let mut j = 0;
     while j < i {
-        let t = touching_at(layer, a, j);
-        join_if(numbers, t, i, j);
+        if !boxes_code::boxes_apart(e, boxes, j) {
+            if numbers[i] != numbers[j] {
+                let t = touching_at(layer, a, j);
+                join_if(numbers, t, i, j);
+            }
+        }
         j += 1;
     }
 }
 
 // Each trapezoid of a layer in turn is joined with those before it that it touches.
-fn join_all(layer: &[i32], numbers: &mut [u32])
-    requires { ⌜ Numbering (now layer) (now numbers) ⌝ }
+fn join_all(layer: &[i32], boxes: &mut [i64], numbers: &mut [u32])
+    requires { ⌜ Numbering (now layer) (now numbers) × (boxWidth * count trapezoidCodec (now layer) ≤ length (now boxes)) ⌝ }
     ensures { λ _. ⌜ now (numbers .exit) ≡ joinedAll (touchingAt (layerOf (now (layer .entry)))) (count trapezoidCodec (now (layer .entry))) (now (numbers .entry)) ⌝ }
 {
     let n = layer.len() / records::MEMORY_WIDTH;
     let mut i = 0;
     while i < n {
         let a = trapezoids_code::placed_at(layer, i);
-        join_earlier(layer, a, i, numbers);
+        let e = boxes_code::box_of(a);
+        boxes_code::set_box(boxes, i, e);
+        join_earlier(layer, boxes, a, e, i, numbers);
         i += 1;
     }
 }
@@ -204,13 +214,27 @@ fn count_own(numbers: &[u32]) -> usize
     n
 }
 
+// The component numbers of a layer of fit trapezoids, with `boxes` for the boxes of the layer.
+fn components_with(layer: &[i32], boxes: &mut [i64], numbers: &mut [u32]) -> usize
+    requires { ⌜ Numbering (now layer) (now numbers) × (length (now numbers) ≤ maxRecords) × (boxWidth * length (now numbers) ≤ length (now boxes)) ⌝ }
+    ensures { λ r. ⌜ now (numbers .exit) ≡ componentNumbers (layerOf (now (layer .entry))) ⌝ }
+    ensures { λ r. ⌜ (r ≡ componentCount (layerOf (now (layer .entry)))) × (r ≤ maxRecords) ⌝ }
+{
+    number_each(numbers);
+    join_all(layer, boxes, numbers);
+    count_own(numbers)
+}
+
 // The component numbers of a layer of fit trapezoids; answers the number of components.
 pub fn components_into(layer: &[i32], numbers: &mut [u32]) -> usize
     requires { ⌜ Numbering (now layer) (now numbers) × (length (now numbers) ≤ maxRecords) ⌝ }
     ensures { λ r. ⌜ now (numbers .exit) ≡ componentNumbers (layerOf (now (layer .entry))) ⌝ }
     ensures { λ r. ⌜ (r ≡ componentCount (layerOf (now (layer .entry)))) × (r ≤ maxRecords) ⌝ }
 {
-    number_each(numbers);
-    join_all(layer, numbers);
-    count_own(numbers)
+    if numbers.len() <= boxes::FEW {
+        let mut boxes = [0; boxes::FEW_WORDS];
+        return components_with(layer, &mut boxes, numbers);
+    }
+    let mut boxes = [0; boxes::MOST_WORDS];
+    components_with(layer, &mut boxes, numbers)
 }

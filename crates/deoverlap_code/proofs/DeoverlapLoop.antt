@@ -3,11 +3,12 @@ use mathlib.Core.Path.{_≡_, refl, sym, _∙_, ap, subst}
 use mathlib.Core.List.{List, [], _∷_, _++_}
 use Prim.Native.Nat.{ℕ, _+_, _*_, _-_, _<_, _≤_}
 use native.Mathlib.Omega.{arith}
-use lib.ListN.{length}
+use lib.ListN.{length, take, drop, length-drop, take-append-drop}
+use lib.Seq.{length-take-le, take-append-le, drop-append-le, take-take}
 use lib.IntN.{ℤ, pos}
 use Rattle.lists.specs.Lists.{All}
 use Rattle.lists.proofs.Lists.{all-append}
-use Rattle.records.specs.Limits.{maxRecords}
+use Rattle.records.specs.Limits.{memoryWidth, maxRecords}
 use Rattle.records.specs.Records.{recordAt, count, Blank}
 use Rattle.geometry.specs.declared.Trapezoid.{Trapezoid}
 use Rattle.geometry.specs.Limit.{coordinateLimit}
@@ -20,11 +21,13 @@ use Rattle.boolean.specs.Operations.{minusAll, deoverlapped, deoverlappedFrom}
 use Rattle.boolean.specs.Space.{enough, no-room, space, oneStages, deoverlappedStages}
 use Rattle.boolean.proofs.Kept.{minusAll-fit}
 use Rattle.boolean.proofs.Shifting.{one-shift}
+use Rattle.boxes.specs.Boxes.{boxOf}
 use Rattle.trapezoids_code.specs.Tails.{Borrowed, FilledAs}
 use Rattle.trapezoids_code.proofs.Writing.{tail, fill-nothing}
+use Rattle.boxes_code.specs.Code.{boxWidth, FirstBoxes, BoxesOf}
 use Rattle.remainder_code.specs.Code.{front, rest, leading, overlaysOfOne, maxOverlays, OverlaysWithin, Remaining, FoldedAs, ScratchFor}
 use Rattle.remainder_code.proofs.Answers.{within-no-room, within-done, filled-remaining}
-use Rattle.remainder_code.proofs.Leading.{rest-is, back-whole}
+use Rattle.remainder_code.proofs.Leading.{rest-is, back-whole, front-length, front-count, leading-fits, leading-fit}
 use Rattle.remainder_code.proofs.Folding.{Fold, Steps, Folding, blank-start, fold-leading, fold-words, fold-added, fold-fit, fold-no-room, fold-next}
 
 -- ---- the definitions, step by step
@@ -124,3 +127,34 @@ module _ {W room : ℕ} {layer out scratch : List ℤ} {k sum i : ℕ} (h : Deov
             few = omega (arith, h .few, within-done overlaysOfOne m c f e u);
             scratch-for = (z, n ∙ h .scratch-for .1 ∙ F .long ∙ sym (s .long));
           }
+
+-- ---- the boxes of what the result holds
+-- number i of the first n words of a list is that of the list
+record-take : (n : ℕ) (s : List ℤ) (i : ℕ) → n ≤ length s → memoryWidth * i + memoryWidth ≤ n → recordAt trapezoidCodec (take n s) i ≡ recordAt trapezoidCodec s i
+unfolding recordAt
+record-take n s i l h =
+    let p = take n s in
+    let m = length-take-le n s l in
+    let e : take memoryWidth (drop (memoryWidth * i) (p ++ drop n s)) ≡ take memoryWidth (drop (memoryWidth * i) p) =
+    ap (take memoryWidth) (drop-append-le (memoryWidth * i) p (drop n s) (omega (arith, m, h)))
+    ∙ take-append-le memoryWidth (drop (memoryWidth * i) p) (drop n s) (omega (arith, length-drop (memoryWidth * i) p, m, h)) in
+    ap (trapezoidCodec .decode) (sym e ∙ ap (λ (x : List ℤ). take memoryWidth (drop (memoryWidth * i) x)) (take-append-drop n s))
+
+pub boxes-start : (out boxes : List ℤ) → BoxesOf (front out 0) boxes
+boxes-start out boxes = record { room = omega arith; each = λ i l. absurd (omega (arith, l)) }
+
+-- the result is t, with m more past its first k records, whose boxes stand
+pub boxes-more : (out t boxes : List ℤ) (k m room : ℕ) → Remaining out k room → Remaining t (k + m) room → front t k ≡ front out k → boxWidth * room ≤ length boxes → BoxesOf (front out k) boxes
+    → All (FitFor coordinateLimit) (layerOf (front t (k + m))) × (k ≤ count trapezoidCodec (front t (k + m))) × FirstBoxes k (front t (k + m)) boxes
+boxes-more out t boxes k m room h g stands w b =
+    let f = leading-fits t (k + m) room g in
+    let n = front-count t (k + m) f in
+    let same : take (memoryWidth * k) (front t (k + m)) ≡ front out k = take-take (memoryWidth * k) (memoryWidth * (k + m)) t (omega arith) ∙ stands in (
+      leading-fit t (k + m) room g,
+      omega (arith, n),
+      record {
+        room = omega (arith, n, g .within, w);
+        each = λ i l. b .each i (omega (arith, front-count out k (leading-fits out k room h), l)) ∙ ap (λ (s : List ℤ). boxOf (recordAt trapezoidCodec s i)) (sym same)
+            ∙ ap boxOf (record-take (memoryWidth * k) (front t (k + m)) i (omega (arith, front-length t (k + m) f)) (omega (arith, l)));
+      },
+    )

@@ -1,1 +1,2 @@
 pub mod Folds
+pub mod Alone

@@ -3,10 +3,12 @@ use mathlib.Core.Path.{_≡_}
 use mathlib.Core.Bool.{Bool, true, false, not}
 use Prim.Native.Nat.{_*_, _≤_}
 use lib.Dec.{T}
-use lib.IntN.{natAbs}
+use lib.IntN.{pos, natAbs}
 use Rattle.integer.specs.declared.Int.{Int}
 use Rattle.integer.specs.declared.Ordering.{Ordering}
 use Rattle.integer.specs.declared.Ordering.the-variants.{Less, Equal, Greater}
+use Rattle.integer.specs.Integer.{_⊗_}
+use Rattle.integer.specs.Compare.{orderOf}
 use Rattle.integer.specs.Fraction.{Fraction}
 use Rattle.geometry.specs.declared.Line.{Line}
 use Rattle.geometry.specs.declared.Base.{Base}
@@ -18,7 +20,7 @@ use Rattle.geometry.specs.declared.Crossing.{Crossing}
 use Rattle.geometry.specs.declared.Crossing.the-variants.{Nowhere, At}
 use Rattle.geometry.specs.Limit.{coordinateLimit, maxDenominator, detBound, numerBound}
 use Rattle.geometry.specs.Lines.{dx, dy, offset, det, numer}
-use Rattle.geometry.specs.Positions.{crosses, meet, position}
+use Rattle.geometry.specs.Positions.{crosses, meet, position, thenBy}
 use Rattle.geometry.specs.Points.{Point}
 
 pub record CornersOf (l : Line) (k : Corners) : Type 0 where
@@ -36,12 +38,16 @@ pub record CoefficientsOf (l : Line) (c : Coefficients) : Type 0 where
   pub dy-small : natAbs (c .dy .v) ≤ 2 * coordinateLimit
   pub offset-small : natAbs (c .offset .v) ≤ 2 * (coordinateLimit * coordinateLimit)
 
+-- a determinant and a numerator as a comparison takes them
+pub record SmallMeeting (k : Meeting) : Type 0 where
+  pub det-small : natAbs (k .det .v) ≤ detBound coordinateLimit
+  pub numer-small : natAbs (k .numer .v) ≤ numerBound coordinateLimit
+
 -- the two numbers by which two lines are compared
 pub record MeetingOf (l m : Line) (k : Meeting) : Type 0 where
   pub det : k .det .v ≡ det l m
   pub numer : k .numer .v ≡ numer l m
-  pub det-small : natAbs (k .det .v) ≤ detBound coordinateLimit
-  pub numer-small : natAbs (k .numer .v) ≤ numerBound coordinateLimit
+  pub small : SmallMeeting k
 
 abbrev pub fractionOf : Position → Fraction
 fractionOf p = record { num = p .num .v; den = p .den .v }
@@ -50,6 +56,10 @@ fractionOf p = record { num = p .num .v; den = p .den .v }
 pub record SmallPosition (p : Position) : Type 0 where
   pub num-small : natAbs (p .num .v) ≤ numerBound coordinateLimit
   pub den-small : natAbs (p .den .v) ≤ detBound coordinateLimit
+
+-- the order right of x by a determinant and a numerator: of the lines that have them it is `rightOf` (proofs/Branches.antt: `right-meeting`)
+unfoldable pub orderRight : Meeting → Fraction → Ordering
+orderRight k x = thenBy (orderOf (x .num ⊗ k .det .v) (k .numer .v ⊗ x .den)) (orderOf (k .det .v) (pos 0))
 
 -- where two lines cross, or that they do not
 abbrev pub CrossingOf : Line → Line → Crossing → Type 0

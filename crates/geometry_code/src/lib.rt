@@ -20,7 +20,7 @@ ghost use Rattle.integer.specs.Fraction.{before, order};
 ghost use Rattle.geometry.specs.Limit.{coordinateLimit, OnGrid, detBound, numerBound};
 ghost use Rattle.geometry.specs.Positions.{crosses, heights, rightOf, isLess, below};
 ghost use Rattle.geometry.specs.Points.{under as underOf};
-ghost use Rattle.geometry_code.specs.Code.{CornersOf, CoefficientsOf, MeetingOf, fractionOf, SmallPosition, CrossingOf, PositionOf, pointOf, SmallPoint};
+ghost use Rattle.geometry_code.specs.Code.{CornersOf, CoefficientsOf, SmallMeeting, MeetingOf, fractionOf, SmallPosition, orderRight, CrossingOf, PositionOf, pointOf, SmallPoint};
 
 pub fn corners_of(l: Line) -> Corners
     ensures { λ r. ⌜ CornersOf l r ⌝ }
@@ -129,12 +129,11 @@ pub fn heights_at(l: Line, m: Line, x: Position) -> Ordering
     compare_products(x.num, k.det, k.numer, x.den)
 }
 
-// Which of two lines is the lower right of a position, or that they coincide.
-pub fn right_order(l: Line, m: Line, x: Position) -> Ordering
-    requires { ⌜ OnGrid coordinateLimit l × OnGrid coordinateLimit m × SmallPosition x ⌝ }
-    ensures { λ r. ⌜ r ≡ rightOf (fractionOf x) l m ⌝ }
+// Which of two lines is the lower right of a position, or that they coincide, by their determinant and numerator.
+pub fn order_right(k: Meeting, x: Position) -> Ordering
+    requires { ⌜ SmallMeeting k × SmallPosition x ⌝ }
+    ensures { λ r. ⌜ r ≡ orderRight k (fractionOf x) ⌝ }
 {
-    let k = meeting_of(l, m);
     let o = compare_products(x.num, k.det, k.numer, x.den);
     match o {
         Ordering::Less => Ordering::Less,
@@ -144,6 +143,15 @@ pub fn right_order(l: Line, m: Line, x: Position) -> Ordering
         }
         Ordering::Greater => Ordering::Greater,
     }
+}
+
+// The same of the lines.
+pub fn right_order(l: Line, m: Line, x: Position) -> Ordering
+    requires { ⌜ OnGrid coordinateLimit l × OnGrid coordinateLimit m × SmallPosition x ⌝ }
+    ensures { λ r. ⌜ r ≡ rightOf (fractionOf x) l m ⌝ }
+{
+    let k = meeting_of(l, m);
+    order_right(k, x)
 }
 
 // Whether a position is left of another.

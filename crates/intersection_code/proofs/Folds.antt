@@ -1,23 +1,26 @@
 -- The parts common to one trapezoid and a layer, and to two layers, as folds.
 use mathlib.Core.Path.{_≡_, refl, sym, _∙_, ap}
-use mathlib.Core.List.{List, [], _∷_, _++_}
-use Prim.Native.Nat.{ℕ, _+_, _-_, _≤_}
+use mathlib.Core.Bool.{false}
+use mathlib.Core.List.{List, [], _∷_, _++_, append-nil}
+use Prim.Native.Nat.{ℕ, _+_, _-_, _<_, _≤_}
 use native.Mathlib.Omega.{arith}
 use lib.ListN.{length}
 use lib.IntN.{ℤ}
 use Rattle.records.specs.Limits.{maxRecords}
-use Rattle.records.specs.Records.{count}
+use Rattle.records.specs.Records.{recordAt, image, count}
 use Rattle.records.proofs.Records.{length-from}
 use Rattle.geometry.specs.declared.Trapezoid.{Trapezoid}
 use Rattle.geometry.specs.Trapezoids.{trapezoidCodec, layerOf}
+use Rattle.overlay.specs.Overlaps.{overlaps}
 use Rattle.overlay.specs.Overlay.{overlay, tagged}
 use Rattle.boolean.specs.declared.Folded.{Folded}
 use Rattle.boolean.specs.Operations.{common, intersection}
-use Rattle.boolean.specs.Space.{overlaid, enough, space, commonStages, intersectionStages}
+use Rattle.boolean.specs.Space.{Stage, overlaid, enough, space, commonStages, intersectionStages}
 use Rattle.boolean.proofs.Shifting.{overlaid-shift, common-shift}
 use Rattle.remainder_code.specs.Code.{FoldedAs, OverlaysWithin}
-use Rattle.remainder_code.proofs.Answers.{folded-within, within-least}
-use Rattle.remainder_code.proofs.Folding.{Fold, Steps, Part, appending, appending-steps}
+use Rattle.remainder_code.proofs.Answers.{folded-within, within-least, space-overlaid}
+use Rattle.remainder_code.proofs.Apart.{common-apart}
+use Rattle.remainder_code.proofs.Folding.{Fold, Steps, Folding, fold-next, Part, appending, appending-steps}
 
 -- ---- one trapezoid and a layer
 module _ (a : Trapezoid) where
@@ -61,6 +64,18 @@ module _ (a : Trapezoid) where
   common-part {room} {k} {left} {done} b n l =
       let m = length (tagged 3 (overlay a b)) in
       record { next = refl; same = ap (λ (x : ℕ). space room (overlaid (x + m) ∷ [])) (sym n) ∙ overlaid-shift room k (room - k) m (omega (arith, l)); within = omega (arith, n, l) }
+
+-- a turn that passes over a trapezoid which a does not overlap adds nothing, and counts one overlay
+pub common-passed : (a : Trapezoid) {W room : ℕ} {goal : List Trapezoid} {ms : List Stage} {layer out : List ℤ} {k overlays i : ℕ} → Folding (commonFold a) W room goal ms layer out k overlays i
+    → i < count trapezoidCodec layer → overlaps a (recordAt trapezoidCodec layer i) ≡ false → Folding (commonFold a) W room goal ms layer out k (overlays + 1) (i + 1)
+common-passed a {W} {room} {goal} {ms} {layer} {out} {k} {overlays} {i} h l e =
+    let b = recordAt trapezoidCodec layer i in
+    let none = common-apart a b e in
+    let z : length (tagged 3 (overlay a b)) ≡ 0 = ap length none in
+    let same : h .done ++ tagged 3 (overlay a b) ≡ h .done = ap (λ (ts : List Trapezoid). h .done ++ ts) none ∙ append-nil (h .done) in
+    let n = ap length same in
+    fold-next h l b refl k 1 out (space-overlaid room (length (h .done) + length (tagged 3 (overlay a b))) (omega (arith, z, h .size, h .within)))
+    (omega (arith, n, h .size), omega (arith, n, h .size, h .within), h .laid ∙ ap (image trapezoidCodec W) (sym same))
 
 -- ---- two layers
 module _ (B : List Trapezoid) where

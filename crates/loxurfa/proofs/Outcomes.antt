@@ -28,7 +28,7 @@ use Rattle.calls.specs.Rows.{combineChecked, deoverlapChecked, equalChecked, co
 use Rattle.calls.specs.Outcomes.{observed, zeros, roomOf, written, combined, deoverlapOutcome, compared, comparedIn, equalOutcome, containsAnswer}
 use Rattle.trapezoids_code.specs.Tails.{Borrowed}
 use Rattle.remainder_code.specs.Code.{maxOverlays, OverlaysWithin, FoldedAs}
-use Rattle.boolean_code.specs.Code.{ComparedAs, ComparedWithin}
+use Rattle.equality_code.specs.Code.{ComparedAs, ComparedWithin}
 
 pub small-refused : {c : Checked} {n p : ℕ} → c ≡ Refused n p → SmallChecked c → SmallRefusal n p
 small-refused e h = subst SmallChecked e h

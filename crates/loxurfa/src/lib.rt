@@ -142,7 +142,7 @@ pub fn equal(a: &[i32], b: &[i32], out: &mut [i32], scratch: &mut [i32]) -> Equa
     }
     let room = out.len() / records::MEMORY_WIDTH;
     records_code::clear_both(out, scratch);
-    let f = boolean_code::equal_into(a, b, out, scratch, room);
+    let f = equality_code::equal_into(a, b, out, scratch, room);
     match f {
         Compared::NoRoom(_) => {
             return Equality::Refused {
@@ -171,7 +171,7 @@ fn contains_at(x: Int, y: Int, d: Int, a: &[i32], b: &[i32], code: u32) -> Conta
         }
         Checked::Passed => {}
     }
-    if boolean_code::lies_in_result(code, a, b, x, y, d) {
+    if point_code::lies_in_result(code, a, b, x, y, d) {
         return Containment::Yes;
     }
     Containment::No

@@ -1,11 +1,10 @@
 -- Crossings between two positions, and events in an array.
 use mathlib.Core.Path.{_≡_}
-use mathlib.Core.List.{List, [], _∷_, _++_}
+use mathlib.Core.List.{List, [], _∷_}
 use mathlib.Core.Bool.{Bool, true, false, _&&_}
-use Prim.Native.Nat.{_+_, _≤_}
+use Prim.Native.Nat.{_≤_}
 use lib.ListN.{length, take}
 use Rattle.lists.specs.Lists.{All}
-use Rattle.lists.specs.Tests.{keep}
 use Rattle.integer.specs.Fraction.{Fraction, before}
 use Rattle.geometry.specs.declared.Line.{Line}
 use Rattle.geometry.specs.declared.Base.{Base}
@@ -28,6 +27,11 @@ abbrev pub CrossingBetween : Fraction → Fraction → Line → Line → Crossin
 CrossingBetween lo hi l m Nowhere = crossBetween lo hi (crossing l m) ≡ false
 CrossingBetween lo hi l m (At p) = (crossBetween lo hi (crossing l m) ≡ true) × PositionOf (crossing l m) p
 
+-- p is right of g, or anywhere
+abbrev pub rightOf : Bool → Fraction → Fraction → Bool
+rightOf true g p = before g p
+rightOf false g p = true
+
 -- ---- events in an array
 abbrev pub basesOf : List Event → List Base
 basesOf [] = []
@@ -44,17 +48,6 @@ pub record WellPlaced (v : EventList) : Type 0 where
   pub long : length (v .list) ≡ 8
   pub few : v .n ≤ 8
   pub placed : All EventOf (eventsInUse v)
-
--- r is v, with the crossing k if it stands strictly between lo and hi
-pub record OneMore (v : EventList) (lo hi : Fraction) (k : Base) (r : EventList) : Type 0 where
-  pub well : WellPlaced r
-  pub names : namesOf r ≡ namesOf v ++ keep (crossBetween lo hi) (k ∷ [])
-  pub count : r .n ≤ v .n + 1
-
-pub record BaseEvents (a b : Placed) (v : EventList) : Type 0 where
-  pub well : WellPlaced v
-  pub count : v .n ≡ 4
-  pub names : namesOf v ≡ a .shape .left ∷ a .shape .right ∷ b .shape .left ∷ b .shape .right ∷ []
 
 pub record AllEvents (a b : Placed) (v : EventList) : Type 0 where
   pub well : WellPlaced v

@@ -10,7 +10,6 @@ use sweep::Event;
 use sweep::Next;
 ghost use mathlib.Core.Path.{_≡_};
 ghost use mathlib.Core.Bool.{_&&_};
-ghost use Prim.Native.Nat.{_<_};
 ghost use Rattle.geometry.specs.Limit.{coordinateLimit, OnGrid};
 ghost use Rattle.geometry.specs.Positions.{position};
 ghost use Rattle.geometry.specs.Fitness.{FitFor};
@@ -19,7 +18,7 @@ ghost use Rattle.overlay.specs.Overlaps.{overlapRight, overlaps};
 ghost use Rattle.geometry_code.specs.Code.{fractionOf, SmallPosition};
 ghost use Rattle.trapezoids_code.specs.Placed.{Pair};
 ghost use Rattle.sweep_code.specs.Events.{NextAmong, EventOf, after};
-ghost use Rattle.overlaps_code.specs.Code.{crossBetween, CrossingBetween, WellPlaced, OneMore, BaseEvents, AllEvents, namesOf};
+ghost use Rattle.overlaps_code.specs.Code.{crossBetween, CrossingBetween, rightOf, WellPlaced, AllEvents, namesOf};
 
 // Right of a position each bottom is below the other's top.
 fn overlap_right(a: Trapezoid, b: Trapezoid, p: Position) -> bool
@@ -82,41 +81,6 @@ pub fn overlapping(a: Placed, b: Placed) -> bool
     false
 }
 
-// One event more, if the two lines cross strictly between two positions.
-fn with_crossing(v: EventList, l: Line, m: Line, lo: Position, hi: Position) -> EventList
-    requires { ⌜ WellPlaced v × (v .n < 8) ⌝ }
-    requires { ⌜ OnGrid coordinateLimit l × OnGrid coordinateLimit m × SmallPosition lo × SmallPosition hi ⌝ }
-    ensures { λ r. ⌜ OneMore v (fractionOf lo) (fractionOf hi) (crossing l m) r ⌝ }
-{
-    let c = crossing_between(l, m, lo, hi);
-    let Crossing::At(p) = c else {
-        return v;
-    };
-    let n = v.n;
-    let mut list = v.list;
-    let base = Base {
-        first: l,
-        second: m,
-    };
-    list[n] = Event { base, at: p };
-    EventList { n: n + 1, list }
-}
-
-// The four bases.
-fn base_events(a: Placed, b: Placed) -> EventList
-    requires { ⌜ Pair a b ⌝ }
-    ensures { λ r. ⌜ BaseEvents a b r ⌝ }
-{
-    let s = a.shape;
-    let t = b.shape;
-    let al = sweep_code::event_at(s.left, a.left);
-    let ar = sweep_code::event_at(s.right, a.right);
-    let bl = sweep_code::event_at(t.left, b.left);
-    let br = sweep_code::event_at(t.right, b.right);
-    let list = [al, ar, bl, br, al, al, al, al];
-    EventList { n: 4, list }
-}
-
 // The bases, and the crossings strictly inside the common range.
 pub fn events_of(a: Placed, b: Placed) -> EventList
     requires { ⌜ Pair a b ⌝ }
@@ -126,11 +90,72 @@ pub fn events_of(a: Placed, b: Placed) -> EventList
     let hi = trapezoids_code::common_right(a, b);
     let s = a.shape;
     let t = b.shape;
-    let v = base_events(a, b);
-    let w = with_crossing(v, s.bottom, t.bottom, lo, hi);
-    let x = with_crossing(w, s.bottom, t.top, lo, hi);
-    let y = with_crossing(x, s.top, t.bottom, lo, hi);
-    with_crossing(y, s.top, t.top, lo, hi)
+    let al = sweep_code::event_at(s.left, a.left);
+    let ar = sweep_code::event_at(s.right, a.right);
+    let bl = sweep_code::event_at(t.left, b.left);
+    let br = sweep_code::event_at(t.right, b.right);
+    let mut list = [al, ar, bl, br, al, al, al, al];
+    let mut n = 4;
+    let a_bottom = s.bottom;
+    let a_top = s.top;
+    let b_bottom = t.bottom;
+    let b_top = t.top;
+    match crossing_between(a_bottom, b_bottom, lo, hi) {
+        Crossing::At(at) => {
+            let base = Base {
+                first: a_bottom,
+                second: b_bottom,
+            };
+            list[n] = Event { base, at };
+            n += 1;
+        }
+        Crossing::Nowhere => {}
+    }
+    match crossing_between(a_bottom, b_top, lo, hi) {
+        Crossing::At(at) => {
+            let base = Base {
+                first: a_bottom,
+                second: b_top,
+            };
+            list[n] = Event { base, at };
+            n += 1;
+        }
+        Crossing::Nowhere => {}
+    }
+    match crossing_between(a_top, b_bottom, lo, hi) {
+        Crossing::At(at) => {
+            let base = Base {
+                first: a_top,
+                second: b_bottom,
+            };
+            list[n] = Event { base, at };
+            n += 1;
+        }
+        Crossing::Nowhere => {}
+    }
+    match crossing_between(a_top, b_top, lo, hi) {
+        Crossing::At(at) => {
+            let base = Base {
+                first: a_top,
+                second: b_top,
+            };
+            list[n] = Event { base, at };
+            n += 1;
+        }
+        Crossing::Nowhere => {}
+    }
+    EventList { n, list }
+}
+
+// Whether position p is right of position g, or anywhere where nothing has been started.
+fn eligible(started: bool, g: Position, p: Position) -> bool
+    requires { ⌜ SmallPosition g × SmallPosition p ⌝ }
+    ensures { λ r. ⌜ r ≡ rightOf started (fractionOf g) (fractionOf p) ⌝ }
+{
+    if started {
+        return geometry_code::is_before(g, p);
+    }
+    true
 }
 
 // The first event right of g in the order of positions, or the first of all where nothing has been started.
@@ -138,14 +163,26 @@ pub fn next_event(v: EventList, started: bool, g: Event) -> Next
     requires { ⌜ WellPlaced v × EventOf g ⌝ }
     ensures { λ r. ⌜ NextAmong (namesOf v) (after started g) r ⌝ }
 {
-    let list = v.list;
     let n = v.n;
-    let mut best = Next::Nothing;
+    let mut best = 8;
     let mut i = 0;
     while i < n {
-        let e = list[i];
-        best = sweep_code::better(best, started, g, e);
+        let e = v.list[i];
+        if eligible(started, g.at, e.at) {
+            if best == 8 {
+                best = i;
+            } else {
+                let b = v.list[best];
+                if geometry_code::is_before(e.at, b.at) {
+                    best = i;
+                }
+            }
+        }
         i += 1;
     }
-    best
+    if best == 8 {
+        return Next::Nothing;
+    }
+    let b = v.list[best];
+    Next::Found(b)
 }

@@ -1,4 +1,6 @@
 // What is held while two trapezoids are overlaid (paper 01: pair cut).
+use geometry::Meeting;
+use integer::Ordering;
 use sweep::Event;
 
 // The events, in the order of their names.
@@ -13,4 +15,24 @@ pub struct Column {
     pub order: [usize; 4],
     pub in_a: bool,
     pub in_b: bool,
+}
+
+// Where each two of the four sides meet, worked out once for a pair.
+pub struct Meetings {
+    pub m01: Meeting,
+    pub m02: Meeting,
+    pub m03: Meeting,
+    pub m12: Meeting,
+    pub m13: Meeting,
+    pub m23: Meeting,
+}
+
+// The orders of each two of the four sides right of a position.
+pub struct Orders {
+    pub o01: Ordering,
+    pub o02: Ordering,
+    pub o03: Ordering,
+    pub o12: Ordering,
+    pub o13: Ordering,
+    pub o23: Ordering,
 }

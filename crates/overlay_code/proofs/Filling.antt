@@ -129,25 +129,25 @@ pub found-event : (r : Next) (k : Event) → r ≡ Found k → NextPlaced r → 
 found-event r k e h = subst NextPlaced e h
 
 -- ---- the loop
--- before the event p, with the column c right of it: n trapezoids stand in out, which has W words
+-- before the event p, with the column c left of it: n trapezoids stand in out, which has W words
 pub record Filling (A B : Trapezoid) (tag W room : ℕ) (out : List ℤ) (p : Event) (c : Column) (n : ℕ) : Type 0 where
   pub writing : Writing W room (tagged tag (subdivision A B)) (tagged tag (rest A B (p .base))) out n
   pub event : EventOf p
   pub proper : Proper (position (p .base))
-  pub column : ColumnAt A B (fractionOf (p .at)) c
+  pub four : FourSides (c .order)
 
 module _ (A B : Trapezoid) (tag room : ℕ) (out : List ℤ) (h : Borrowed out room) where
   -- nothing to fill
   pub fill-none : subdivision A B ≡ [] → FilledAs (length out) room (tagged tag (subdivision A B)) (Written 0) out
   fill-none e = rw e (unfold tagged in fill-nothing out room h)
 
-  pub fill-start : (p : Event) (c : Column) → subdivision A B ≡ rest A B (p .base) → EventOf p → Proper (position (p .base)) → ColumnAt A B (fractionOf (p .at)) c → Filling A B tag (length out) room out p c 0
-  fill-start p c e ev pr co =
+  pub fill-start : (p : Event) (c : Column) → subdivision A B ≡ rest A B (p .base) → EventOf p → Proper (position (p .base)) → FourSides (c .order) → Filling A B tag (length out) room out p c 0
+  fill-start p c e ev pr fo =
       record {
         writing = subst (λ (ts : List Part). Writing (length out) room (tagged tag (subdivision A B)) (tagged tag ts) out 0) e (write-start (tagged tag (subdivision A B)) out room h);
         event = ev;
         proper = pr;
-        column = co;
+        four = fo;
       }
 
 module _ {A B : Trapezoid} (ha : FitFor coordinateLimit A) (hb : FitFor coordinateLimit B) {tag : ℕ} (ht : 1 ≤ tag) {W room : ℕ} {out : List ℤ} {p : Event} {c : Column} {n : ℕ}
@@ -155,36 +155,35 @@ module _ {A B : Trapezoid} (ha : FitFor coordinateLimit A) (hb : FitFor coordina
   pub fill-stop : rest A B (p .base) ≡ [] → FilledAs W room (tagged tag (subdivision A B)) (Written n) out
   fill-stop e = write-stop (h .writing) (ap (tagged tag) e ∙ (unfold tagged in refl))
 
-  -- what a turn adds
-  abbrev more : Event → List Trapezoid
-  more q = strips tag A B (p .base) (q .base) (c .in_a) (c .in_b) (c .order)
+  -- what a turn adds, with the column d right of p
+  abbrev more : Column → Event → List Trapezoid
+  more d q = strips tag A B (p .base) (q .base) (d .in_a) (d .in_b) (d .order)
 
-  module _ (q : Event) (turn : rest A B (p .base) ≡ parts A B (p .base) (q .base) (divide A B (p .base)) ++ rest A B (q .base)) where
-    more-is : more q ≡ tagged tag (parts A B (p .base) (q .base) (divide A B (p .base)))
+  module _ (d : Column) (k : ColumnAt A B (fractionOf (p .at)) d) (q : Event) (turn : rest A B (p .base) ≡ parts A B (p .base) (q .base) (divide A B (p .base)) ++ rest A B (q .base)) where
+    more-is : more d q ≡ tagged tag (parts A B (p .base) (q .base) (divide A B (p .base)))
     more-is =
-        let k = h .column in
         let x = h .event .is in
-        ap (strips tag A B (p .base) (q .base) (c .in_a) (c .in_b)) (k .order ∙ ap (λ (y : Fraction). orderAt A B y (c .in_a) (c .in_b)) x)
-        ∙ strips-exact ha hb (p .base) (q .base) (h .proper) tag ht (c .in_a) (c .in_b) (k .in-a ∙ ap (λ (y : Fraction). inRange y A) x) (k .in-b ∙ ap (λ (y : Fraction). inRange y B) x)
+        ap (strips tag A B (p .base) (q .base) (d .in_a) (d .in_b)) (k .order ∙ ap (λ (y : Fraction). orderAt A B y (d .in_a) (d .in_b)) x)
+        ∙ strips-exact ha hb (p .base) (q .base) (h .proper) tag ht (d .in_a) (d .in_b) (k .in-a ∙ ap (λ (y : Fraction). inRange y A) x) (k .in-b ∙ ap (λ (y : Fraction). inRange y B) x)
 
-    next-is-more : tagged tag (rest A B (p .base)) ≡ more q ++ tagged tag (rest A B (q .base))
+    next-is-more : tagged tag (rest A B (p .base)) ≡ more d q ++ tagged tag (rest A B (q .base))
     next-is-more =
         ap (tagged tag) turn
         ∙ tagged-append tag (parts A B (p .base) (q .base) (divide A B (p .base))) (rest A B (q .base))
         ∙ ap (λ (ts : List Trapezoid). ts ++ tagged tag (rest A B (q .base))) (sym more-is)
 
-    module _ (f : Fill) (t : List ℤ) (g : FilledAs (length (tail out n)) (room - n) (more q) f t) where
+    module _ (f : Fill) (t : List ℤ) (g : FilledAs (length (tail out n)) (room - n) (more d q) f t) where
       -- they do not fit
       pub fill-full : f ≡ NoRoom → room < length (tagged tag (subdivision A B))
-      fill-full e = write-full (h .writing) (more q) (tagged tag (rest A B (q .base))) next-is-more f t g e
+      fill-full e = write-full (h .writing) (more d q) (tagged tag (rest A B (q .base))) next-is-more f t g e
 
       pub fill-upto : (m : ℕ) → f ≡ Written m → n + m ≤ room
-      fill-upto m e = write-upto (h .writing) (more q) (tagged tag (rest A B (q .base))) next-is-more f t g m e
+      fill-upto m e = write-upto (h .writing) (more d q) (tagged tag (rest A B (q .base))) next-is-more f t g m e
 
-      pub fill-turn : (m : ℕ) → f ≡ Written m → EventOf q → Proper (position (q .base)) → (d : Column) → ColumnAt A B (fractionOf (q .at)) d
+      pub fill-turn : (m : ℕ) → f ≡ Written m → EventOf q → Proper (position (q .base))
           → Filling A B tag W room (putMid (memoryWidth * n) (length out - memoryWidth * n) out t) q d (n + m)
-      fill-turn m e ev pr d co =
-          record { writing = write-turn (h .writing) (more q) (tagged tag (rest A B (q .base))) next-is-more f t g m e; event = ev; proper = pr; column = co }
+      fill-turn m e ev pr =
+          record { writing = write-turn (h .writing) (more d q) (tagged tag (rest A B (q .base))) next-is-more f t g m e; event = ev; proper = pr; four = column-four ha hb (fractionOf (p .at)) d k }
 
 -- ---- the overlay
 test-swap : (m n : ℕ) → eqb m n ≡ eqb n m

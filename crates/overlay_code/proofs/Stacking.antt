@@ -11,12 +11,13 @@ use lib.IntN.{ℤ}
 use lib.Seq.{drop-cons}
 use borrow.Rule.Slice.PartMut.{putMid}
 use Rattle.lists.proofs.Tests.{is-true, is-false}
+use Rattle.integer.specs.declared.Ordering.{Ordering}
 use Rattle.integer.specs.Fraction.{Fraction}
 use Rattle.records.specs.Limits.{memoryWidth}
 use Rattle.geometry.specs.declared.Line.{Line}
 use Rattle.geometry.specs.declared.Base.{Base}
 use Rattle.geometry.specs.declared.Trapezoid.{Trapezoid}
-use Rattle.geometry.specs.Positions.{position, below}
+use Rattle.geometry.specs.Positions.{position, rightOf, isLess, below}
 use Rattle.geometry.specs.declared.Fill.{Fill}
 use Rattle.geometry.specs.declared.Fill.the-variants.{NoRoom, Written}
 use Rattle.overlay.specs.Overlay.{tagOf}
@@ -28,6 +29,11 @@ use Rattle.overlay_code.proofs.Strips.{strips-none, strips-first, strip
 front : (b : Bool) (t : Trapezoid) (ts : List Trapezoid) → inFront b t ts ≡ inFront b t [] ++ ts
 front true t ts = refl
 front false t ts = refl
+
+-- whether a side is below another, by their order
+pub below-by : (x : Fraction) (l m : Line) {o : Ordering} {r : Bool} → r ≡ isLess o → o ≡ rightOf x l m → r ≡ below x l m
+unfolding below
+below-by x l m e f = e ∙ ap isLess f
 
 module _ (tag : ℕ) (A B : Trapezoid) (p q : Base) (fa fb : Bool) where
   -- what is left, with sides zs still to come
@@ -78,8 +84,8 @@ module _ (tag : ℕ) (A B : Trapezoid) (p q : Base) (fa fb : Bool) where
           ap (left lower ina inb) order-next ∙ strips-level tag A B p q fa fb (getD order k 0) (drop (k + 1) order) lower ina inb (is-true e) (is-false (sym r))
 
       -- what the functions answered, for the side with number k
-      module _ (e : presentBy fa fb (getD order k 0) ≡ true) (rises yes : Bool) (bottom top : Line) (x : Fraction) (eb : bottom ≡ lineOfSide A B lower) (et : top ≡ lineOfSide A B (getD order k 0)) (ex : x ≡ position p)
-          (er : rises ≡ below x bottom top) (ey : yes ≡ rises && eqb (tagOf ina inb) tag) (f : Fill) (t : List ℤ)
+      module _ (e : presentBy fa fb (getD order k 0) ≡ true) (rises yes : Bool) (bottom top : Line) (eb : bottom ≡ lineOfSide A B lower) (et : top ≡ lineOfSide A B (getD order k 0))
+          (er : rises ≡ below (position p) (lineOfSide A B lower) (lineOfSide A B (getD order k 0))) (ey : yes ≡ rises && eqb (tagOf ina inb) tag) (f : Fill) (t : List ℤ)
           (g : FilledAs (length (tail out n)) (room - n) (inFront yes (record { left = p; right = q; bottom = bottom; top = top }) []) f t) where
         abbrev more : List Trapezoid
         more = inFront (rises && eqb (tagOf ina inb) tag) (strip A B p q lower (getD order k 0)) []
@@ -94,7 +100,7 @@ module _ (tag : ℕ) (A B : Trapezoid) (p q : Base) (fa fb : Bool) where
         filled = subst (λ (ts : List Trapezoid). FilledAs (length (tail out n)) (room - n) ts f t) same g
 
         turn : left lower ina inb (drop k order) ≡ more ++ later
-        turn = stack-turn e rises (er ∙ (λ i. below (ex i) (eb i) (et i)))
+        turn = stack-turn e rises er
 
         pub stack-full : f ≡ NoRoom → room < length (strips tag A B p q fa fb order)
         stack-full z = write-full (h .writing) more later turn f t filled z

@@ -1,22 +1,22 @@
 // The overlay of two trapezoids (paper 01: pair cut): the parts of the one alone, of the other alone, or of both, written into a borrowed tail.
+use geometry::Base;
 use geometry::Fill;
 use geometry::Placed;
 use geometry::Trapezoid;
 use overlay::Column;
-use sweep::Event;
+use overlay::Orders;
 use sweep::Next;
 ghost use mathlib.Core.Path.{_≡_};
 ghost use mathlib.Core.Bool.{cond, _&&_};
 ghost use Prim.Native.Nat.{_≤_};
 ghost use lib.Dec.{eqb};
 ghost use lib.ListN.{length};
-ghost use Rattle.geometry.specs.Limit.{coordinateLimit};
-ghost use Rattle.geometry.specs.Fitness.{FitFor};
+ghost use Rattle.geometry.specs.Positions.{position};
 ghost use Rattle.overlay.specs.Overlay.{tagOf, subdivision, overlay, tagged};
 ghost use Rattle.trapezoids_code.specs.Tails.{Borrowed, FilledAs};
 ghost use Rattle.trapezoids_code.specs.Placed.{Pair};
-ghost use Rattle.sweep_code.specs.Events.{EventOf};
 ghost use Rattle.columns_code.specs.Order.{passing, strips};
+ghost use Rattle.columns_code.specs.Code.{OrdersAt};
 
 // Whether what is above side z lies in the trapezoid with the sides `bottom` and `top`, from whether what is below it does.
 fn pass(bottom: usize, top: usize, z: usize, inside: bool) -> bool
@@ -72,21 +72,19 @@ fn fill_column(
     a: Trapezoid,
     b: Trapezoid,
     tag: u8,
-    p: Event,
-    q: Event,
+    left: Base,
+    right: Base,
+    o: Orders,
     c: Column,
     out: &mut [i32],
     room: usize,
 ) -> Fill
-    requires { ⌜ FitFor coordinateLimit a × FitFor coordinateLimit b × EventOf p × (length (c .order) ≡ 4) × Borrowed (now out) room ⌝ }
-    ensures { λ r. ⌜ FilledAs (length (now (out .entry))) room (strips tag a b (p .base) (q .base) (c .in_a) (c .in_b) (c .order)) r (now (out .exit)) ⌝ }
+    requires { ⌜ OrdersAt a b (position left) o × (length (c .order) ≡ 4) × Borrowed (now out) room ⌝ }
+    ensures { λ r. ⌜ FilledAs (length (now (out .entry))) room (strips tag a b left right (c .in_a) (c .in_b) (c .order)) r (now (out .exit)) ⌝ }
 {
     let order = c.order;
     let in_a = c.in_a;
     let in_b = c.in_b;
-    let at = p.at;
-    let left = p.base;
-    let right = q.base;
     let z0 = order[0];
     if !columns_code::present(in_a, in_b, z0) {
         return Fill::Written(0);
@@ -103,7 +101,8 @@ fn fill_column(
         }
         let bottom = columns_code::line_of_side(a, b, lower);
         let top = columns_code::line_of_side(a, b, z);
-        let rises = geometry_code::is_below(bottom, top, at);
+        let u = columns_code::order_of(o, lower, z);
+        let rises = geometry_code::is_less(u);
         let yes = wanted(rises, inside_a, inside_b, tag);
         let t = Trapezoid {
             left,
@@ -138,36 +137,38 @@ fn fill_columns(a: Placed, b: Placed, tag: u8, out: &mut [i32], room: usize) -> 
     let Next::Found(e) = first else {
         return Fill::Written(0);
     };
+    p = e;
+    let m = columns_code::meetings_of(s, t);
     let order = [0, 1, 2, 3];
-    let start = Column {
+    let mut c = Column {
         order,
         in_a: false,
         in_b: false,
     };
-    let mut c = columns_code::column_at(a, b, e.at, start);
-    p = e;
     let mut n = 0;
     loop {
         let next = overlaps_code::next_event(v, true, p);
         let Next::Found(q) = next else {
             return Fill::Written(n);
         };
+        let o = columns_code::orders_at(m, p.at);
+        c = columns_code::column_at(a, b, o, p.at, c);
         let f = fill_column(
             s,
             t,
             tag,
-            p,
-            q,
+            p.base,
+            q.base,
+            o,
             c,
             &mut out[records::MEMORY_WIDTH * n..],
             room - n,
         );
-        let Fill::Written(m) = f else {
+        let Fill::Written(k) = f else {
             records_code::clear(out);
             return Fill::NoRoom;
         };
-        n += m;
-        c = columns_code::column_at(a, b, q.at, c);
+        n += k;
         p = q;
     }
 }

@@ -1,25 +1,22 @@
--- Trapezoids that do not overlap: the overlay leaves them whole; and the walk to the first that does.
+-- Trapezoids that do not overlap: the overlay leaves them whole.
 use mathlib.Core.Path.{_≡_, refl, sym, _∙_, ap}
-use mathlib.Core.Bool.{Bool, true, false, cond, _||_}
+use mathlib.Core.Bool.{Bool, true, false, cond}
 use mathlib.Core.List.{List, [], _∷_, _++_}
-use Prim.Native.Nat.{ℕ, suc, _+_, _<_, _≤_}
+use Prim.Native.Nat.{ℕ, suc, _+_, _-_, _≤_}
 use native.Mathlib.Omega.{arith}
-use lib.ListN.{length, drop}
-use lib.IntN.{ℤ}
-use Rattle.lists.proofs.Tests.{either-false}
-use Rattle.records.specs.Records.{recordAt, count}
+use lib.ListN.{length, take, drop}
+use Rattle.lists.specs.Lists.{All}
 use Rattle.geometry.specs.declared.Trapezoid.{Trapezoid}
-use Rattle.geometry.specs.Trapezoids.{trapezoidCodec, layerOf}
 use Rattle.overlay.specs.Overlaps.{overlaps}
 use Rattle.overlay.specs.Overlay.{overlay, tagged}
 use Rattle.boolean.specs.Operations.{minus, minusAll}
-use Rattle.boolean.specs.Space.{overlaid, enough, plus, space, minusStages, minusAllStages}
+use Rattle.boolean.specs.Space.{overlaid, plus, space, minusStages, minusAllStages}
 use Rattle.boolean.proofs.Space.{plus-none, plus-plus, space-enough}
-use Rattle.remainder_code.specs.Code.{from, overlapsAny, apartBefore}
+use Rattle.boolean.proofs.Shifting.{minus-shift}
+use Rattle.remainder_code.specs.Code.{beforeFirst}
 use Rattle.remainder_code.proofs.Reducing.{all-one, all-stages-one}
 use Rattle.remainder_code.proofs.MinusFold.{minus-none, minus-one, stages-none, stages-one}
 use Rattle.remainder_code.proofs.Answers.{space-overlaid}
-use Rattle.remainder_code.proofs.Walking.{Walking, walk-stop, walk-here, walk-turn}
 
 -- ---- the definitions
 pub part-apart : (r b : Trapezoid) → overlaps r b ≡ false → tagged 1 (overlay r b) ≡ r ∷ []
@@ -30,81 +27,87 @@ pub common-apart : (a b : Trapezoid) → overlaps a b ≡ false → tagged 3 (ov
 unfolding overlay tagged
 common-apart a b e = rw e refl
 
--- where none overlaps b, all stand
-pub minus-apart : (rs : List Trapezoid) (b : Trapezoid) → overlapsAny rs b ≡ false → minus rs b ≡ rs
-minus-apart [] b e = minus-none b
-minus-apart (r ∷ rs) b e =
-    let h = either-false (overlaps r b) (overlapsAny rs b) e in
-    minus-one r b rs ∙ (λ j. part-apart r b (h .0) j ++ minus-apart rs b (h .1) j)
+pub before-upto : (test : Trapezoid → Bool) (ts : List Trapezoid) → beforeFirst test ts ≤ length ts
+before-upto test [] = omega arith
+before-upto test (t ∷ ts) = go (test t) (before-upto test ts)
+  where
+    go : (b : Bool) → beforeFirst test ts ≤ length ts → cond b 0 (suc (beforeFirst test ts)) ≤ suc (length ts)
+    go true h = omega arith
+    go false h = omega (arith, h)
 
--- and there is room if there was before
-pub stages-apart : (room k : ℕ) (rs : List Trapezoid) (b : Trapezoid) → overlapsAny rs b ≡ false → k + length rs ≤ room → space room (minusStages k rs b) ≡ enough (length rs)
-stages-apart room k [] b e l = stages-none room k b
-stages-apart room k (r ∷ rs) b e l =
-    let h = either-false (overlaps r b) (overlapsAny rs b) e in
-    let n : length (tagged 1 (overlay r b)) ≡ 1 = ap length (part-apart r b (h .0)) in
-    let z : 1 + length rs ≡ length (r ∷ rs) = omega arith in
-    let p = tagged 1 (overlay r b) in
-    ap (space room) (stages-one k r b rs) ∙ space-enough room 1 (overlaid (k + length p + length rs) ∷ []) (minusStages (k + length p) rs b) (space-overlaid room (k + length p + length rs) (omega (arith, n, l)))
-    ∙ ap (plus 1) (stages-apart room (k + length p) rs b (h .1) (omega (arith, n, l))) ∙ ap enough z
+pub before-none : (test : Trapezoid → Bool) (ts : List Trapezoid) → All (λ (t : Trapezoid). test t ≡ false) ts → beforeFirst test ts ≡ length ts
+before-none test [] h = refl
+before-none test (t ∷ ts) h = ap (λ (b : Bool). cond b 0 (suc (beforeFirst test ts))) (h .0) ∙ ap suc (before-none test ts (h .1))
 
--- ---- a alone is in hand: those before the first that overlaps it leave it whole
-module _ (a : Trapezoid) where
-  alone : (b : Trapezoid) → overlaps a b ≡ false → overlapsAny (a ∷ []) b ≡ false
-  alone b e = ap (λ (x : Bool). x || false) e
+-- ---- minus b: those before the first that overlaps it stand
+stands : (r b : Trapezoid) (rs : List Trapezoid) → overlaps r b ≡ false → minus (r ∷ rs) b ≡ r ∷ minus rs b
+stands r b rs e = minus-one r b rs ∙ ap (λ (ts : List Trapezoid). ts ++ minus rs b) (part-apart r b e)
 
-  stands : (b : Trapezoid) → overlaps a b ≡ false → minus (a ∷ []) b ≡ a ∷ []
-  stands b e = minus-apart (a ∷ []) b (alone b e)
+stands-stage : (room : ℕ) (r b : Trapezoid) (rs : List Trapezoid) → overlaps r b ≡ false → 1 + length rs ≤ room → space room (minusStages 0 (r ∷ rs) b) ≡ plus 1 (space (room - 1) (minusStages 0 rs b))
+stands-stage room r b rs e l =
+    let m = 0 + length (tagged 1 (overlay r b)) in
+    let n : m ≡ 1 = omega (arith, ap length (part-apart r b e)) in
+    ap (space room) (stages-one 0 r b rs) ∙ space-enough room 1 (overlaid (m + length rs) ∷ []) (minusStages m rs b) (space-overlaid room (m + length rs) (omega (arith, n, l)))
+    ∙ ap (plus 1) (minus-shift room m (room - 1) rs b (omega (arith, n, l)))
 
-  pub apart-upto : (B : List Trapezoid) → apartBefore a B ≤ length B
-  apart-upto [] = omega arith
-  apart-upto (b ∷ bs) = go (overlaps a b) (apart-upto bs)
+module _ (b : Trapezoid) where
+  abbrev apart : List Trapezoid → ℕ
+  apart rs = beforeFirst (λ t. overlaps t b) rs
+
+  pub minus-apart : (rs : List Trapezoid) → minus rs b ≡ take (beforeFirst (λ t. overlaps t b) rs) rs ++ minus (drop (beforeFirst (λ t. overlaps t b) rs) rs) b
+  minus-apart [] = refl
+  minus-apart (r ∷ rs) = go (overlaps r b) refl (minus-apart rs)
     where
-      go : (t : Bool) → apartBefore a bs ≤ length bs → cond t 0 (suc (apartBefore a bs)) ≤ suc (length bs)
-      go true h = omega arith
-      go false h = omega (arith, h)
+      go : (t : Bool) → overlaps r b ≡ t → minus rs b ≡ take (apart rs) rs ++ minus (drop (apart rs) rs) b
+          → minus (r ∷ rs) b ≡ take (cond t 0 (suc (apart rs))) (r ∷ rs) ++ minus (drop (cond t 0 (suc (apart rs))) (r ∷ rs)) b
+      go true e h = refl
+      go false e h = stands r b rs e ∙ ap (λ (ts : List Trapezoid). r ∷ ts) h
 
-  pub all-apart : (B : List Trapezoid) → minusAll (a ∷ []) B ≡ minusAll (a ∷ []) (drop (apartBefore a B) B)
+  none-apart : (room : ℕ) (rs : List Trapezoid) → space room (minusStages 0 rs b) ≡ plus 0 (space (room - 0) (minusStages 0 rs b))
+  none-apart room rs = let z : room ≡ room - 0 = omega arith in ap (λ (x : ℕ). space x (minusStages 0 rs b)) z ∙ sym (plus-none (space (room - 0) (minusStages 0 rs b)))
+
+  -- and there is room for them
+  pub stages-apart : (room : ℕ) (rs : List Trapezoid) → length rs ≤ room
+      → space room (minusStages 0 rs b) ≡ plus (beforeFirst (λ t. overlaps t b) rs) (space (room - beforeFirst (λ t. overlaps t b) rs) (minusStages 0 (drop (beforeFirst (λ t. overlaps t b) rs) rs) b))
+  stages-apart room [] l = none-apart room []
+  stages-apart room (r ∷ rs) l = go (overlaps r b) refl (stages-apart (room - 1) rs (omega (arith, l)))
+    where
+      go : (t : Bool) → overlaps r b ≡ t → space (room - 1) (minusStages 0 rs b) ≡ plus (apart rs) (space (room - 1 - apart rs) (minusStages 0 (drop (apart rs) rs) b))
+          → space room (minusStages 0 (r ∷ rs) b) ≡ plus (cond t 0 (suc (apart rs))) (space (room - cond t 0 (suc (apart rs))) (minusStages 0 (drop (cond t 0 (suc (apart rs))) (r ∷ rs)) b))
+      go true e h = none-apart room (r ∷ rs)
+      go false e h =
+          let rest = minusStages 0 (drop (apart rs) rs) b in
+          let z : 1 + apart rs ≡ suc (apart rs) = omega arith in
+          let y : room - 1 - apart rs ≡ room - suc (apart rs) = omega arith in
+          stands-stage room r b rs e (omega (arith, l)) ∙ ap (plus 1) h ∙ plus-plus 1 (apart rs) (space (room - 1 - apart rs) rest) ∙ (λ j. plus (z j) (space (y j) rest))
+
+-- ---- a alone is in hand: those before the first that it overlaps leave it whole
+module _ (a : Trapezoid) where
+  alone : (b : Trapezoid) → overlaps a b ≡ false → minus (a ∷ []) b ≡ a ∷ []
+  alone b e = stands a b [] e ∙ ap (λ (ts : List Trapezoid). a ∷ ts) (minus-none b)
+
+  pub all-apart : (B : List Trapezoid) → minusAll (a ∷ []) B ≡ minusAll (a ∷ []) (drop (beforeFirst (overlaps a) B) B)
   all-apart [] = refl
   all-apart (b ∷ bs) = go (overlaps a b) refl (all-apart bs)
     where
-      go : (t : Bool) → overlaps a b ≡ t → minusAll (a ∷ []) bs ≡ minusAll (a ∷ []) (drop (apartBefore a bs) bs)
-          → minusAll (a ∷ []) (b ∷ bs) ≡ minusAll (a ∷ []) (drop (cond t 0 (suc (apartBefore a bs))) (b ∷ bs))
+      go : (t : Bool) → overlaps a b ≡ t → minusAll (a ∷ []) bs ≡ minusAll (a ∷ []) (drop (beforeFirst (overlaps a) bs) bs)
+          → minusAll (a ∷ []) (b ∷ bs) ≡ minusAll (a ∷ []) (drop (cond t 0 (suc (beforeFirst (overlaps a) bs))) (b ∷ bs))
       go true e h = refl
-      go false e h = all-one (a ∷ []) bs b ∙ ap (λ (ts : List Trapezoid). minusAll ts bs) (stands b e) ∙ h
+      go false e h = all-one (a ∷ []) bs b ∙ ap (λ (ts : List Trapezoid). minusAll ts bs) (alone b e) ∙ h
 
-  pub all-stages-apart : (room : ℕ) → 1 ≤ room → (B : List Trapezoid) → space room (minusAllStages 0 (a ∷ []) B) ≡ plus (apartBefore a B) (space room (minusAllStages 0 (a ∷ []) (drop (apartBefore a B) B)))
+  pub all-stages-apart : (room : ℕ) → 1 ≤ room → (B : List Trapezoid) → space room (minusAllStages 0 (a ∷ []) B) ≡ plus (beforeFirst (overlaps a) B) (space room (minusAllStages 0 (a ∷ []) (drop (beforeFirst (overlaps a) B) B)))
   all-stages-apart room l [] = sym (plus-none (space room (minusAllStages 0 (a ∷ []) [])))
   all-stages-apart room l (b ∷ bs) = go (overlaps a b) refl (all-stages-apart room l bs)
     where
-      go : (t : Bool) → overlaps a b ≡ t → space room (minusAllStages 0 (a ∷ []) bs) ≡ plus (apartBefore a bs) (space room (minusAllStages 0 (a ∷ []) (drop (apartBefore a bs) bs)))
-          → space room (minusAllStages 0 (a ∷ []) (b ∷ bs)) ≡ plus (cond t 0 (suc (apartBefore a bs))) (space room (minusAllStages 0 (a ∷ []) (drop (cond t 0 (suc (apartBefore a bs))) (b ∷ bs))))
+      go : (t : Bool) → overlaps a b ≡ t → space room (minusAllStages 0 (a ∷ []) bs) ≡ plus (beforeFirst (overlaps a) bs) (space room (minusAllStages 0 (a ∷ []) (drop (beforeFirst (overlaps a) bs) bs)))
+          → space room (minusAllStages 0 (a ∷ []) (b ∷ bs)) ≡ plus (cond t 0 (suc (beforeFirst (overlaps a) bs))) (space room (minusAllStages 0 (a ∷ []) (drop (cond t 0 (suc (beforeFirst (overlaps a) bs))) (b ∷ bs))))
       go true e h = sym (plus-none (space room (minusAllStages 0 (a ∷ []) (b ∷ bs))))
       go false e h =
-          let rest = space room (minusAllStages 0 (a ∷ []) (drop (apartBefore a bs) bs)) in
-          let z : 1 + apartBefore a bs ≡ suc (apartBefore a bs) = omega arith in
+          let rest = space room (minusAllStages 0 (a ∷ []) (drop (beforeFirst (overlaps a) bs) bs)) in
+          let z : 1 + beforeFirst (overlaps a) bs ≡ suc (beforeFirst (overlaps a) bs) = omega arith in
           ap (space room) (all-stages-one 0 (a ∷ []) bs b)
-          ∙ space-enough room 1 (minusStages 0 (a ∷ []) b) (minusAllStages 0 (minus (a ∷ []) b) bs) (stages-apart room 0 (a ∷ []) b (alone b e) (omega (arith, l)))
-          ∙ ap (λ (ts : List Trapezoid). plus 1 (space room (minusAllStages 0 ts bs))) (stands b e)
+          ∙ space-enough room 1 (minusStages 0 (a ∷ []) b) (minusAllStages 0 (minus (a ∷ []) b) bs) (stands-stage room a b [] e (omega (arith, l)) ∙ ap (plus 1) (stages-none (room - 1) 0 b))
+          ∙ ap (λ (ts : List Trapezoid). plus 1 (space room (minusAllStages 0 ts bs))) (alone b e)
           ∙ ap (plus 1) h
-          ∙ plus-plus 1 (apartBefore a bs) rest
+          ∙ plus-plus 1 (beforeFirst (overlaps a) bs) rest
           ∙ ap (λ (m : ℕ). plus m rest) z
-
--- ---- a walk over a layer, for the first that overlaps a
--- it is none of the first i
-abbrev pub Passing : Trapezoid → List ℤ → ℕ → Type 0
-Passing a layer i = Walking (λ j ts. j + apartBefore a ts) layer i
-
-module _ (a : Trapezoid) {layer : List ℤ} {i : ℕ} (h : Passing a layer i) where
-  pub pass-stop : count trapezoidCodec layer ≤ i → i ≡ apartBefore a (layerOf layer)
-  pass-stop l = omega (arith, walk-stop h l)
-
-  module _ (l : i < count trapezoidCodec layer) (t : Trapezoid) (is : t ≡ recordAt trapezoidCodec layer i) where
-    next : (b : Bool) → overlaps a t ≡ b → i + apartBefore a (t ∷ from layer (i + 1)) ≡ i + cond b 0 (suc (apartBefore a (from layer (i + 1))))
-    next b e = ap (λ (x : Bool). i + cond x 0 (suc (apartBefore a (from layer (i + 1))))) e
-
-    pub pass-found : overlaps a t ≡ true → i ≡ apartBefore a (layerOf layer)
-    pass-found e = omega (arith, walk-here h l t is, next true e)
-
-    pub pass-turn : overlaps a t ≡ false → Passing a layer (i + 1)
-    pass-turn e = walk-turn h l t is (omega (arith, next false e))

@@ -1,5 +1,5 @@
 -- A buffer's first k records, and what is past them.
-use mathlib.Core.Path.{_≡_, sym, _∙_, ap}
+use mathlib.Core.Path.{_≡_, sym, _∙_, ap, subst}
 use mathlib.Core.List.{List, _++_}
 use Prim.Native.Nat.{ℕ, _+_, _*_, _-_, _≤_}
 use native.Mathlib.Omega.{arith}
@@ -7,6 +7,7 @@ use lib.ListN.{length, take, drop, replicate, length-drop, take-append-drop, rep
 use lib.Seq.{length-take-le, drop-at}
 use lib.IntN.{ℤ, pos}
 use borrow.Rule.Slice.PartMut.{putMid, take-put, same-len-mid}
+use Rattle.lists.specs.Lists.{All}
 use Rattle.lists.proofs.Lists.{all-of}
 use Rattle.lists.proofs.Parts.{put-tail, mid-tail, drop-replicate, take-replicate}
 use Rattle.records.specs.Limits.{memoryWidth}
@@ -14,6 +15,8 @@ use Rattle.records.specs.Records.{wordsOf, count, Blank}
 use Rattle.records.proofs.Records.{length-from, records-words}
 use Rattle.records.proofs.Buffer.{blank-of, image-take, image-drop}
 use Rattle.geometry.specs.declared.Trapezoid.{Trapezoid}
+use Rattle.geometry.specs.Limit.{coordinateLimit}
+use Rattle.geometry.specs.Fitness.{FitFor}
 use Rattle.geometry.specs.Trapezoids.{trapezoidCodec, layerOf}
 use Rattle.geometry.proofs.Trapezoids.{trapezoid-faithful}
 use Rattle.trapezoids_code.proofs.Writing.{tail}
@@ -89,3 +92,6 @@ module _ (d : List ℤ) (k room : ℕ) (h : Remaining d k room) where
 
   pub front-leading : layerOf (front d k) ≡ leading d k
   front-leading = ap layerOf front-words ∙ records-words trapezoidCodec trapezoid-faithful (leading d k) (all-of (λ (t : Trapezoid). Unit {0}) (λ t. tt) (leading d k))
+
+  pub leading-fit : All (FitFor coordinateLimit) (layerOf (front d k))
+  leading-fit = subst (All (FitFor coordinateLimit)) (sym front-leading) (h .fit)

@@ -7,3 +7,5 @@ pub mod Reducing
 pub mod Answers
 pub mod One
 pub mod Leading
+pub mod Standing
+pub mod Boxed

@@ -1,6 +1,5 @@
--- Trapezoids in the output that stand; or that are moved to the scratch area, so that they can be replaced.
+-- Trapezoids in the output that are moved to the scratch area, so that they can be replaced.
 use mathlib.Core.Path.{_≡_, sym, _∙_, ap, subst}
-use mathlib.Core.Bool.{false}
 use mathlib.Core.List.{List, _++_}
 use Prim.Native.Nat.{ℕ, _+_, _*_, _-_, _≤_}
 use native.Mathlib.Omega.{arith}
@@ -10,7 +9,7 @@ use lib.IntN.{ℤ, pos}
 use Rattle.lists.specs.Lists.{All}
 use Rattle.lists.proofs.Parts.{drop-replicate}
 use Rattle.records.specs.Limits.{memoryWidth}
-use Rattle.records.specs.Records.{image, count, Blank}
+use Rattle.records.specs.Records.{count, Blank}
 use Rattle.records.proofs.Records.{length-from}
 use Rattle.records.proofs.Buffer.{blank-of}
 use Rattle.geometry.specs.declared.Trapezoid.{Trapezoid}
@@ -18,32 +17,13 @@ use Rattle.geometry.specs.Limit.{coordinateLimit}
 use Rattle.geometry.specs.Fitness.{FitFor}
 use Rattle.geometry.specs.Trapezoids.{trapezoidCodec, layerOf}
 use Rattle.boolean.specs.declared.Folded.{Folded}
-use Rattle.boolean.specs.declared.Folded.the-variants.{Done}
 use Rattle.boolean.specs.Operations.{minus}
-use Rattle.boolean.specs.Space.{enough, minusStages}
+use Rattle.boolean.specs.Space.{minusStages}
 use Rattle.trapezoids_code.specs.Tails.{Borrowed}
-use Rattle.remainder_code.specs.Code.{leading, Remaining, FoldedAs, overlapsAny}
-use Rattle.remainder_code.proofs.Apart.{minus-apart, stages-apart}
+use Rattle.remainder_code.specs.Code.{leading, Remaining, FoldedAs}
 use Rattle.remainder_code.proofs.Leading.{leading-fits, rest-blanks, front-leading}
 
--- ---- none overlaps b: they stand
-module _ (d : List ℤ) (n room : ℕ) (h : Remaining d n room) where
-  pub standing-length : memoryWidth * n ≡ length (take (memoryWidth * n) d)
-  standing-length = sym (length-take-le (memoryWidth * n) d (leading-fits d n room h))
-
-  pub standing-fit : All (FitFor coordinateLimit) (layerOf (take (memoryWidth * n) d))
-  standing-fit = subst (All (FitFor coordinateLimit)) (sym (front-leading d n room h)) (h .fit)
-
-  pub standing-folded : (b : Trapezoid) → overlapsAny (layerOf (take (memoryWidth * n) d)) b ≡ false → FoldedAs (length d) room (minus (leading d n) b) (minusStages 0 (leading d n) b) (Done n n) d
-  standing-folded b e =
-      let e : overlapsAny (leading d n) b ≡ false = ap (λ (ts : List Trapezoid). overlapsAny ts b) (sym (front-leading d n room h)) ∙ e in
-      let m : length (leading d n) ≡ n = length-from trapezoidCodec n d 0 in
-      let y : minus (leading d n) b ≡ leading d n = minus-apart (leading d n) b e in (
-        stages-apart room 0 (leading d n) b e (omega (arith, m, h .within)) ∙ ap enough m,
-        (sym (ap length y ∙ m), omega (arith, ap length y, m, h .within), h .is ∙ ap (image trapezoidCodec (length d)) (sym y)),
-      )
-
--- ---- d and w before, d' and w' after the move
+-- d and w before, d' and w' after the move
 module _ (d w d' w' : List ℤ) (n room : ℕ) (h : Remaining d n room) (blank : Blank (pos 0) w) (same : length w ≡ length d)
     (out : d' ≡ replicate (memoryWidth * n) (pos 0) ++ drop (memoryWidth * n) d) (scratch : w' ≡ take (memoryWidth * n) d ++ drop (memoryWidth * n) w) where
   abbrev end : ℕ

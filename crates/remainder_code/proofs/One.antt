@@ -16,6 +16,7 @@ use Rattle.geometry.specs.Trapezoids.{trapezoidCodec, trapezoidWords, layerOf}
 use Rattle.geometry.specs.declared.Fill.{Fill}
 use Rattle.geometry.specs.declared.Fill.the-variants.{Written}
 use Rattle.overlay.specs.Overlay.{overlay, tagged}
+use Rattle.overlay.specs.Overlaps.{overlaps}
 use Rattle.boolean.specs.declared.Folded.{Folded}
 use Rattle.boolean.specs.declared.Folded.the-variants.{NoRoom, Done}
 use Rattle.boolean.specs.Operations.{minus, minusAll}
@@ -24,11 +25,11 @@ use Rattle.boolean.proofs.Kept.{minus-fit}
 use Rattle.boolean.proofs.Space.{after, plus-after, space-append, space-enough, space-no-room}
 use Rattle.trapezoids_code.specs.Tails.{Borrowed, FilledAs}
 use Rattle.trapezoids_code.proofs.Writing.{fill-one}
-use Rattle.remainder_code.specs.Code.{from, withOverlays, OverlaysWithin, Remaining, FoldedAs, apartBefore}
+use Rattle.remainder_code.specs.Code.{from, withOverlays, OverlaysWithin, Remaining, FoldedAs, beforeFirst}
 use Rattle.remainder_code.specs.Code as code
 use Rattle.remainder_code.proofs.MinusFold.{minus-none, minus-one}
 use Rattle.remainder_code.proofs.Reducing.{layer-split, all-none, all-one, all-stages-one}
-use Rattle.remainder_code.proofs.Apart.{apart-upto, all-apart, all-stages-apart}
+use Rattle.remainder_code.proofs.Apart.{before-upto, all-apart, all-stages-apart}
 use Rattle.remainder_code.proofs.Answers.{folded-within, filled-leading, filled-remaining, space-added, once, once-folded}
 
 -- ---- added whole
@@ -130,11 +131,11 @@ pub one-start : (n room : ℕ) (a : Trapezoid) (layer : List ℤ) (f : Folded) (
 one-start n room a layer f d g = subst (λ (B : List Trapezoid). FoldedAs n room (minusAll (a ∷ []) B) (oneStages 0 a B) f d) (from-start trapezoidCodec (count trapezoidCodec layer) layer) g
 
 -- j trapezoids come before the first that overlaps a
-module _ (n room : ℕ) (a : Trapezoid) (layer : List ℤ) (j : ℕ) (is : j ≡ apartBefore a (layerOf layer)) where
+module _ (n room : ℕ) (a : Trapezoid) (layer : List ℤ) (j : ℕ) (is : j ≡ beforeFirst (overlaps a) (layerOf layer)) where
   pub skip-upto : j ≤ count trapezoidCodec layer
-  skip-upto = omega (arith, is, apart-upto a (layerOf layer), length-from trapezoidCodec (count trapezoidCodec layer) layer 0)
+  skip-upto = omega (arith, is, before-upto (overlaps a) (layerOf layer), length-from trapezoidCodec (count trapezoidCodec layer) layer 0)
 
-  past : drop (apartBefore a (layerOf layer)) (layerOf layer) ≡ from layer j
+  past : drop (beforeFirst (overlaps a) (layerOf layer)) (layerOf layer) ≡ from layer j
   past =
       ap (λ (m : ℕ). drop m (layerOf layer)) (sym is) ∙ ap (drop j) (layer-split layer j skip-upto)
       ∙ drop-at (recordsFrom trapezoidCodec j layer 0) (from layer j) j (length-from trapezoidCodec j layer 0)

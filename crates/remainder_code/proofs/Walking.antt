@@ -1,15 +1,15 @@
 -- A walk over the trapezoids of a layer. Before turn i: what is sought of the whole layer is what i and the rest of the layer give.
 use mathlib.Core.Path.{_≡_, sym, _∙_, ap}
-use mathlib.Core.Bool.{Bool, true, false, _||_}
+use mathlib.Core.Bool.{Bool, true, false, cond, _||_}
 use mathlib.Core.List.{List, [], _∷_}
-use Prim.Native.Nat.{ℕ, _+_, _<_, _≤_}
+use Prim.Native.Nat.{ℕ, suc, _+_, _<_, _≤_}
 use native.Mathlib.Omega.{arith}
 use lib.IntN.{ℤ}
 use Rattle.records.specs.Records.{recordAt, count}
 use Rattle.records.proofs.Records.{from-start, from-step, from-none}
 use Rattle.geometry.specs.declared.Trapezoid.{Trapezoid}
 use Rattle.geometry.specs.Trapezoids.{trapezoidCodec, layerOf}
-use Rattle.remainder_code.specs.Code.{from}
+use Rattle.remainder_code.specs.Code.{from, beforeFirst}
 
 pub record Walking {A : Type 0} (value : ℕ → List Trapezoid → A) (layer : List ℤ) (i : ℕ) : Type 0 where
   pub same : value 0 (layerOf layer) ≡ value i (from layer i)
@@ -45,3 +45,26 @@ module _ (any : List Trapezoid → Bool) (test : Trapezoid → Bool) (one : (t :
 
   pub search-turn : test t ≡ false → Searching any layer (i + 1)
   search-turn e = walk-turn h l t is (rest false e)
+
+-- ---- the first trapezoid that passes a test
+-- it is none of the first i
+abbrev pub Passing : (Trapezoid → Bool) → List ℤ → ℕ → Type 0
+Passing test layer i = Walking (λ j ts. j + beforeFirst test ts) layer i
+
+module _ (test : Trapezoid → Bool) where
+  pub pass-start : (layer : List ℤ) → Passing test layer 0
+  pass-start layer = walk-start (λ j ts. j + beforeFirst test ts) layer
+
+  module _ {layer : List ℤ} {i : ℕ} (h : Passing test layer i) where
+    pub pass-stop : count trapezoidCodec layer ≤ i → i ≡ beforeFirst test (layerOf layer)
+    pass-stop l = omega (arith, walk-stop h l)
+
+    module _ (l : i < count trapezoidCodec layer) (t : Trapezoid) (is : t ≡ recordAt trapezoidCodec layer i) where
+      next : (b : Bool) → test t ≡ b → i + beforeFirst test (t ∷ from layer (i + 1)) ≡ i + cond b 0 (suc (beforeFirst test (from layer (i + 1))))
+      next b e = ap (λ (x : Bool). i + cond x 0 (suc (beforeFirst test (from layer (i + 1))))) e
+
+      pub pass-found : test t ≡ true → i ≡ beforeFirst test (layerOf layer)
+      pass-found e = omega (arith, walk-here h l t is, next true e)
+
+      pub pass-turn : test t ≡ false → Passing test layer (i + 1)
+      pass-turn e = walk-turn h l t is (omega (arith, next false e))

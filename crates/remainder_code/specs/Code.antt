@@ -1,6 +1,6 @@
 -- What folds answer and write, by the definitions.
 use mathlib.Core.Path.{_≡_}
-use mathlib.Core.Bool.{Bool, false, cond, _||_}
+use mathlib.Core.Bool.{Bool, cond}
 use mathlib.Core.List.{List, [], _∷_}
 use Prim.Native.Nat.{ℕ, suc, _+_, _*_, _-_, _≤_}
 use lib.ListN.{length, take, drop, replicate}
@@ -13,7 +13,6 @@ use Rattle.geometry.specs.Limit.{coordinateLimit}
 use Rattle.geometry.specs.Fitness.{FitFor}
 use Rattle.geometry.specs.Trapezoids.{trapezoidCodec}
 use Rattle.geometry.specs.declared.Fill.the-variants.{Written}
-use Rattle.overlay.specs.Overlaps.{overlaps}
 use Rattle.boolean.specs.Operations.{minus, minusAll}
 use Rattle.boolean.specs.declared.Folded.{Folded}
 use Rattle.boolean.specs.declared.Folded.the-variants.{NoRoom, Done}
@@ -68,16 +67,10 @@ rest d k = drop (memoryWidth * k) d
 abbrev pub from : List ℤ → ℕ → List Trapezoid
 from s i = recordsFrom trapezoidCodec (count trapezoidCodec s - i) s i
 
--- ---- trapezoids that do not overlap
--- one of the trapezoids overlaps b
-abbrev pub overlapsAny : List Trapezoid → Trapezoid → Bool
-overlapsAny [] b = false
-overlapsAny (r ∷ rs) b = overlaps r b || overlapsAny rs b
-
--- how many trapezoids come before the first that a overlaps
-abbrev pub apartBefore : Trapezoid → List Trapezoid → ℕ
-apartBefore a [] = 0
-apartBefore a (b ∷ bs) = cond (overlaps a b) 0 (suc (apartBefore a bs))
+-- how many trapezoids come before the first that passes a test
+abbrev pub beforeFirst : (Trapezoid → Bool) → List Trapezoid → ℕ
+beforeFirst test [] = 0
+beforeFirst test (t ∷ ts) = cond (test t) 0 (suc (beforeFirst test ts))
 
 -- ---- the number of overlays
 -- the most that are made for one trapezoid, for a layer of them, and for an operation

@@ -1,22 +1,25 @@
 // What remains of trapezoids minus others, with room for so many.
 use boolean::Folded;
+use boxes::Box;
 use geometry::Fill;
 use geometry::Placed;
 ghost use mathlib.Core.Path.{_≡_};
 ghost use mathlib.Core.List.{[], _∷_, _++_};
-ghost use Prim.Native.Nat.{_+_, _*_, _-_, _≤_};
+ghost use Prim.Native.Nat.{_+_, _*_, _-_, _<_, _≤_};
 ghost use lib.ListN.{length, take, drop, replicate};
 ghost use lib.IntN.{pos};
 ghost use Rattle.lists.specs.Lists.{All};
-ghost use Rattle.records.specs.Limits.{memoryWidth, maxRecords};
+ghost use Rattle.records.specs.Limits.{memoryWidth};
 ghost use Rattle.records.specs.Records.{count, Blank};
 ghost use Rattle.geometry.specs.Limit.{coordinateLimit};
-ghost use Rattle.geometry.specs.Fitness.{FitFor, FitLayer};
+ghost use Rattle.geometry.specs.Fitness.{FitFor};
 ghost use Rattle.geometry.specs.Trapezoids.{trapezoidCodec, layerOf};
+ghost use Rattle.overlay.specs.Overlaps.{overlaps};
 ghost use Rattle.boolean.specs.Space.{addition};
 ghost use Rattle.trapezoids_code.specs.Placed.{PlacedAs, Pair};
 ghost use Rattle.trapezoids_code.specs.Tails.{Borrowed};
-ghost use Rattle.remainder_code.specs.Code.{from, maxOverlays, withOverlays, OverlaysWithin, leading, Remaining, FoldedAs, overlapsAny, apartBefore, MinusWritten, MinusAllWritten, ScratchFor};
+ghost use Rattle.boxes_code.specs.Code.{BoxedAs, BoxedLayer};
+ghost use Rattle.remainder_code.specs.Code.{maxOverlays, withOverlays, OverlaysWithin, leading, Remaining, FoldedAs, beforeFirst, MinusWritten, ScratchFor};
 
 // Each trapezoid of the remainder, in order, replaced by its parts that are not in b. Those not yet reached count against the room.
 pub fn minus_into(remainder: &[i32], b: Placed, out: &mut [i32], room: usize) -> Folded
@@ -56,88 +59,65 @@ fn move_into(out: &mut [i32], scratch: &mut [i32], n: usize)
     records_code::clear(&mut out[..end]);
 }
 
-// Whether some trapezoid of a layer overlaps b.
-fn any_overlapping(layer: &[i32], b: Placed) -> bool
+// The n trapezoids that `out` holds are the remainder: each replaced by its parts that are not in b.
+fn replace(b: Placed, n: usize, out: &mut [i32], scratch: &mut [i32], room: usize) -> Folded
+    requires { ⌜ PlacedAs (b .shape) b × Remaining (now out) n room ⌝ }
+    requires { ⌜ ScratchFor (now out) (now scratch) ⌝ }
+    ensures { λ r. ⌜ MinusWritten (now (out .entry)) room (leading (now (out .entry)) n) (b .shape) r (now (out .exit)) ⌝ }
+    ensures { λ _. ⌜ Blank (pos 0) (now (scratch .exit)) ⌝ }
+{
+    move_into(out, scratch, n);
+    let end = records::MEMORY_WIDTH * n;
+    let f = minus_into(&scratch[..end], b, out, room);
+    records_code::clear(&mut scratch[..end]);
+    f
+}
+
+// How many trapezoids of a layer come before the first that overlaps b; all of them if none does.
+fn first_overlapped(layer: &[i32], b: Placed) -> usize
     requires { ⌜ All (FitFor coordinateLimit) (layerOf (now layer)) × PlacedAs (b .shape) b ⌝ }
-    ensures { λ r. ⌜ r ≡ overlapsAny (layerOf (now (layer .entry))) (b .shape) ⌝ }
+    ensures { λ r. ⌜ r ≡ beforeFirst (λ t. overlaps t (b .shape)) (layerOf (now (layer .entry))) ⌝ }
 {
     let n = layer.len() / records::MEMORY_WIDTH;
     let mut i = 0;
     while i < n {
         let a = trapezoids_code::placed_at(layer, i);
         if overlaps_code::overlapping(a, b) {
-            return true;
+            return i;
         }
         i += 1;
     }
-    false
+    i
 }
 
-// The n trapezoids that `out` holds are the remainder: each replaced by its parts that are not in b. They stand if none overlaps b.
+// The n trapezoids that `out` holds are the remainder: each replaced by its parts that are not in b. Those before the first that overlaps b stand.
 pub fn reduce(b: Placed, n: usize, out: &mut [i32], scratch: &mut [i32], room: usize) -> Folded
     requires { ⌜ PlacedAs (b .shape) b × Remaining (now out) n room ⌝ }
     requires { ⌜ ScratchFor (now out) (now scratch) ⌝ }
     ensures { λ r. ⌜ MinusWritten (now (out .entry)) room (leading (now (out .entry)) n) (b .shape) r (now (out .exit)) ⌝ }
     ensures { λ _. ⌜ Blank (pos 0) (now (scratch .exit)) ⌝ }
 {
-    let end = records::MEMORY_WIDTH * n;
-    if !any_overlapping(&out[..end], b) {
+    let p = first_overlapped(&out[..records::MEMORY_WIDTH * n], b);
+    if p == n {
         return Folded::Done {
             trapezoids: n,
             overlays: n,
         };
     }
-    move_into(out, scratch, n);
-    let f = minus_into(&scratch[..end], b, out, room);
-    records_code::clear(&mut scratch[..end]);
-    f
-}
-
-// The n trapezoids that `out` holds, minus the trapezoids of a layer from number `start` on, until none remains.
-pub fn reduce_by_rest(
-    layer: &[i32],
-    start: usize,
-    n: usize,
-    out: &mut [i32],
-    scratch: &mut [i32],
-    room: usize,
-) -> Folded
-    requires { ⌜ FitLayer (now layer) × (start ≤ count trapezoidCodec (now layer)) × Remaining (now out) n room × (room ≤ maxRecords) ⌝ }
-    requires { ⌜ ScratchFor (now out) (now scratch) ⌝ }
-    ensures { λ r. ⌜ MinusAllWritten (now (out .entry)) room (leading (now (out .entry)) n) (from (now (layer .entry)) start) r (now (out .exit)) ⌝ }
-    ensures { λ r. ⌜ OverlaysWithin (maxRecords * (maxRecords - start)) r ⌝ }
-    ensures { λ _. ⌜ Blank (pos 0) (now (scratch .exit)) ⌝ }
-{
-    let count = layer.len() / records::MEMORY_WIDTH;
-    let mut k = n;
-    let mut made = 0;
-    let mut i = start;
-    while i < count {
-        if k == 0 {
-            return Folded::Done {
-                trapezoids: k,
-                overlays: made,
-            };
+    let start = records::MEMORY_WIDTH * p;
+    let f = replace(b, n - p, &mut out[start..], &mut scratch[start..], room - p);
+    match f {
+        Folded::NoRoom(overlays) => {
+            records_code::clear(&mut out[..start]);
+            Folded::NoRoom(p + overlays)
         }
-        let b = trapezoids_code::placed_at(layer, i);
-        let f = reduce(b, k, out, scratch, room);
-        match f {
-            Folded::NoRoom(overlays) => {
-                return Folded::NoRoom(made + overlays);
-            }
-            Folded::Done {
-                trapezoids,
-                overlays,
-            } => {
-                k = trapezoids;
-                made += overlays;
-            }
-        }
-        i += 1;
-    }
-    Folded::Done {
-        trapezoids: k,
-        overlays: made,
+        Folded::Done {
+            trapezoids,
+            overlays,
+        } => Folded::Done {
+            trapezoids: p + trapezoids,
+            overlays: p + overlays,
+        },
     }
 }
 
@@ -189,16 +169,18 @@ pub fn add_whole(a: Placed, out: &mut [i32], room: usize) -> Folded
 }
 
 // How many trapezoids of a layer come before the first that overlaps a; all of them if none does.
-pub fn first_overlapping(a: Placed, layer: &[i32]) -> usize
-    requires { ⌜ PlacedAs (a .shape) a × All (FitFor coordinateLimit) (layerOf (now layer)) ⌝ }
-    ensures { λ r. ⌜ r ≡ apartBefore (a .shape) (layerOf (now (layer .entry))) ⌝ }
+pub fn first_overlapping(a: Placed, e: Box, layer: &[i32], boxes: &[i64]) -> usize
+    requires { ⌜ BoxedAs a e × BoxedLayer (now layer) (now boxes) ⌝ }
+    ensures { λ r. ⌜ r ≡ beforeFirst (overlaps (a .shape)) (layerOf (now (layer .entry))) ⌝ }
 {
     let n = layer.len() / records::MEMORY_WIDTH;
     let mut i = 0;
     while i < n {
-        let b = trapezoids_code::placed_at(layer, i);
-        if overlaps_code::overlapping(a, b) {
-            return i;
+        if !boxes_code::boxes_disjoint(e, boxes, i) {
+            let b = trapezoids_code::placed_at(layer, i);
+            if overlaps_code::overlapping(a, b) {
+                return i;
+            }
         }
         i += 1;
     }

@@ -9,8 +9,8 @@ use Rattle.boolean.specs.declared.Folded.the-variants.{Done}
 use Rattle.boolean.specs.Space.{differenceStages}
 use Rattle.remainder_code.specs.Code.{overlaysOfLayer, maxOverlays, OverlaysWithin}
 use Rattle.remainder_code.proofs.Answers.{within-least, within-done, within-more}
-use Rattle.boolean_code.proofs.Combining.{holding-none, folded-none, holding-done, folded-after}
-use Rattle.boolean_code.proofs.Comparing.{folded-known, symmetric-no-room}
+use Rattle.difference_code.proofs.Alone.{holding-none, folded-none, folded-known}
+use Rattle.boolean_code.proofs.Combining.{holding-done, folded-after, symmetric-no-room}
 use Rattle.boolean_code.proofs.symmetric_difference_into.Statement.{statement}
 use Rattle.boolean_code.proofs.symmetric_difference_into.Tie as tie
 
@@ -18,7 +18,7 @@ difference-into-requires : tie.Need-difference-into-requires
 difference-into-requires c κs =
     let at-start = c .before .before in
     let a = at-start .args in
-    ((at-start .pre .0 .0, at-start .pre .0 .1, holding-none (a .out .now) (a .room) (at-start .pre .0 .2), at-start .pre .0 .3), at-start .pre .1)
+    (at-start .pre .0, ((holding-none (a .out .now) (a .room) (at-start .pre .1 .0 .0), at-start .pre .1 .0 .1), at-start .pre .1 .1))
 
 returns : tie.Need-returns
 returns c =
@@ -28,8 +28,8 @@ returns c =
     let A = layerOf (a .first .now) in
     let B = layerOf (a .second .now) in
     let d = at-difference-into .difference-into in
-    let t = d .last .1 .1 .1 .0 in
-    let g = folded-none (a .out .now) (a .room) (at-start .pre .0 .2) (difference A B) (differenceStages 0 A B) (d .result) t (d .ensures .0) in (
+    let t = d .last .1 .1 .1 .1 .1 .0 in
+    let g = folded-none (a .out .now) (a .room) (at-start .pre .1 .0 .0) (difference A B) (differenceStages 0 A B) (d .result) t (d .ensures .0) in (
       symmetric-no-room (a .room) A B (length (a .out .now)) t (d .result) _ (c .enum-told .given .1) g,
       (within-least overlaysOfLayer maxOverlays (d .result) (omega arith) (d .ensures .1 .0), d .ensures .1 .1),
     )
@@ -43,12 +43,12 @@ difference-into-requires-2 c κs =
     let A = layerOf (a .first .now) in
     let B = layerOf (a .second .now) in
     let d = at-difference-into .difference-into in
-    let t = d .last .1 .1 .1 .0 in
-    let g = folded-none (a .out .now) (a .room) (at-start .pre .0 .2) (difference A B) (differenceStages 0 A B) (d .result) t (d .ensures .0) in
+    let t = d .last .1 .1 .1 .1 .1 .0 in
+    let g = folded-none (a .out .now) (a .room) (at-start .pre .1 .0 .0) (difference A B) (differenceStages 0 A B) (d .result) t (d .ensures .0) in
     let e = at-f .f .given .1 in
     let k = folded-known (length (a .out .now)) (a .room) (difference A B) (differenceStages 0 A B) (d .result) (Done _ _) t e g in (
-      (at-start .pre .0 .1, at-start .pre .0 .0, holding-done (length (a .out .now)) (a .room) (difference A B) (differenceStages 0 A B) _ _ t k (d .kept .1 .1 .1 .0) (at-start .pre .0 .2 .wide), at-start .pre .0 .3),
-      (d .ensures .1 .1, d .kept .1 .1 .1 .1 .0 ∙ at-start .pre .1 .1 ∙ sym (d .kept .1 .1 .1 .0)),
+      (at-start .pre .0 .1, at-start .pre .0 .0),
+      ((holding-done (length (a .out .now)) (a .room) (difference A B) (differenceStages 0 A B) _ _ t k (d .kept .1 .1 .1 .1 .1 .0) (at-start .pre .1 .0 .0 .wide), at-start .pre .1 .0 .1), (d .ensures .1 .1, d .kept .1 .1 .1 .1 .1 .1 .0 ∙ at-start .pre .1 .1 .1 ∙ sym (d .kept .1 .1 .1 .1 .1 .0))),
     )
 
 more-overlays-requires : tie.Need-more-overlays-requires
@@ -71,14 +71,14 @@ returns-2 c =
     let A = layerOf (a .first .now) in
     let B = layerOf (a .second .now) in
     let d = at-difference-into .difference-into in
-    let t = d .last .1 .1 .1 .0 in
-    let g = folded-none (a .out .now) (a .room) (at-start .pre .0 .2) (difference A B) (differenceStages 0 A B) (d .result) t (d .ensures .0) in
+    let t = d .last .1 .1 .1 .1 .1 .0 in
+    let g = folded-none (a .out .now) (a .room) (at-start .pre .1 .0 .0) (difference A B) (differenceStages 0 A B) (d .result) t (d .ensures .0) in
     let e = at-f .f .given .1 in
     let q = at-difference-into2 .difference-into2 in
     let k = folded-known (length (a .out .now)) (a .room) (difference A B) (differenceStages 0 A B) (d .result) (Done _ _) t e g in
     let u = within-done overlaysOfLayer _ _ (d .result) e (d .ensures .1 .0) in
     let r = c .more-overlays .ensures in
-    let h = folded-after (length (a .out .now)) (a .room) (difference A B) (differenceStages 0 A B) _ _ t k (d .kept .1 .1 .1 .0) (at-start .pre .0 .2 .wide) (difference B A) (λ (n : ℕ). differenceStages n B A) (q .result) (q .last .1 .1 .1 .0) (q .ensures .0) in
+    let h = folded-after (length (a .out .now)) (a .room) (difference A B) (differenceStages 0 A B) _ _ t k (d .kept .1 .1 .1 .1 .1 .0) (at-start .pre .1 .0 .0 .wide) (difference B A) (λ (n : ℕ). differenceStages n B A) (q .result) (q .last .1 .1 .1 .1 .1 .0) (q .ensures .0) in
     let w = within-more overlaysOfLayer overlaysOfLayer _ (q .result) u (q .ensures .1 .0) in
     (rw r h, (within-least (overlaysOfLayer + overlaysOfLayer) maxOverlays (c .more-overlays .result) (omega arith) (subst (OverlaysWithin (overlaysOfLayer + overlaysOfLayer)) (sym r) w), q .ensures .1 .1))
 

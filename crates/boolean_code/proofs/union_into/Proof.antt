@@ -21,7 +21,7 @@ returns c =
     let a = at-start .args in
     let A = layerOf (a .first .now) in
     let B = layerOf (a .second .now) in
-    (copied-no-room (a .first .now) (a .out .now) (a .room) (at-start .pre .0 .2) (A ++ difference B A) (λ (k : ℕ). differenceStages k B A) (c .if1 .taken), (omega arith, at-start .pre .1 .0))
+    (copied-no-room (a .first .now) (a .out .now) (a .room) (at-start .pre .1 .0 .0) (A ++ difference B A) (λ (k : ℕ). differenceStages k B A) (c .if1 .taken), (omega arith, at-start .pre .1 .1 .0))
 
 slice-aggregate-copy : tie.Need-slice-aggregate-copy
 slice-aggregate-copy c =
@@ -31,18 +31,18 @@ slice-aggregate-copy c =
 slice-relend-prefix-copy : tie.Need-slice-relend-prefix-copy
 slice-relend-prefix-copy c =
     let at-start = c .before .before in
-    omega (arith, at-start .pre .0 .2 .wide, c .before .if1 .left)
+    omega (arith, at-start .pre .1 .0 .0 .wide, c .before .if1 .left)
 
 slice-aggregate-copy-2 : tie.Need-slice-aggregate-copy-2
 slice-aggregate-copy-2 c =
     let at-start = c .before .before .before in
-    sym (length-take-le (memoryWidth * count trapezoidCodec (at-start .args .first .now)) (at-start .args .out .now) (omega (arith, at-start .pre .0 .2 .wide, c .before .before .if1 .left)))
+    sym (length-take-le (memoryWidth * count trapezoidCodec (at-start .args .first .now)) (at-start .args .out .now) (omega (arith, at-start .pre .1 .0 .0 .wide, c .before .before .if1 .left)))
 
 copy-requires : tie.Need-copy-requires
 copy-requires c κs =
     let at-start = c .before .before .before in
     let n = memoryWidth * count trapezoidCodec (at-start .args .first .now) in
-    length-take-le n (at-start .args .first .now) (omega arith) ∙ sym (length-take-le n (at-start .args .out .now) (omega (arith, at-start .pre .0 .2 .wide, c .before .before .if1 .left)))
+    length-take-le n (at-start .args .first .now) (omega arith) ∙ sym (length-take-le n (at-start .args .out .now) (omega (arith, at-start .pre .1 .0 .0 .wide, c .before .before .if1 .left)))
 
 difference-into-requires : tie.Need-difference-into-requires
 difference-into-requires c κs =
@@ -55,8 +55,8 @@ difference-into-requires c κs =
     let w : p .last .1 .0 ++ drop (memoryWidth * count trapezoidCodec (a .first .now)) (a .out .now) ≡ take (memoryWidth * count trapezoidCodec (a .first .now)) (a .first .now) ++ drop (memoryWidth * count trapezoidCodec (a .first .now)) (a .out .now)
     = ap (λ (u : List ℤ). u ++ drop (memoryWidth * count trapezoidCodec (a .first .now)) (a .out .now)) (p .ensures) in
     let t = p .last .1 .0 ++ drop (memoryWidth * count trapezoidCodec (a .first .now)) (a .out .now) in (
-      (at-start .pre .0 .1, at-start .pre .0 .0, copied-holding (a .first .now) (a .out .now) (a .room) (at-start .pre .0 .2) l t w, at-start .pre .0 .3),
-      (at-start .pre .1 .0, at-start .pre .1 .1 ∙ sym (copied-long (a .first .now) (a .out .now) (a .room) (at-start .pre .0 .2) l t w)),
+      (at-start .pre .0 .1, at-start .pre .0 .0),
+      ((copied-holding (a .first .now) (a .out .now) (a .room) (at-start .pre .1 .0 .0) l t w, at-start .pre .1 .0 .1), (at-start .pre .1 .1 .0, at-start .pre .1 .1 .1 ∙ sym (copied-long (a .first .now) (a .out .now) (a .room) (at-start .pre .1 .0 .0) l t w))),
     )
 
 returns-2 : tie.Need-returns-2
@@ -74,7 +74,7 @@ returns-2 c =
     = ap (λ (u : List ℤ). u ++ drop (memoryWidth * count trapezoidCodec (a .first .now)) (a .out .now)) (p .ensures) in
     let t = p .last .1 .0 ++ drop (memoryWidth * count trapezoidCodec (a .first .now)) (a .out .now) in
     let r = at-difference-into .difference-into in
-    (copied-folded (a .first .now) (a .out .now) (a .room) (at-start .pre .0 .2) l t w (difference B A) (λ (k : ℕ). differenceStages k B A) (r .result) (r .last .1 .1 .1 .0) (r .ensures .0), r .ensures .1)
+    (copied-folded (a .first .now) (a .out .now) (a .room) (at-start .pre .1 .0 .0) l t w (difference B A) (λ (k : ℕ). differenceStages k B A) (r .result) (r .last .1 .1 .1 .1 .1 .0) (r .ensures .0), r .ensures .1)
 
 pub union-into-spec : {M : Type 1} → statement M
 union-into-spec =

@@ -1,31 +1,35 @@
-use mathlib.Core.Path.{_∙_}
 use native.Mathlib.Omega.{arith}
 use borrow.Author.Needs.{needs}
-use Rattle.connectivity_code.proofs.Layers.{numbers-are, numbers-length, count-is}
 use Rattle.connectivity_code.proofs.components_into.Statement.{statement}
 use Rattle.connectivity_code.proofs.components_into.Tie as tie
 
-number-each-requires : tie.Need-number-each-requires
-number-each-requires c κs = c .before .before .pre .1
-
-join-all-requires : tie.Need-join-all-requires
-join-all-requires c κs =
-    let at-number-each = c .before .before .before in
-    let at-start = at-number-each .before .before .before in
-    let h = at-start .pre in
-    record { fit = h .0 .fit; one-each = at-number-each .number-each .kept .0 ∙ h .0 .one-each }
+components-with-requires : tie.Need-components-with-requires
+components-with-requires c κs =
+    let at-if1 = c .before .before in
+    let h = at-if1 .before .before .pre in
+    (h .0, h .1, omega (arith, at-if1 .if1 .taken))
 
 returns : tie.Need-returns
-returns c =
-    let at-join-all = c .before .before .before .before in
-    let at-number-each = at-join-all .before .before .before .before in
-    let at-start = at-number-each .before .before .before in
-    let l = numbers-length (at-start .args .layer .now) (at-start .args .numbers .now) (at-start .pre .0 .one-each) (at-number-each .number-each .ensures) (at-join-all .join-all .ensures) in (
-      numbers-are (at-start .args .layer .now) (at-start .args .numbers .now) (at-start .pre .0 .one-each) (at-number-each .number-each .ensures) (at-join-all .join-all .ensures),
-      (count-is (at-start .args .layer .now) (at-start .args .numbers .now) (at-start .pre .0 .one-each) (at-number-each .number-each .ensures) (at-join-all .join-all .ensures) (c .count-own .ensures .0), omega (arith, c .count-own .ensures .1, l, at-start .pre .0 .one-each, at-start .pre .1)),
-    )
+returns c = c .before .before .before .components-with .ensures
+
+components-with-requires-2 : tie.Need-components-with-requires-2
+components-with-requires-2 c κs =
+    let at-start = c .before .before .before .before in
+    let h = at-start .pre in
+    (h .0, h .1, omega (arith, h .1))
+
+returns-2 : tie.Need-returns-2
+returns-2 c = c .before .before .before .components-with2 .ensures
 
 pub components-into-spec : {M : Type 1} → statement M
 components-into-spec =
     tie.close
-    (tie.spec number-each-requires join-all-requires (λ c κs. search needs) (λ c. search needs) returns)
+    (tie.spec
+    (λ c. search needs)
+    components-with-requires
+    (λ c. search needs)
+    returns
+    (λ c. search needs)
+    components-with-requires-2
+    (λ c. search needs)
+    returns-2)

@@ -1,5 +1,6 @@
 -- Before turn j: trapezoid i has been joined with each of the first j that it touches, in order; j is at most i.
 use mathlib.Core.Path.{_∙_, ap}
+use mathlib.Core.Logic.{⊎-elim}
 use Prim.Native.Nat.{_-_}
 use native.Mathlib.Omega.{arith}
 use borrow.Author.Needs.{needs}
@@ -9,46 +10,70 @@ use Rattle.geometry.specs.Trapezoids.{trapezoidCodec, layerOf}
 use Rattle.connectivity.specs.Touching.{touches}
 use Rattle.connectivity.specs.Components.{touchingAt}
 use Rattle.trapezoids_code.proofs.Placed.{placed-own}
-use Rattle.connectivity_code.proofs.Layers.{touching-record}
-use Rattle.connectivity_code.proofs.Loops.{Earlier, earlier-start, earlier-turn, earlier-stop}
+use Rattle.connectivity_code.proofs.Layers.{touching-record, apart-record}
+use Rattle.connectivity_code.proofs.Loops.{Earlier, earlier-start, earlier-turn, earlier-agree, earlier-stop}
 use Rattle.connectivity_code.proofs.join_earlier.Statement.{statement}
 use Rattle.connectivity_code.proofs.join_earlier.Tie as tie
 
 abbrev Inv-loop : tie.InvT-loop
-Inv-loop layer a i numbers₀ j₀ numbers j = Earlier (touchingAt (layerOf layer)) i numbers₀ numbers j
+Inv-loop layer boxes a e i numbers₀ j₀ numbers j = Earlier (touchingAt (layerOf layer)) i numbers₀ numbers j
 
 abbrev μ-loop : tie.MeasureT-loop
-μ-loop layer a i numbers₀ j₀ numbers j = i - j
+μ-loop layer boxes a e i numbers₀ j₀ numbers j = i - j
 
 loop-holds : tie.Need-loop-holds Inv-loop μ-loop
 loop-holds c = let s = c .before .args in earlier-start (touchingAt (layerOf (s .layer .now))) (s .i) (s .numbers .now)
 
+boxes-apart-requires : tie.Need-boxes-apart-requires Inv-loop μ-loop
+boxes-apart-requires c κs =
+    let h = c .before .before .before .pre in
+    let r = h .0 .1 .room in
+    omega (arith, r, h .1 .0, c .loop-test .taken)
+
+slice-read-if2 : tie.Need-slice-read-if2 Inv-loop μ-loop
+slice-read-if2 c =
+    let at-loop = c .before .before .before .before in
+    let h = at-loop .before .before .pre in
+    omega (arith, h .1 .0, h .0 .0 .one-each, at-loop .loop .inv .long)
+
+slice-read-if2-2 : tie.Need-slice-read-if2-2 Inv-loop μ-loop
+slice-read-if2-2 c =
+    let at-loop-test = c .before .before .before .before in
+    let at-loop = at-loop-test .before in
+    let h = at-loop .before .before .pre in
+    omega (arith, h .1 .0, h .0 .0 .one-each, at-loop .loop .inv .long, at-loop-test .loop-test .taken)
+
 touching-at-requires : tie.Need-touching-at-requires Inv-loop μ-loop
 touching-at-requires c κs =
-    let h = c .before .before .before .pre in
-    let l = h .1 .0 in
-    (h .0 .fit, omega (arith, l, c .loop-test .taken), placed-own (h .1 .1))
+    let at-loop-test = c .before .before .before .before .before in
+    let h = at-loop-test .before .before .before .pre in
+    (h .0 .0 .fit, omega (arith, h .1 .0, at-loop-test .loop-test .taken), placed-own (h .1 .1))
 
 join-if-requires : tie.Need-join-if-requires Inv-loop μ-loop
 join-if-requires c κs =
-    let at-loop-test = c .before .before in
+    let at-loop-test = c .before .before .before .before .before .before .before in
     let at-loop = at-loop-test .before in
-    let at-start = at-loop .before .before in
-    let h = at-start .pre in
-    let l = h .1 .0 in
-    (omega (arith, l, h .0 .one-each, at-loop .loop .inv .long), omega (arith, l, h .0 .one-each, at-loop .loop .inv .long, at-loop-test .loop-test .taken))
+    let h = at-loop .before .before .pre in
+    (omega (arith, h .1 .0, h .0 .0 .one-each, at-loop .loop .inv .long), omega (arith, h .1 .0, h .0 .0 .one-each, at-loop .loop .inv .long, at-loop-test .loop-test .taken))
 
 loop-again : tie.Need-loop-again Inv-loop μ-loop
 loop-again c =
-    let at-join-if = c .before .before in
-    let at-touching-at = at-join-if .before .before in
-    let at-loop-test = at-touching-at .before in
+    let at-boxes-apart = c .before in
+    let at-loop-test = at-boxes-apart .before in
     let at-loop = at-loop-test .before in
     let at-start = at-loop .before .before in
-    let l = at-start .pre .1 .0 in
-    earlier-turn (touchingAt (layerOf (at-start .args .layer .now))) (at-loop .loop .inv) (at-loop-test .loop-test .taken)
-    (at-touching-at .touching-at .ensures ∙ ap (λ (u : Trapezoid). touches u (recordAt trapezoidCodec (at-start .args .layer .now) (at-loop .loop .j))) (at-start .pre .1 .1 .shape) ∙ touching-record (at-start .args .layer .now) (at-start .args .i) (at-loop .loop .j) l (omega (arith, l, at-loop-test .loop-test .taken)))
-    (at-join-if .join-if .ensures)
+    let s = at-start .args in
+    let h = at-start .pre in
+    let inv = at-loop .loop .inv in
+    let j = at-loop .loop .j in
+    let l = at-loop-test .loop-test .taken in
+    let test = touchingAt (layerOf (s .layer .now)) in
+    ⊎-elim
+    (λ w. earlier-turn test inv l (w .4 .ensures ∙ ap (λ (u : Trapezoid). touches u (recordAt trapezoidCodec (s .layer .now) j)) (h .1 .1 .shape) ∙ touching-record (s .layer .now) (s .i) j (h .1 .0) (omega (arith, h .1 .0, l))) (w .9 ∙ w .6 .ensures))
+    (⊎-elim
+    (λ w. earlier-agree test inv l (w .3 .left) (w .4))
+    (λ w. earlier-turn test inv l (apart-record (s .layer .now) (s .boxes .now) (s .i) j (h .0 .0 .fit) (h .1 .0) l (h .1 .2) (h .0 .1) (at-boxes-apart .boxes-apart .ensures) (w .0 .left)) (w .1)))
+    (c .if1 .came)
 
 same-length : tie.Need-same-length Inv-loop μ-loop
 same-length c = c .before .loop .inv .long
@@ -63,6 +88,11 @@ join-earlier-spec =
     Inv-loop
     μ-loop
     loop-holds
+    boxes-apart-requires
+    (λ c. search needs)
+    slice-read-if2
+    (λ c. search needs)
+    slice-read-if2-2
     touching-at-requires
     join-if-requires
     (λ c. search needs)

@@ -9,11 +9,12 @@ use lib.IntN.{pos}
 use borrow.Author.Needs.{needs}
 use borrow.Rule.Slice.PartMut.{putMid}
 use Rattle.records.specs.Limits.{memoryWidth}
+use Rattle.records.specs.Records.{count}
 use Rattle.records.proofs.Records.{length-from}
 use Rattle.geometry.specs.Trapezoids.{trapezoidCodec, layerOf}
 use Rattle.boolean.specs.Operations.{difference}
 use Rattle.boolean.specs.Space.{differenceStages}
-use Rattle.trapezoids_code.proofs.Placed.{placed-own}
+use Rattle.boxes_code.proofs.Layers.{box-room, box-loaded}
 use Rattle.remainder_code.specs.Code.{leading, overlaysOfOne, ScratchFor}
 use Rattle.remainder_code.proofs.Answers.{within-no-room, within-done, leading-filled}
 use Rattle.remainder_code.proofs.Leading.{scratch-tail, scratch-back}
@@ -23,12 +24,12 @@ use Rattle.difference_code.proofs.difference_into.Statement.{statement}
 use Rattle.difference_code.proofs.difference_into.Tie as tie
 
 abbrev Inv-loop : tie.InvT-loop
-Inv-loop start first second out₀ scratch₀ room n k₀ made₀ i₀ out scratch k made i =
+Inv-loop start first first-boxes second second-boxes out₀ scratch₀ room n k₀ made₀ i₀ out scratch k made i =
     Folding (differenceFold (layerOf second)) (length out₀) room (leading out₀ start ++ difference (layerOf first) (layerOf second)) (differenceStages start (layerOf first) (layerOf second)) first out k made i
     × (made ≤ overlaysOfOne * i) × ScratchFor out scratch
 
 abbrev μ-loop : tie.MeasureT-loop
-μ-loop start first second out₀ scratch₀ room n k₀ made₀ i₀ out scratch k made i =
+μ-loop start first first-boxes second second-boxes out₀ scratch₀ room n k₀ made₀ i₀ out scratch k made i =
     n - i
 
 loop-holds : tie.Need-loop-holds Inv-loop μ-loop
@@ -36,68 +37,78 @@ loop-holds c =
     let a = c .args in
     let B = layerOf (a .second .now) in
     let d = a .out .now in
-    let h = c .pre .0 .2 in (
+    let h = c .pre .1 .0 .0 in (
       fold-start (differenceFold B) (difference-steps B) (a .room) (a .first .now) d (leading d (a .start)) (differenceStages (a .start) (layerOf (a .first .now)) B) (a .start) (leading-filled d (a .start) (a .room) (h .is) (h .within)) (h .wide)
-          (ap (λ (k : ℕ). differenceStages k (layerOf (a .first .now)) B) (sym (length-from trapezoidCodec (a .start) d 0))) (c .pre .0 .0 .fit),
+          (ap (λ (k : ℕ). differenceStages k (layerOf (a .first .now)) B) (sym (length-from trapezoidCodec (a .start) d 0))) (c .pre .0 .0 .layer .fit),
       omega arith,
-      c .pre .1,
+      c .pre .1 .1,
     )
 
 placed-at-requires : tie.Need-placed-at-requires Inv-loop μ-loop
 placed-at-requires c κs =
-    (c .before .before .pre .0 .0 .fit, c .loop-test .taken)
+    (c .before .before .pre .0 .0 .layer .fit, c .loop-test .taken)
+
+load-box-requires : tie.Need-load-box-requires Inv-loop μ-loop
+load-box-requires c κs =
+    let at-loop-test = c .before in
+    let at-loop = at-loop-test .before in
+    let a = at-loop .before .args in
+    box-room (count trapezoidCodec (a .first .now)) (a .first .now) (a .first-boxes .now) (at-loop .loop .i) (at-loop .before .pre .0 .0 .boxes) (at-loop-test .loop-test .taken)
 
 mul-free : tie.Need-mul-free Inv-loop μ-loop
 mul-free c =
-    omega (arith, fold-words (c .before .before .loop .inv .0), c .before .before .before .good .1 .1 .1 .0)
+    omega (arith, fold-words (c .before .before .before .loop .inv .0), c .before .before .before .before .good .1 .1 .1 .0)
 
 mul-one-into : tie.Need-mul-one-into Inv-loop μ-loop
 mul-one-into c =
-    omega (arith, fold-words (c .before .before .loop .inv .0), c .before .before .before .good .1 .1 .1 .0)
+    omega (arith, fold-words (c .before .before .before .loop .inv .0), c .before .before .before .before .good .1 .1 .1 .0)
 
 sub-one-into : tie.Need-sub-one-into Inv-loop μ-loop
 sub-one-into c =
-    omega (arith, fold-words (c .before .before .loop .inv .0))
+    omega (arith, fold-words (c .before .before .before .loop .inv .0))
 
 part-one-into-end : tie.Need-part-one-into-end Inv-loop μ-loop
 part-one-into-end c =
-    omega (arith, fold-words (c .before .before .loop .inv .0))
+    omega (arith, fold-words (c .before .before .before .loop .inv .0))
 
 mul-one-into-2 : tie.Need-mul-one-into-2 Inv-loop μ-loop
 mul-one-into-2 c =
-    let at-loop = c .before .before .before in
+    let at-loop = c .before .before .before .before in
     let at-start = at-loop .before in
     omega (arith, fold-words (at-loop .loop .inv .0), at-start .good .1 .1 .1 .0)
 
 sub-one-into-2 : tie.Need-sub-one-into-2 Inv-loop μ-loop
 sub-one-into-2 c =
-    let h = c .before .before .before .loop .inv in
+    let h = c .before .before .before .before .loop .inv in
     omega (arith, fold-words (h .0), h .2 .1)
 
 part-one-into-end-2 : tie.Need-part-one-into-end-2 Inv-loop μ-loop
 part-one-into-end-2 c =
-    let h = c .before .before .before .loop .inv in
+    let h = c .before .before .before .before .loop .inv in
     omega (arith, fold-words (h .0), h .2 .1)
 
 sub-one-into-3 : tie.Need-sub-one-into-3 Inv-loop μ-loop
 sub-one-into-3 c =
-    let at-loop = c .before .before .before .before in
+    let at-loop = c .before .before .before .before .before in
     omega (arith, at-loop .loop .inv .0 .within)
 
 one-into-requires : tie.Need-one-into-requires Inv-loop μ-loop
 one-into-requires c κs =
-    let at-placed-at = c .before .before in
-    let at-loop = at-placed-at .before .before in
+    let at-load-box = c .before .before in
+    let at-placed-at = at-load-box .before in
+    let at-loop-test = at-placed-at .before in
+    let at-loop = at-loop-test .before in
     let at-start = at-loop .before in
+    let a = at-start .args in
     let p = at-loop .loop in
     let h = p .inv in
-    ((placed-own (at-placed-at .placed-at .ensures), at-start .pre .0 .1, fold-borrowed (h .0) _ (omega (arith, h .0 .within)), omega (arith, at-start .pre .0 .3)), scratch-tail (p .out) (p .scratch) (p .k) (h .2))
+    ((box-loaded (a .first .now) (a .first-boxes .now) (at-start .pre .0 .0) (p .i) (at-loop-test .loop-test .taken) (at-placed-at .placed-at .result) (at-load-box .load-box .result) (at-placed-at .placed-at .ensures) (at-load-box .load-box .ensures), at-start .pre .0 .1, fold-borrowed (h .0) _ (omega (arith, h .0 .within)), omega (arith, at-start .pre .1 .0 .1)), scratch-tail (p .out) (p .scratch) (p .k) (h .2))
 
 -- number i minus the second layer
 turn : (o : tie.After-one-into Inv-loop μ-loop)
-    → let at-loop = o .before .before .before .before .before in let at-start = at-loop .before in Turned (at-loop .loop .inv .0) (at-start .args .room - at-loop .loop .k) (o .one-into .result) (o .one-into .last .1 .1 .0)
+    → let at-loop = o .before .before .before .before .before .before in let at-start = at-loop .before in Turned (at-loop .loop .inv .0) (at-start .args .room - at-loop .loop .k) (o .one-into .result) (o .one-into .last .1 .1 .1 .1 .0)
 turn o =
-    let at-placed-at = o .before .before .before in
+    let at-placed-at = o .before .before .before .before in
     let at-loop-test = at-placed-at .before in
     let at-loop = at-loop-test .before in
     let at-start = at-loop .before in
@@ -106,80 +117,86 @@ turn o =
     let a = p .result .shape in
     let f = o .one-into in
     fold-turn h (at-loop-test .loop-test .taken) a (p .ensures .shape)
-    (difference-part (layerOf (at-start .args .second .now)) a (h .size) (h .within)) (f .result) (f .last .1 .1 .0) (f .ensures .0)
+    (difference-part (layerOf (at-start .args .second .now)) a (h .size) (h .within)) (f .result) (f .last .1 .1 .1 .1 .0) (f .ensures .0)
 
 -- the scratch area with its tail back
 scratched : (o : tie.After-one-into Inv-loop μ-loop)
-    → let at-loop = o .before .before .before .before .before in let p = at-loop .loop in
-    ScratchFor (putMid (memoryWidth * p .k) (length (p .out) - memoryWidth * p .k) (p .out) (o .one-into .last .1 .1 .0)) (putMid (memoryWidth * p .k) (length (p .scratch) - memoryWidth * p .k) (p .scratch) (o .one-into .last .1 .1 .1 .0))
+    → let at-loop = o .before .before .before .before .before .before in let p = at-loop .loop in
+    ScratchFor (putMid (memoryWidth * p .k) (length (p .out) - memoryWidth * p .k) (p .out) (o .one-into .last .1 .1 .1 .1 .0)) (putMid (memoryWidth * p .k) (length (p .scratch) - memoryWidth * p .k) (p .scratch) (o .one-into .last .1 .1 .1 .1 .1 .0))
 scratched o =
-    let at-loop = o .before .before .before .before .before in
+    let at-loop = o .before .before .before .before .before .before in
     let p = at-loop .loop in
     let f = o .one-into in
-    scratch-back (p .out) (p .scratch) (p .k) (p .inv .2) (fold-words (p .inv .0)) (f .last .1 .1 .0) (f .last .1 .1 .1 .0) (f .kept .1 .1 .0) (f .kept .1 .1 .1 .0) (f .ensures .1 .1)
+    scratch-back (p .out) (p .scratch) (p .k) (p .inv .2) (fold-words (p .inv .0)) (f .last .1 .1 .1 .1 .0) (f .last .1 .1 .1 .1 .1 .0) (f .kept .1 .1 .1 .1 .0) (f .kept .1 .1 .1 .1 .1 .0) (f .ensures .1 .1)
 
-add-t33 : tie.Need-add-t33 Inv-loop μ-loop
-add-t33 c =
+add-t36 : tie.Need-add-t36 Inv-loop μ-loop
+add-t36 c =
     let at-f = c .before .before .before .before in
     let at-one-into = at-f .before .before .before .before in
-    let at-loop-test = at-one-into .before .before .before .before in
+    let at-loop-test = at-one-into .before .before .before .before .before in
     let at-loop = at-loop-test .before in
     let at-start = at-loop .before in
     let u = within-no-room overlaysOfOne _ (at-one-into .one-into .result) (at-f .f .given .1) (at-one-into .one-into .ensures .1 .0) in
-    omega (arith, u, at-loop .loop .inv .1, at-loop-test .loop-test .taken, at-start .pre .0 .0 .few)
+    omega (arith, u, at-loop .loop .inv .1, at-loop-test .loop-test .taken, at-start .pre .0 .0 .layer .few)
 
 same-length : tie.Need-same-length Inv-loop μ-loop
 same-length c =
     let at-clear = c .before in
     let at-one-into = at-clear .before .before .before .before .before .before .before in
-    let at-loop = at-one-into .before .before .before .before .before in
-    at-clear .clear .kept .0 ∙ fold-long (at-loop .loop .inv .0) (at-one-into .one-into .last .1 .1 .0) (at-one-into .one-into .kept .1 .1 .0)
+    let at-loop = at-one-into .before .before .before .before .before .before in
+    at-clear .clear .kept .0 ∙ fold-long (at-loop .loop .inv .0) (at-one-into .one-into .last .1 .1 .1 .1 .0) (at-one-into .one-into .kept .1 .1 .1 .1 .0)
 
 same-length-2 : tie.Need-same-length-2 Inv-loop μ-loop
 same-length-2 c =
     let at-one-into = c .before .before .before .before .before .before .before .before in
-    let at-loop = at-one-into .before .before .before .before .before in
+    let at-loop = at-one-into .before .before .before .before .before .before in
     let at-start = at-loop .before in
-    scratched at-one-into .1 ∙ fold-long (at-loop .loop .inv .0) (at-one-into .one-into .last .1 .1 .0) (at-one-into .one-into .kept .1 .1 .0) ∙ sym (at-start .pre .1 .1)
+    scratched at-one-into .1 ∙ fold-long (at-loop .loop .inv .0) (at-one-into .one-into .last .1 .1 .1 .1 .0) (at-one-into .one-into .kept .1 .1 .1 .1 .0) ∙ sym (at-start .pre .1 .1 .1)
 
 returns : tie.Need-returns Inv-loop μ-loop
 returns c =
     let at-clear = c .before in
     let at-f = at-clear .before .before .before in
     let at-one-into = at-f .before .before .before .before in
-    let at-loop-test = at-one-into .before .before .before .before in
+    let at-loop-test = at-one-into .before .before .before .before .before in
     let at-loop = at-loop-test .before in
     let at-start = at-loop .before in
     let g = at-f .f .given .1 in
     let u = within-no-room overlaysOfOne _ (at-one-into .one-into .result) g (at-one-into .one-into .ensures .1 .0) in
-    let e = fold-long (at-loop .loop .inv .0) (at-one-into .one-into .last .1 .1 .0) (at-one-into .one-into .kept .1 .1 .0) in (
+    let e = fold-long (at-loop .loop .inv .0) (at-one-into .one-into .last .1 .1 .1 .1 .0) (at-one-into .one-into .kept .1 .1 .1 .1 .0) in (
       (turn at-one-into .full _ g, at-clear .clear .ensures ∙ ap (λ (n : ℕ). replicate n (pos 0)) e),
-      (omega (arith, u, at-loop .loop .inv .1, at-loop-test .loop-test .taken, at-start .pre .0 .0 .few), scratched at-one-into .0),
+      (omega (arith, u, at-loop .loop .inv .1, at-loop-test .loop-test .taken, at-start .pre .0 .0 .layer .few), scratched at-one-into .0),
     )
 
 add-k : tie.Need-add-k Inv-loop μ-loop
 add-k c =
     let at-f2 = c .before in
     let at-one-into = at-f2 .before .before .before .before in
-    let at-loop = at-one-into .before .before .before .before .before in
+    let at-loop = at-one-into .before .before .before .before .before .before in
     let at-start = at-loop .before in
-    omega (arith, turn at-one-into .fits _ _ (at-f2 .f2 .given .1), at-loop .loop .inv .0 .within, at-start .pre .0 .3)
+    omega (arith, turn at-one-into .fits _ _ (at-f2 .f2 .given .1), at-loop .loop .inv .0 .within, at-start .pre .1 .0 .1)
 
 add-made : tie.Need-add-made Inv-loop μ-loop
 add-made c =
     let at-f2 = c .before in
     let at-one-into = at-f2 .before .before .before .before in
-    let at-loop-test = at-one-into .before .before .before .before in
+    let at-loop-test = at-one-into .before .before .before .before .before in
     let at-loop = at-loop-test .before in
     let at-start = at-loop .before in
     let u = within-done overlaysOfOne _ _ (at-one-into .one-into .result) (at-f2 .f2 .given .1) (at-one-into .one-into .ensures .1 .0) in
-    omega (arith, u, at-loop .loop .inv .1, at-loop-test .loop-test .taken, at-start .pre .0 .0 .few)
+    omega (arith, u, at-loop .loop .inv .1, at-loop-test .loop-test .taken, at-start .pre .0 .0 .layer .few)
+
+add-i : tie.Need-add-i Inv-loop μ-loop
+add-i c =
+    let at-one-into = c .before .before .before .before .before in
+    let at-loop-test = at-one-into .before .before .before .before .before in
+    omega (arith, at-loop-test .loop-test .taken, at-loop-test .before .before .pre .0 .0 .layer .few)
 
 loop-again : tie.Need-loop-again Inv-loop μ-loop
 loop-again c =
     let at-f2 = c .before in
     let at-one-into = at-f2 .before .before .before .before in
-    let at-loop = at-one-into .before .before .before .before .before in
+    let at-loop = at-one-into .before .before .before .before .before .before in
     let g = at-f2 .f2 .given .1 in
     let u = within-done overlaysOfOne _ _ (at-one-into .one-into .result) g (at-one-into .one-into .ensures .1 .0) in
     (turn at-one-into .keeps _ _ g, omega (arith, u, at-loop .loop .inv .1), scratched at-one-into)
@@ -191,12 +208,12 @@ same-length-3 c =
 same-length-4 : tie.Need-same-length-4 Inv-loop μ-loop
 same-length-4 c =
     let at-loop = c .before in
-    at-loop .loop .inv .2 .1 ∙ at-loop .loop .inv .0 .long ∙ sym (at-loop .before .pre .1 .1)
+    at-loop .loop .inv .2 .1 ∙ at-loop .loop .inv .0 .long ∙ sym (at-loop .before .pre .1 .1 .1)
 
 returns-2 : tie.Need-returns-2 Inv-loop μ-loop
 returns-2 c =
     let h = c .before .loop .inv in
-    (fold-stop (h .0) (c .loop-test .left) _ refl, (omega (arith, h .1, h .0 .upto, c .before .before .pre .0 .0 .few), h .2 .0))
+    (fold-stop (h .0) (c .loop-test .left) _ refl, (omega (arith, h .1, h .0 .upto, c .before .before .pre .0 .0 .layer .few), h .2 .0))
 
 pub difference-into-spec : {M : Type 1} → statement M
 difference-into-spec =
@@ -206,6 +223,7 @@ difference-into-spec =
     μ-loop
     loop-holds
     placed-at-requires
+    load-box-requires
     mul-free
     mul-one-into
     sub-one-into
@@ -219,14 +237,14 @@ difference-into-spec =
     one-into-requires
     (λ c. search needs)
     (λ c κs. search needs)
-    add-t33
+    add-t36
     same-length
     same-length-2
     returns
     (λ c. search needs)
     add-k
     add-made
-    (λ c. search needs)
+    add-i
     (λ c. search needs)
     loop-again
     same-length-3

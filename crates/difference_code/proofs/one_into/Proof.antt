@@ -16,7 +16,7 @@ returns c =
     let at-start = at-one-from .before .before .before .before in
     let f = at-one-from .one-from in
     let a = at-start .args in
-    (one-start (length (a .out .now)) (a .room) (a .a .shape) (a .layer .now) (f .result) (f .last .1 .1 .1 .0) (f .ensures .0), (f .ensures .1 .0, f .ensures .1 .1))
+    (one-start (length (a .out .now)) (a .room) (a .a .shape) (a .layer .now) (f .result) (f .last .1 .1 .1 .1 .1 .0) (f .ensures .0), (f .ensures .1 .0, f .ensures .1 .1))
 
 more-overlays-requires : tie.Need-more-overlays-requires
 more-overlays-requires c κs =
@@ -26,7 +26,7 @@ more-overlays-requires c κs =
     let f = at-one-from2 .one-from2 in
     let v = at-first-overlapping .first-overlapping in
     let a = at-start .args in
-    (omega (arith, skip-upto (length (a .out .now)) (a .room) (a .a .shape) (a .layer .now) (v .result) (v .ensures), at-start .pre .0 .1 .few), within-least (maxRecords * (maxRecords - v .result) + 1) maxOverlays (f .result) (omega arith) (f .ensures .1 .0))
+    (omega (arith, skip-upto (length (a .out .now)) (a .room) (a .a .shape) (a .layer .now) (v .result) (v .ensures), at-start .pre .0 .1 .layer .few), within-least (maxRecords * (maxRecords - v .result) + 1) maxOverlays (f .result) (omega arith) (f .ensures .1 .0))
 
 returns-2 : tie.Need-returns-2
 returns-2 c =
@@ -39,10 +39,10 @@ returns-2 c =
     let v = at-first-overlapping .first-overlapping in
     let a = at-start .args in
     let u = skip-upto (length (a .out .now)) (a .room) (a .a .shape) (a .layer .now) (v .result) (v .ensures) in
-    let g = one-skip (length (a .out .now)) (a .room) (a .a .shape) (a .layer .now) (v .result) (v .ensures) (omega (arith, at-if1 .if1 .left)) (f .result) (f .last .1 .1 .1 .0) (f .ensures .0) in
+    let g = one-skip (length (a .out .now)) (a .room) (a .a .shape) (a .layer .now) (v .result) (v .ensures) (omega (arith, at-if1 .if1 .left)) (f .result) (f .last .1 .1 .1 .1 .1 .0) (f .ensures .0) in
     let m = maxRecords * (maxRecords - v .result) + 1 in
     let w = within-more m (v .result) (v .result) (f .result) (omega arith) (f .ensures .1 .0) in
-    (rw r g, (within-least (v .result + m) overlaysOfOne (c .more-overlays .result) (omega (arith, u, at-start .pre .0 .1 .few)) (subst (OverlaysWithin (v .result + m)) (sym r) w), f .ensures .1 .1))
+    (rw r g, (within-least (v .result + m) overlaysOfOne (c .more-overlays .result) (omega (arith, u, at-start .pre .0 .1 .layer .few)) (subst (OverlaysWithin (v .result + m)) (sym r) w), f .ensures .1 .1))
 
 pub one-into-spec : {M : Type 1} → statement M
 one-into-spec =

@@ -31,7 +31,7 @@ returns c =
     let h : pos 0 <ℤ det (s .l) (s .m) = lt-yes (pos 0) (det (s .l) (s .m)) (cc) in (
       det→crosses (s .l) (s .m) (λ e. omega (zarith, e)),
       (λ j. record { num = k .numer j; den = k .det j }) ∙ sym (meet-rising (s .l) (s .m) h),
-      record { num-small = k .numer-small; den-small = k .det-small },
+      record { num-small = k .small .numer-small; den-small = k .small .det-small },
     )
 
 less-requires-2 : tie.Need-less-requires-2
@@ -40,12 +40,12 @@ less-requires-2 c κs = tt
 neg-requires : tie.Need-neg-requires
 neg-requires c κs =
     let at-meeting-of = c .before .before .before .before .before .before .before in
-    omega (arith, at-meeting-of .meeting-of .ensures .numer-small)
+    omega (arith, at-meeting-of .meeting-of .ensures .small .numer-small)
 
 neg-requires-2 : tie.Need-neg-requires-2
 neg-requires-2 c κs =
     let at-meeting-of = c .before .before .before .before .before .before .before .before in
-    omega (arith, at-meeting-of .meeting-of .ensures .det-small)
+    omega (arith, at-meeting-of .meeting-of .ensures .small .det-small)
 
 returns-2 : tie.Need-returns-2
 returns-2 c =
@@ -56,7 +56,7 @@ returns-2 c =
     let d = c .neg2 .ensures .0 ∙ ap ⊝_ (k .det) in (
       det→crosses (s .l) (s .m) (λ e. omega (zarith, e)),
       (λ j. record { num = n j; den = d j }) ∙ sym (meet-falling (s .l) (s .m) h),
-      record { num-small = omega (arith, c .before .neg .ensures .1, k .numer-small); den-small = omega (arith, c .neg2 .ensures .1, k .det-small) },
+      record { num-small = omega (arith, c .before .neg .ensures .1, k .small .numer-small); den-small = omega (arith, c .neg2 .ensures .1, k .small .det-small) },
     )
 
 returns-3 : tie.Need-returns-3

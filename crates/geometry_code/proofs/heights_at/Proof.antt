@@ -8,7 +8,7 @@ meeting-of-requires c κs = (c .pre .0, c .pre .1)
 
 compare-products-requires : tie.Need-compare-products-requires
 compare-products-requires c κs =
-    let k = c .meeting-of .ensures in
+    let k = c .meeting-of .ensures .small in
     let x = c .before .pre .2 in
     ((x .num-small, k .det-small), (k .numer-small, x .den-small))
 

@@ -73,8 +73,10 @@ returns c =
     record {
       det = d;
       numer = n;
-      det-small = subst (λ (z : ℤ). natAbs z ≤ detBound coordinateLimit) (sym d) (w .0);
-      numer-small = subst (λ (z : ℤ). natAbs z ≤ numerBound coordinateLimit) (sym n) (w .1);
+      small = record {
+        det-small = subst (λ (z : ℤ). natAbs z ≤ detBound coordinateLimit) (sym d) (w .0);
+        numer-small = subst (λ (z : ℤ). natAbs z ≤ numerBound coordinateLimit) (sym n) (w .1);
+      };
     }
 
 pub meeting-of-spec : {M : Type 1} → statement M

@@ -1,7 +1,7 @@
 -- Before turn k: of the column's trapezoids with the tag n are in `out`, all but those whose top is a side from number k of the order on.
 -- The next has the side `lower` as its bottom, and lies in a and in b as `inside_a` and `inside_b` say.
-use mathlib.Core.Path.{_≡_, sym, _∙_, subst}
-use Prim.Native.Nat.{ℕ, _*_, _-_}
+use mathlib.Core.Path.{_≡_, sym, _∙_}
+use Prim.Native.Nat.{_*_, _-_}
 use native.Mathlib.Omega.{arith}
 use lib.ListN.{length}
 use lib.IntN.{pos}
@@ -10,70 +10,59 @@ use borrow.Author.Tests.{not-true, not-false}
 use borrow.Rule.Slice.PartMut.{putMid}
 use Rattle.records.specs.Limits.{memoryWidth}
 use Rattle.records.proofs.Buffer.{blank-of}
-use Rattle.geometry.specs.Limit.{coordinateLimit, OnGrid}
 use Rattle.trapezoids_code.proofs.Writing.{write-borrowed}
-use Rattle.columns_code.specs.Order.{lineOfSide}
-use Rattle.columns_code.proofs.SideOrder.{side-grid}
-use Rattle.overlay_code.proofs.Stacking.{Stacking, stack-none, stack-start, stack-last, stack-end, stack-full, stack-upto, stack-next}
+use Rattle.overlay_code.proofs.Stacking.{below-by, Stacking, stack-none, stack-start, stack-last, stack-end, stack-full, stack-upto, stack-next}
 use Rattle.overlay_code.proofs.fill_column.Statement.{statement}
 use Rattle.overlay_code.proofs.fill_column.Tie as tie
 
 abbrev Inv-loop : tie.InvT-loop
-Inv-loop a b tag out₀ room order in-a in-b at left right z0 lower₀ inside-a₀ inside-b₀ n₀ k₀ out lower inside-a inside-b n k =
+Inv-loop a b tag left right o out₀ room order in-a in-b z0 lower₀ inside-a₀ inside-b₀ n₀ k₀ out lower inside-a inside-b n k =
     Stacking tag a b left right in-a in-b (length out₀) room order out lower inside-a inside-b n k
 
 abbrev μ-loop : tie.MeasureT-loop
-μ-loop a b tag out₀ room order in-a in-b at left right z0 lower₀ inside-a₀ inside-b₀ n₀ k₀ out lower inside-a inside-b n k =
+μ-loop a b tag left right o out₀ room order in-a in-b z0 lower₀ inside-a₀ inside-b₀ n₀ k₀ out lower inside-a inside-b n k =
     4 - k
 
 returns : tie.Need-returns Inv-loop μ-loop
 returns c =
     let at-present = c .before in
-    let at-start = at-present .before .before .before .before .before in
+    let at-start = at-present .before .before in
     let a = at-start .args in
     let e = not-true (at-present .present .result) (c .if1 .taken) in
-    stack-none (a .tag) (a .a) (a .b) (a .p .base) (a .q .base) (a .c .in_a) (a .c .in_b) (a .c .order) (at-start .pre .3) (a .out .now) (a .room) (at-start .pre .4) (sym (at-present .present .ensures) ∙ e)
+    stack-none (a .tag) (a .a) (a .b) (a .left) (a .right) (a .c .in_a) (a .c .in_b) (a .c .order) (at-start .pre .1) (a .out .now) (a .room) (at-start .pre .2) (sym (at-present .present .ensures) ∙ e)
 
 loop-holds : tie.Need-loop-holds Inv-loop μ-loop
 loop-holds c =
     let at-pass = c .before in
     let at-if1 = at-pass .before in
     let at-present = at-if1 .before in
-    let at-start = at-present .before .before .before .before .before in
+    let at-start = at-present .before .before in
     let a = at-start .args in
     let e = not-false (at-present .present .result) (at-if1 .if1 .left) in
-    stack-start (a .tag) (a .a) (a .b) (a .p .base) (a .q .base) (a .c .in_a) (a .c .in_b) (a .c .order) (at-start .pre .3) (a .out .now) (a .room) (at-start .pre .4) (sym (at-present .present .ensures) ∙ e) _ _ (at-pass .pass .ensures) (c .pass2 .ensures)
+    stack-start (a .tag) (a .a) (a .b) (a .left) (a .right) (a .c .in_a) (a .c .in_b) (a .c .order) (at-start .pre .1) (a .out .now) (a .room) (at-start .pre .2) (sym (at-present .present .ensures) ∙ e) _ _ (at-pass .pass .ensures) (c .pass2 .ensures)
 
 returns-2 : tie.Need-returns-2 Inv-loop μ-loop
 returns-2 c =
     let e = not-true (c .before .present2 .result) (c .if2 .taken) in
     stack-end _ _ _ _ _ _ _ (c .before .before .before .loop .inv) (c .before .before .loop-test .taken) (sym (c .before .present2 .ensures) ∙ e)
 
-is-below-requires : tie.Need-is-below-requires Inv-loop μ-loop
-is-below-requires c κs =
-    let at-line-of-side = c .before in
-    let at-start = at-line-of-side .before .before .before .before .before .before .before .before .before .before .before .before .before in
-    let a = at-start .args in
-    let g : (i : ℕ) → OnGrid coordinateLimit (lineOfSide (a .a) (a .b) i) = λ i. side-grid (a .a) (a .b) i (at-start .pre .0) (at-start .pre .1) in
-    (subst (OnGrid coordinateLimit) (sym (at-line-of-side .line-of-side .ensures)) (g _), subst (OnGrid coordinateLimit) (sym (c .line-of-side2 .ensures)) (g _), at-start .pre .2 .small)
-
 mul-put-if : tie.Need-mul-put-if Inv-loop μ-loop
 mul-put-if c =
-    let at-loop = c .before .before .before .before .before .before .before in
-    let at-start = at-loop .before .before .before .before .before .before .before .before .before in
+    let at-loop = c .before .before .before .before .before .before .before .before in
+    let at-start = at-loop .before .before .before .before .before .before in
     let h = at-loop .loop .inv .writing in
-    omega (arith, h .upto, h .wide, at-start .good .1 .1 .1 .1 .1 .1 .0)
+    omega (arith, h .upto, h .wide, at-start .good .1 .1 .1 .1 .1 .1 .1 .0)
 
 mul-put-if-2 : tie.Need-mul-put-if-2 Inv-loop μ-loop
 mul-put-if-2 c =
-    let at-loop = c .before .before .before .before .before .before .before in
-    let at-start = at-loop .before .before .before .before .before .before .before .before .before in
+    let at-loop = c .before .before .before .before .before .before .before .before in
+    let at-start = at-loop .before .before .before .before .before .before in
     let h = at-loop .loop .inv .writing in
-    omega (arith, h .upto, h .wide, at-start .good .1 .1 .1 .1 .1 .1 .0)
+    omega (arith, h .upto, h .wide, at-start .good .1 .1 .1 .1 .1 .1 .1 .0)
 
 put-if-requires : tie.Need-put-if-requires Inv-loop μ-loop
 put-if-requires c κs =
-    let at-loop = c .before .before .before .before .before .before .before .before in
+    let at-loop = c .before .before .before .before .before .before .before .before .before in
     write-borrowed (at-loop .loop .inv .writing)
 
 same-length-2 : tie.Need-same-length-2 Inv-loop μ-loop
@@ -85,35 +74,37 @@ returns-3 c =
     let at-enum-told = at-clear .before .before in
     let at-put-if = at-enum-told .before .before .before in
     let at-wanted = at-put-if .before .before in
-    let at-is-below = at-wanted .before in
-    let at-line-of-side2 = at-is-below .before in
+    let at-is-less = at-wanted .before in
+    let at-order-of = at-is-less .before in
+    let at-line-of-side2 = at-order-of .before in
     let at-line-of-side = at-line-of-side2 .before in
     let at-if2 = at-line-of-side .before in
     let at-present2 = at-if2 .before in
     let at-loop-test = at-present2 .before in
     let at-loop = at-loop-test .before in
-    let at-start = at-loop .before .before .before .before .before .before .before .before .before in
+    let at-start = at-loop .before .before .before .before .before .before in
     let e = not-false (at-present2 .present2 .result) (at-if2 .if2 .left) in
     let n : length (at-clear .clear .last .0) ≡ length (at-start .args .out .now) = same-length-2 c in
     let z = blank-of (pos 0) (at-clear .clear .last .0) (length (putMid (memoryWidth * at-loop .loop .n) (length (at-loop .loop .out) - memoryWidth * at-loop .loop .n) (at-loop .loop .out) (at-put-if .put-if .last .1 .1 .0))) (at-clear .clear .ensures) in
-    (stack-full _ _ _ _ _ _ _ (at-loop .loop .inv) (at-loop-test .loop-test .taken) (sym (at-present2 .present2 .ensures) ∙ e) _ _ _ _ _ (at-line-of-side .line-of-side .ensures) (at-line-of-side2 .line-of-side2 .ensures) (at-start .pre .2 .is) (at-is-below .is-below .ensures) (at-wanted .wanted .ensures) _ _ (at-put-if .put-if .ensures) (at-enum-told .enum-told .given .1), rw (← n) z)
+    (stack-full _ _ _ _ _ _ _ (at-loop .loop .inv) (at-loop-test .loop-test .taken) (sym (at-present2 .present2 .ensures) ∙ e) _ _ _ _ (at-line-of-side .line-of-side .ensures) (at-line-of-side2 .line-of-side2 .ensures) (below-by _ _ _ (at-is-less .is-less .ensures) (at-order-of .order-of .ensures _ _ _ (at-start .pre .0))) (at-wanted .wanted .ensures) _ _ (at-put-if .put-if .ensures) (at-enum-told .enum-told .given .1), rw (← n) z)
 
 add-n : tie.Need-add-n Inv-loop μ-loop
 add-n c =
     let at-f = c .before in
     let at-put-if = at-f .before .before .before in
     let at-wanted = at-put-if .before .before in
-    let at-is-below = at-wanted .before in
-    let at-line-of-side2 = at-is-below .before in
+    let at-is-less = at-wanted .before in
+    let at-order-of = at-is-less .before in
+    let at-line-of-side2 = at-order-of .before in
     let at-line-of-side = at-line-of-side2 .before in
     let at-if2 = at-line-of-side .before in
     let at-present2 = at-if2 .before in
     let at-loop-test = at-present2 .before in
     let at-loop = at-loop-test .before in
-    let at-start = at-loop .before .before .before .before .before .before .before .before .before in
+    let at-start = at-loop .before .before .before .before .before .before in
     let e = not-false (at-present2 .present2 .result) (at-if2 .if2 .left) in
-    let k = stack-upto _ _ _ _ _ _ _ (at-loop .loop .inv) (at-loop-test .loop-test .taken) (sym (at-present2 .present2 .ensures) ∙ e) _ _ _ _ _ (at-line-of-side .line-of-side .ensures) (at-line-of-side2 .line-of-side2 .ensures) (at-start .pre .2 .is) (at-is-below .is-below .ensures) (at-wanted .wanted .ensures) _ _ (at-put-if .put-if .ensures) _ (at-f .f .given .1) in
-    omega (arith, k, at-loop .loop .inv .writing .wide, at-start .good .1 .1 .1 .1 .1 .1 .0)
+    let k = stack-upto _ _ _ _ _ _ _ (at-loop .loop .inv) (at-loop-test .loop-test .taken) (sym (at-present2 .present2 .ensures) ∙ e) _ _ _ _ (at-line-of-side .line-of-side .ensures) (at-line-of-side2 .line-of-side2 .ensures) (below-by _ _ _ (at-is-less .is-less .ensures) (at-order-of .order-of .ensures _ _ _ (at-start .pre .0))) (at-wanted .wanted .ensures) _ _ (at-put-if .put-if .ensures) _ (at-f .f .given .1) in
+    omega (arith, k, at-loop .loop .inv .writing .wide, at-start .good .1 .1 .1 .1 .1 .1 .1 .0)
 
 loop-again : tie.Need-loop-again Inv-loop μ-loop
 loop-again c =
@@ -122,16 +113,17 @@ loop-again c =
     let at-f = at-raised .before .before in
     let at-put-if = at-f .before .before .before in
     let at-wanted = at-put-if .before .before in
-    let at-is-below = at-wanted .before in
-    let at-line-of-side2 = at-is-below .before in
+    let at-is-less = at-wanted .before in
+    let at-order-of = at-is-less .before in
+    let at-line-of-side2 = at-order-of .before in
     let at-line-of-side = at-line-of-side2 .before in
     let at-if2 = at-line-of-side .before in
     let at-present2 = at-if2 .before in
     let at-loop-test = at-present2 .before in
     let at-loop = at-loop-test .before in
-    let at-start = at-loop .before .before .before .before .before .before .before .before .before in
+    let at-start = at-loop .before .before .before .before .before .before in
     let e = not-false (at-present2 .present2 .result) (at-if2 .if2 .left) in
-    stack-next _ _ _ _ _ _ _ (at-loop .loop .inv) (at-loop-test .loop-test .taken) (sym (at-present2 .present2 .ensures) ∙ e) _ _ _ _ _ (at-line-of-side .line-of-side .ensures) (at-line-of-side2 .line-of-side2 .ensures) (at-start .pre .2 .is) (at-is-below .is-below .ensures) (at-wanted .wanted .ensures) _ _ (at-put-if .put-if .ensures) _ (at-f .f .given .1) _ _ _ (at-raised .raised .ensures) (at-pass3 .pass3 .ensures) (c .pass4 .ensures)
+    stack-next _ _ _ _ _ _ _ (at-loop .loop .inv) (at-loop-test .loop-test .taken) (sym (at-present2 .present2 .ensures) ∙ e) _ _ _ _ (at-line-of-side .line-of-side .ensures) (at-line-of-side2 .line-of-side2 .ensures) (below-by _ _ _ (at-is-less .is-less .ensures) (at-order-of .order-of .ensures _ _ _ (at-start .pre .0))) (at-wanted .wanted .ensures) _ _ (at-put-if .put-if .ensures) _ (at-f .f .given .1) _ _ _ (at-raised .raised .ensures) (at-pass3 .pass3 .ensures) (c .pass4 .ensures)
 
 returns-4 : tie.Need-returns-4 Inv-loop μ-loop
 returns-4 c =
@@ -156,7 +148,8 @@ fill-column-spec =
     returns-2
     (λ c κs. search needs)
     (λ c κs. search needs)
-    is-below-requires
+    (λ c κs. search needs)
+    (λ c κs. search needs)
     (λ c κs. search needs)
     mul-put-if
     mul-put-if-2

@@ -1,63 +1,182 @@
-use mathlib.Core.Path.{sym, _∙_}
+use mathlib.Core.Path.{sym}
+use Prim.Native.Nat.{_*_, _-_, _≤_}
+use native.Mathlib.Omega.{arith}
+use lib.ListN.{length}
 use borrow.Author.Needs.{needs}
-use borrow.Author.Tests.{not-true}
-use Rattle.remainder_code.proofs.Moving.{standing-length, standing-fit, standing-folded, remainder-length, remainder-fit, remainder-count, remainder-borrowed, remainder-folded, remainder-back}
+use borrow.Rule.Slice.PartMut.{same-len-mid}
+use Rattle.records.specs.Limits.{memoryWidth}
+use Rattle.remainder_code.proofs.Leading.{front-length, leading-fits, leading-fit, scratch-tail, back-blank}
+use Rattle.remainder_code.proofs.Standing.{stand-upto, stand-fits, stand-all, stand-remaining, full-few, done-few, back-length, stand-full, stand-done}
 use Rattle.remainder_code.proofs.reduce.Statement.{statement}
 use Rattle.remainder_code.proofs.reduce.Tie as tie
 
-slice-aggregate-any-overlapping : tie.Need-slice-aggregate-any-overlapping
-slice-aggregate-any-overlapping c =
+slice-aggregate-first-overlapped : tie.Need-slice-aggregate-first-overlapped
+slice-aggregate-first-overlapped c =
     let at-start = c .before in
     let a = at-start .args in
-    standing-length (a .out .now) (a .n) (a .room) (at-start .pre .0 .1)
+    sym (front-length (a .out .now) (a .n) (leading-fits (a .out .now) (a .n) (a .room) (at-start .pre .0 .1)))
 
-any-overlapping-requires : tie.Need-any-overlapping-requires
-any-overlapping-requires c κs =
+first-overlapped-requires : tie.Need-first-overlapped-requires
+first-overlapped-requires c κs =
     let at-start = c .before in
     let a = at-start .args in
-    (standing-fit (a .out .now) (a .n) (a .room) (at-start .pre .0 .1), at-start .pre .0 .0)
+    (leading-fit (a .out .now) (a .n) (a .room) (at-start .pre .0 .1), at-start .pre .0 .0)
 
 returns : tie.Need-returns
 returns c =
-    let at-start = c .before .before .before in
-    let v = c .before .any-overlapping in
+    let at-first-overlapped = c .before in
+    let at-start = at-first-overlapped .before .before in
     let a = at-start .args in
-    (standing-folded (a .out .now) (a .n) (a .room) (at-start .pre .0 .1) (a .b .shape) (sym (v .ensures) ∙ not-true (v .result) (c .if1 .taken)), at-start .pre .1 .0)
+    let v = at-first-overlapped .first-overlapped in
+    (stand-all (a .out .now) (a .n) (a .room) (at-start .pre .0 .1) (a .b .shape) (v .result) (v .ensures) (c .if1 .taken), at-start .pre .1 .0)
 
-slice-aggregate-minus-into : tie.Need-slice-aggregate-minus-into
-slice-aggregate-minus-into c =
-    let at-move-into = c .before .before .before in
-    let at-start = at-move-into .before .before .before .before .before .before in
-    let m = at-move-into .move-into in
+-- those that stand
+upto : (o : tie.After-first-overlapped) → let at-start = o .before .before in o .first-overlapped .result ≤ at-start .args .n
+upto o =
+    let at-start = o .before .before in
     let a = at-start .args in
-    remainder-length (a .out .now) (a .scratch .now) (m .last .0) (m .last .1 .0) (a .n) (a .room) (at-start .pre .0 .1) (at-start .pre .1 .0) (at-start .pre .1 .1) (m .ensures .0) (m .ensures .1)
+    let v = o .first-overlapped in
+    stand-upto (a .out .now) (a .n) (a .room) (at-start .pre .0 .1) (a .b .shape) (v .result) (v .ensures)
 
-minus-into-requires : tie.Need-minus-into-requires
-minus-into-requires c κs =
-    let at-move-into = c .before .before .before .before in
-    let at-start = at-move-into .before .before .before .before .before .before in
-    let m = at-move-into .move-into in
+fits : (o : tie.After-first-overlapped) → let at-start = o .before .before in memoryWidth * o .first-overlapped .result ≤ length (at-start .args .out .now)
+fits o =
+    let at-start = o .before .before in
     let a = at-start .args in
-    ((remainder-fit (a .out .now) (a .scratch .now) (m .last .0) (m .last .1 .0) (a .n) (a .room) (at-start .pre .0 .1) (at-start .pre .1 .0) (at-start .pre .1 .1) (m .ensures .0) (m .ensures .1), remainder-count (a .out .now) (a .scratch .now) (m .last .0) (m .last .1 .0) (a .n) (a .room) (at-start .pre .0 .1) (at-start .pre .1 .0) (at-start .pre .1 .1) (m .ensures .0) (m .ensures .1)), (at-start .pre .0 .0, remainder-borrowed (a .out .now) (a .scratch .now) (m .last .0) (m .last .1 .0) (a .n) (a .room) (at-start .pre .0 .1) (at-start .pre .1 .0) (at-start .pre .1 .1) (m .ensures .0) (m .ensures .1)))
+    let v = o .first-overlapped in
+    stand-fits (a .out .now) (a .n) (a .room) (at-start .pre .0 .1) (a .b .shape) (v .result) (v .ensures)
+
+mul-start : tie.Need-mul-start
+mul-start c =
+    let at-first-overlapped = c .before in
+    let at-start = at-first-overlapped .before .before in
+    omega (arith, fits at-first-overlapped, at-start .good .1 .1 .0)
+
+sub-replace : tie.Need-sub-replace
+sub-replace c =
+    omega (arith, upto (c .before))
+
+mul-replace : tie.Need-mul-replace
+mul-replace c =
+    let at-first-overlapped = c .before in
+    let at-start = at-first-overlapped .before .before in
+    omega (arith, fits at-first-overlapped, at-start .good .1 .1 .0)
+
+sub-replace-2 : tie.Need-sub-replace-2
+sub-replace-2 c =
+    omega (arith, fits (c .before))
+
+part-replace-start : tie.Need-part-replace-start
+part-replace-start c =
+    omega (arith, fits (c .before))
+
+mul-replace-2 : tie.Need-mul-replace-2
+mul-replace-2 c =
+    let at-first-overlapped = c .before .before in
+    let at-start = at-first-overlapped .before .before in
+    omega (arith, fits at-first-overlapped, at-start .good .1 .1 .0)
+
+sub-replace-3 : tie.Need-sub-replace-3
+sub-replace-3 c =
+    let at-first-overlapped = c .before .before in
+    let at-start = at-first-overlapped .before .before in
+    omega (arith, fits at-first-overlapped, at-start .pre .1 .1)
+
+part-replace-start-2 : tie.Need-part-replace-start-2
+part-replace-start-2 c =
+    let at-first-overlapped = c .before .before in
+    let at-start = at-first-overlapped .before .before in
+    omega (arith, fits at-first-overlapped, at-start .pre .1 .1)
+
+sub-replace-4 : tie.Need-sub-replace-4
+sub-replace-4 c =
+    let at-first-overlapped = c .before .before .before in
+    let at-start = at-first-overlapped .before .before in
+    omega (arith, upto at-first-overlapped, at-start .pre .0 .1 .within)
+
+replace-requires : tie.Need-replace-requires
+replace-requires c κs =
+    let at-first-overlapped = c .before .before .before in
+    let at-start = at-first-overlapped .before .before in
+    let a = at-start .args in
+    let v = at-first-overlapped .first-overlapped in
+    ((at-start .pre .0 .0, stand-remaining (a .out .now) (a .n) (a .room) (at-start .pre .0 .1) (a .b .shape) (v .result) (v .ensures)), scratch-tail (a .out .now) (a .scratch .now) (v .result) (at-start .pre .1))
+
+slice-relend-prefix-clear : tie.Need-slice-relend-prefix-clear
+slice-relend-prefix-clear c =
+    let at-replace = c .before .before .before .before .before in
+    let at-first-overlapped = at-replace .before .before .before .before in
+    let at-start = at-first-overlapped .before .before in
+    let a = at-start .args in
+    let v = at-first-overlapped .first-overlapped in
+    let f = at-replace .replace in
+    let e = memoryWidth * v .result in
+    omega (arith, fits at-first-overlapped, same-len-mid e (length (a .out .now) - e) (a .out .now) (f .last .1 .1 .0) (f .kept .1 .1 .0))
 
 slice-aggregate-clear : tie.Need-slice-aggregate-clear
 slice-aggregate-clear c =
-    let at-move-into = c .before .before .before .before .before .before .before in
-    let at-start = at-move-into .before .before .before .before .before .before in
-    let m = at-move-into .move-into in
+    let at-replace = c .before .before .before .before .before .before in
+    let at-first-overlapped = at-replace .before .before .before .before in
+    let at-start = at-first-overlapped .before .before in
     let a = at-start .args in
-    remainder-length (a .out .now) (a .scratch .now) (m .last .0) (m .last .1 .0) (a .n) (a .room) (at-start .pre .0 .1) (at-start .pre .1 .0) (at-start .pre .1 .1) (m .ensures .0) (m .ensures .1)
+    let v = at-first-overlapped .first-overlapped in
+    let f = at-replace .replace in
+    back-length (a .out .now) (a .n) (a .room) (at-start .pre .0 .1) (a .b .shape) (v .result) (v .ensures) (f .result) (f .last .1 .1 .0) (f .ensures .0)
+
+add-t31 : tie.Need-add-t31
+add-t31 c =
+    let at-f = c .before .before .before .before in
+    let at-replace = at-f .before .before .before .before in
+    let at-first-overlapped = at-replace .before .before .before .before in
+    let at-start = at-first-overlapped .before .before in
+    let a = at-start .args in
+    let v = at-first-overlapped .first-overlapped in
+    let f = at-replace .replace in
+    omega (arith, full-few (a .out .now) (a .n) (a .room) (at-start .pre .0 .1) (a .b .shape) (v .result) (v .ensures) (f .result) (f .last .1 .1 .0) (f .ensures .0) _ (at-f .f .given .1), at-start .good .1 .0)
+
+add-t32 : tie.Need-add-t32
+add-t32 c =
+    let at-f2 = c .before in
+    let at-replace = at-f2 .before .before .before .before in
+    let at-first-overlapped = at-replace .before .before .before .before in
+    let at-start = at-first-overlapped .before .before in
+    let a = at-start .args in
+    let v = at-first-overlapped .first-overlapped in
+    let f = at-replace .replace in
+    omega (arith, done-few (a .out .now) (a .n) (a .room) (at-start .pre .0 .1) (a .b .shape) (v .result) (v .ensures) (f .result) (f .last .1 .1 .0) (f .ensures .0) _ _ (at-f2 .f2 .given .1) .0, at-start .pre .0 .1 .wide, at-start .good .1 .1 .0)
+
+add-t33 : tie.Need-add-t33
+add-t33 c =
+    let at-f2 = c .before in
+    let at-replace = at-f2 .before .before .before .before in
+    let at-first-overlapped = at-replace .before .before .before .before in
+    let at-start = at-first-overlapped .before .before in
+    let a = at-start .args in
+    let v = at-first-overlapped .first-overlapped in
+    let f = at-replace .replace in
+    omega (arith, done-few (a .out .now) (a .n) (a .room) (at-start .pre .0 .1) (a .b .shape) (v .result) (v .ensures) (f .result) (f .last .1 .1 .0) (f .ensures .0) _ _ (at-f2 .f2 .given .1) .1, at-start .good .1 .0)
 
 returns-2 : tie.Need-returns-2
 returns-2 c =
     let at-clear = c .before in
-    let at-minus-into = at-clear .before .before .before in
-    let at-move-into = at-minus-into .before .before .before .before .before in
-    let at-start = at-move-into .before .before .before .before .before .before in
-    let m = at-move-into .move-into in
+    let at-f = at-clear .before .before .before in
+    let at-replace = at-f .before .before .before .before in
+    let at-first-overlapped = at-replace .before .before .before .before in
+    let at-start = at-first-overlapped .before .before in
     let a = at-start .args in
-    let f = at-minus-into .minus-into in
-    (remainder-folded (a .out .now) (a .scratch .now) (m .last .0) (m .last .1 .0) (a .n) (a .room) (at-start .pre .0 .1) (at-start .pre .1 .0) (at-start .pre .1 .1) (m .ensures .0) (m .ensures .1) (a .b .shape) (f .result) (f .last .1 .1 .0) (f .ensures), remainder-back (a .out .now) (a .scratch .now) (m .last .0) (m .last .1 .0) (a .n) (a .room) (at-start .pre .0 .1) (at-start .pre .1 .0) (at-start .pre .1 .1) (m .ensures .0) (m .ensures .1) (at-clear .clear .last .0) (at-clear .clear .ensures))
+    let v = at-first-overlapped .first-overlapped in
+    let f = at-replace .replace in
+    (stand-full (a .out .now) (a .n) (a .room) (at-start .pre .0 .1) (a .b .shape) (v .result) (v .ensures) (f .result) (f .last .1 .1 .0) (f .ensures .0) _ (at-f .f .given .1) (at-clear .clear .last .0) (at-clear .clear .ensures), back-blank (a .scratch .now) (v .result) (omega (arith, fits at-first-overlapped, at-start .pre .1 .1)) (f .last .1 .1 .1 .0) (at-start .pre .1 .0) (f .ensures .1))
+
+returns-3 : tie.Need-returns-3
+returns-3 c =
+    let at-f2 = c .before in
+    let at-replace = at-f2 .before .before .before .before in
+    let at-first-overlapped = at-replace .before .before .before .before in
+    let at-start = at-first-overlapped .before .before in
+    let a = at-start .args in
+    let v = at-first-overlapped .first-overlapped in
+    let f = at-replace .replace in
+    (stand-done (a .out .now) (a .n) (a .room) (at-start .pre .0 .1) (a .b .shape) (v .result) (v .ensures) (f .result) (f .last .1 .1 .0) (f .ensures .0) _ _ (at-f2 .f2 .given .1), back-blank (a .scratch .now) (v .result) (omega (arith, fits at-first-overlapped, at-start .pre .1 .1)) (f .last .1 .1 .1 .0) (at-start .pre .1 .0) (f .ensures .1))
 
 pub reduce-spec : {M : Type 1} → statement M
 reduce-spec =
@@ -65,17 +184,33 @@ reduce-spec =
     (tie.spec
     (λ c. search needs)
     (λ c. search needs)
-    slice-aggregate-any-overlapping
-    any-overlapping-requires
+    slice-aggregate-first-overlapped
+    first-overlapped-requires
     (λ c. search needs)
     returns
-    (λ c κs. search needs)
+    mul-start
+    sub-replace
+    mul-replace
+    sub-replace-2
+    part-replace-start
     (λ c. search needs)
-    slice-aggregate-minus-into
-    minus-into-requires
+    mul-replace-2
+    sub-replace-3
+    part-replace-start-2
     (λ c. search needs)
+    sub-replace-4
+    replace-requires
+    (λ c. search needs)
+    slice-relend-prefix-clear
     slice-aggregate-clear
     (λ c κs. search needs)
+    add-t31
+    (λ c. search needs)
+    add-t32
+    add-t33
     (λ c. search needs)
     (λ c. search needs)
-    returns-2)
+    returns-2
+    (λ c. search needs)
+    (λ c. search needs)
+    returns-3)

@@ -1,0 +1,6 @@
+pub mod Rounding
+pub mod Magnitudes
+pub mod Branches
+pub mod Slices
+pub mod Layers
+pub mod Small

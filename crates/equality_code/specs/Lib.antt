@@ -1,0 +1,2 @@
+-- What the equality test answers, by the definitions.
+pub mod Code

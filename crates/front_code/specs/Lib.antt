@@ -1,0 +1,2 @@
+-- What the functions take and write, by the definitions.
+pub mod Code
