@@ -26,14 +26,14 @@ box-ends {t} h = record { low = lowest-low (t .bottom) (h .grid .1 .1 .1 .1 .0) 
 
 -- ---- the four ways of a test
 four : (before : ℤ → ℤ → Bool) (e f : Box) {C : Type 0} → T (apartBy before e f)
-    → (T (before (e .right .v) (f .left .v)) → C) → (T (before (f .right .v) (e .left .v)) → C) → (T (before (e .top .v) (f .bottom .v)) → C) → (T (before (f .top .v) (e .bottom .v)) → C) → C
+    → (T (before (f .right .v) (e .left .v)) → C) → (T (before (e .right .v) (f .left .v)) → C) → (T (before (f .top .v) (e .bottom .v)) → C) → (T (before (e .top .v) (f .bottom .v)) → C) → C
 unfolding apartBy
 four before e f h a b c d =
-    elim (or-yes (before (e .right .v) (f .left .v)) _ h) [
+    elim (or-yes (before (f .right .v) (e .left .v)) _ h) [
       | inl k ↦ a k
-      | inr k ↦ elim (or-yes (before (f .right .v) (e .left .v)) _ k) [
+      | inr k ↦ elim (or-yes (before (e .right .v) (f .left .v)) _ k) [
         | inl m ↦ b m
-        | inr m ↦ elim (or-yes (before (e .top .v) (f .bottom .v)) _ m) [ inl n ↦ c n | inr n ↦ d n ]
+        | inr m ↦ elim (or-yes (before (f .top .v) (e .bottom .v)) _ m) [ inl n ↦ c n | inr n ↦ d n ]
       ]
     ]
 
@@ -71,18 +71,18 @@ module _ (P : Point) (hP : IsPoint P) where
   not-in-both : (e f : Box) → Ends e → Ends f → T (boxesApart e f) → InBox P e → InBox P f → ⊥
   not-in-both e f he hf h k m =
       four ltZ e f h
-      (λ t. no-lt (ltZ-yes t) (k .right) (m .left))
       (λ t. no-lt (ltZ-yes t) (m .right) (k .left))
-      (λ t. over e f he hf (ltZ-yes t) k m)
+      (λ t. no-lt (ltZ-yes t) (k .right) (m .left))
       (λ t. over f e hf he (ltZ-yes t) m k)
+      (λ t. over e f he hf (ltZ-yes t) k m)
 
   pub not-inside-both : (e f : Box) → Ends e → Ends f → T (boxesDisjoint e f) → Inside P e → Inside P f → ⊥
   not-inside-both e f he hf h k m =
       four leZ e f h
-      (λ t. no-le (leZ-yes t) (k .right) (m .left))
       (λ t. no-le (leZ-yes t) (m .right) (k .left))
-      (λ t. at-or-over e f he hf (leZ-yes t) k m)
+      (λ t. no-le (leZ-yes t) (k .right) (m .left))
       (λ t. at-or-over f e hf he (leZ-yes t) m k)
+      (λ t. at-or-over e f he hf (leZ-yes t) k m)
 
 -- ---- the statements
 pub boxes-apart : BoxesApart

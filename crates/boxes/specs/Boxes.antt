@@ -69,8 +69,8 @@ boxOf t =
 -- one ends before the other begins, by a test of "before"
 unfoldable pub apartBy : (ℤ → ℤ → Bool) → Box → Box → Bool
 apartBy before e f =
-    before (e .right .v) (f .left .v)
-    || (before (f .right .v) (e .left .v) || (before (e .top .v) (f .bottom .v) || before (f .top .v) (e .bottom .v)))
+    before (f .right .v) (e .left .v)
+    || (before (e .right .v) (f .left .v) || (before (f .top .v) (e .bottom .v) || before (e .top .v) (f .bottom .v)))
 
 -- the boxes share no point, their edges counted
 abbrev pub boxesApart : Box → Box → Bool

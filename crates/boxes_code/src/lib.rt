@@ -184,32 +184,32 @@ pub fn load_box(boxes: &[i64], i: usize) -> Box
 pub fn is_apart(e: Box, f: Box) -> bool
     ensures { λ r. ⌜ r ≡ boxesApart e f ⌝ }
 {
-    if integer_code::less(e.right, f.left) {
-        return true;
-    }
     if integer_code::less(f.right, e.left) {
         return true;
     }
-    if integer_code::less(e.top, f.bottom) {
+    if integer_code::less(e.right, f.left) {
         return true;
     }
-    integer_code::less(f.top, e.bottom)
+    if integer_code::less(f.top, e.bottom) {
+        return true;
+    }
+    integer_code::less(e.top, f.bottom)
 }
 
 // Whether they share no point inside: edges may meet.
 pub fn is_disjoint(e: Box, f: Box) -> bool
     ensures { λ r. ⌜ r ≡ boxesDisjoint e f ⌝ }
 {
-    if integer_code::at_most(e.right, f.left) {
-        return true;
-    }
     if integer_code::at_most(f.right, e.left) {
         return true;
     }
-    if integer_code::at_most(e.top, f.bottom) {
+    if integer_code::at_most(e.right, f.left) {
         return true;
     }
-    integer_code::at_most(f.top, e.bottom)
+    if integer_code::at_most(f.top, e.bottom) {
+        return true;
+    }
+    integer_code::at_most(e.top, f.bottom)
 }
 
 // The same of a box and box number i.
