@@ -1,4 +1,5 @@
 // Boxes in whole numbers round trapezoids, and the tests by which two boxes have nothing in common: definitions and laws only.
+use geometry::Placed;
 use integer::Int;
 
 // All four edges belong to it.
@@ -7,6 +8,12 @@ pub struct Box {
     pub right: Int,
     pub bottom: Int,
     pub top: Int,
+}
+
+// What a search by boxes finds: how many trapezoids of a layer come before it, and itself, with the positions of its bases.
+pub struct Found {
+    pub before: usize,
+    pub placed: Placed,
 }
 
 // Positions up to which a line's height is worked out, and what stands for no end upward.

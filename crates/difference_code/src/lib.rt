@@ -2,9 +2,11 @@
 use boolean::Folded;
 use boxes::Box;
 use geometry::Placed;
+ghost use mathlib.Core.List.{[], _∷_};
 ghost use Prim.Native.Nat.{_+_, _*_, _-_, _<_, _≤_};
+ghost use lib.ListN.{length};
 ghost use lib.IntN.{pos};
-ghost use Rattle.records.specs.Limits.{maxRecords};
+ghost use Rattle.records.specs.Limits.{memoryWidth, maxRecords};
 ghost use Rattle.records.specs.Records.{recordAt, count, Blank};
 ghost use Rattle.geometry.specs.Trapezoids.{trapezoidCodec, layerOf};
 ghost use Rattle.boxes.specs.Boxes.{Encloses};
@@ -91,6 +93,36 @@ fn reduce_by_rest(
     }
 }
 
+// The rest of `one_from`: `out` is as the overlay with number j of the layer left it, with the answer f.
+fn one_rest(
+    a: Placed,
+    e: Box,
+    j: usize,
+    f: Folded,
+    layer: &[i32],
+    boxes: &[i64],
+    out: &mut [i32],
+    scratch: &mut [i32],
+    room: usize,
+) -> Folded
+    requires { ⌜ BoxedAs a e × BoxedLayer (now layer) (now boxes) × (j < count trapezoidCodec (now layer)) × (room ≤ maxRecords) ⌝ }
+    requires { ⌜ MinusWritten (now out) room (a .shape ∷ []) (recordAt trapezoidCodec (now layer) j) f (now out) × (memoryWidth * room ≤ length (now out)) ⌝ }
+    requires { ⌜ ScratchFor (now out) (now scratch) ⌝ }
+    ensures { λ r. ⌜ OneWritten (now (out .entry)) room (a .shape) (from (now (layer .entry)) j) r (now (out .exit)) ⌝ }
+    ensures { λ r. ⌜ OverlaysWithin (maxRecords * (maxRecords - j) + 1) r ⌝ }
+    ensures { λ _. ⌜ Blank (pos 0) (now (scratch .exit)) ⌝ }
+{
+    let Folded::Done {
+        trapezoids: n,
+        overlays: made,
+    } = f
+    else {
+        return f;
+    };
+    let g = reduce_by_rest(e, layer, boxes, j + 1, n, out, scratch, room);
+    remainder_code::more_overlays(made, g)
+}
+
 // One trapezoid minus the trapezoids of a layer from number j on, and what remains of it added.
 fn one_from(
     a: Placed,
@@ -114,15 +146,7 @@ fn one_from(
     }
     let b = trapezoids_code::placed_at(layer, j);
     let f = remainder_code::first_into(a, b, out, room);
-    let Folded::Done {
-        trapezoids: n,
-        overlays: made,
-    } = f
-    else {
-        return f;
-    };
-    let g = reduce_by_rest(e, layer, boxes, j + 1, n, out, scratch, room);
-    remainder_code::more_overlays(made, g)
+    one_rest(a, e, j, f, layer, boxes, out, scratch, room)
 }
 
 // One trapezoid minus a layer, and what remains of it added. Trapezoids that do not overlap it leave
@@ -145,9 +169,15 @@ fn one_into(
     if room == 0 {
         return one_from(a, e, 0, layer, boxes, out, scratch, room);
     }
-    let j = remainder_code::first_overlapping(a, e, layer, boxes);
-    let f = one_from(a, e, j, layer, boxes, out, scratch, room);
-    remainder_code::more_overlays(j, f)
+    let v = remainder_code::first_overlapping(a, e, layer, boxes);
+    let count = layer.len() / records::MEMORY_WIDTH;
+    if count <= v.before {
+        let f = remainder_code::add_whole(a, out, room);
+        return remainder_code::more_overlays(v.before, f);
+    }
+    let f = remainder_code::cut_into(a, v.placed, out, room);
+    let g = one_rest(a, e, v.before, f, layer, boxes, out, scratch, room);
+    remainder_code::more_overlays(v.before, g)
 }
 
 // The trapezoids of the first layer, each minus the second layer, added past the `start` trapezoids that `out` holds.

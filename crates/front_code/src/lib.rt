@@ -146,7 +146,7 @@ pub fn one_by_front(
         return one_past(a, e, boxes, 0, k, out, scratch, room);
     }
     let end = records::MEMORY_WIDTH * k;
-    let j = remainder_code::first_overlapping(a, e, &out[..end], boxes);
-    let f = one_past(a, e, boxes, j, k, out, scratch, room);
-    remainder_code::more_overlays(j, f)
+    let v = remainder_code::first_overlapping(a, e, &out[..end], boxes);
+    let f = one_past(a, e, boxes, v.before, k, out, scratch, room);
+    remainder_code::more_overlays(v.before, f)
 }

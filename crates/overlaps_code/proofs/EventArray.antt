@@ -33,7 +33,7 @@ pub bases-append : (es fs : List Event) → basesOf (es ++ fs) ≡ basesOf es ++
 bases-append [] fs = refl
 bases-append (e ∷ es) fs = ap (λ (ks : List Base). e .base ∷ ks) (bases-append es fs)
 
-pub event-of : {b : Base} {p : Position} (e : Event) → e .base ≡ b → e .at ≡ p → PositionOf b p → EventOf e
+event-of : {b : Base} {p : Position} (e : Event) → e .base ≡ b → e .at ≡ p → PositionOf b p → EventOf e
 event-of e f g h = rw (f, g) h
 
 keep-append : {X : Type 0} (f : X → Bool) (xs ys : List X) → keep f (xs ++ ys) ≡ keep f xs ++ keep f ys

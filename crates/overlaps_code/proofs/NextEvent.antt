@@ -3,7 +3,7 @@ use mathlib.Core.Path.{_≡_, refl, sym, _∙_, ap, subst}
 use mathlib.Core.Bool.{Bool, true, false}
 use mathlib.Core.Option.{Option, none}
 use mathlib.Core.List.{List, [], _∷_}
-use Prim.Native.Nat.{ℕ, _+_, _<_, _≤_}
+use Prim.Native.Nat.{ℕ, zero, suc, _+_, _<_, _≤_}
 use native.Mathlib.Omega.{arith}
 use lib.Dec.{T}
 use lib.ListN.{length, getD, drop, drop-of-length-le}
@@ -12,8 +12,9 @@ use Rattle.lists.proofs.Parts.{first-next, first-at, first-end}
 use Rattle.levels.specs.Levels.{scan}
 use Rattle.integer.specs.Fraction.{before}
 use Rattle.geometry.specs.declared.Base.{Base}
+use Rattle.geometry.specs.declared.Position.{Position}
 use Rattle.geometry.specs.Positions.{position}
-use Rattle.geometry_code.specs.Code.{fractionOf}
+use Rattle.geometry_code.specs.Code.{fractionOf, SmallPosition}
 use Rattle.sweep.specs.Sweep.{earlier}
 use Rattle.sweep.specs.declared.Event.{Event}
 use Rattle.sweep.specs.declared.Next.{Next}
@@ -21,22 +22,29 @@ use Rattle.sweep.specs.declared.Next.the-variants.{Nothing, Found}
 use Rattle.overlay.specs.declared.EventList.{EventList}
 use Rattle.sweep_code.specs.Events.{EventOf, optionOf, NextPlaced, NextAmong, after, Better, Sooner}
 use Rattle.sweep_code.proofs.Events.{placed-at, sooner-none, sooner-new, sooner-old, better-free, better-right, better-stays}
-use Rattle.overlaps_code.specs.Code.{rightOf, basesOf, eventsInUse, namesOf, WellPlaced}
+use Rattle.overlaps_code.specs.Code.{rightOf, basesOf, positionsOf, eventsInUse, namesOf, WellPlaced, first, chosen, StandAt}
+
+-- ---- the positions of events
+position-at : (es : List Event) (i : ℕ) (d : Event) (q : Position) → i < length es → getD (positionsOf es) i q ≡ getD es i d .at
+position-at [] i d q l = absurd (omega arith)
+position-at (e ∷ es) zero d q l = refl
+position-at (e ∷ es) (suc i) d q l = position-at es i d q (omega arith)
+
+module _ (d : Event) (l : List Event) (e : length l ≡ 8) where
+  rest : (k : ℕ) → k < 8 → positionsOf (drop k l) ≡ getD l k d .at ∷ positionsOf (drop (suc k) l)
+  rest k h = ap positionsOf (drop-cons l k d (omega (arith, e)))
+
+  pub eight-positions : (getD l 0 d .at ∷ getD l 1 d .at ∷ getD l 2 d .at ∷ getD l 3 d .at ∷ getD l 4 d .at ∷ getD l 5 d .at ∷ getD l 6 d .at ∷ getD l 7 d .at ∷ []) ≡ positionsOf l
+  eight-positions =
+      sym (rw (rest 0 (omega arith), rest 1 (omega arith), rest 2 (omega arith), rest 3 (omega arith), rest 4 (omega arith), rest 5 (omega arith), rest 6 (omega arith), rest 7 (omega arith), ap positionsOf (drop-of-length-le l {i = 8} (omega (arith, e)))))
 
 -- ---- the event with number k, and none past the last
-abbrev first : List Event → Next
-first [] = Nothing
-first (e ∷ es) = Found e
-
-unfoldable pub chosen : EventList → ℕ → Next
-chosen v k = first (drop k (v .list))
-
 module _ (v : EventList) (w : WellPlaced v) (k : ℕ) where
-  chosen-none : k ≡ 8 → chosen v k ≡ Nothing
+  pub chosen-none : k ≡ 8 → chosen v k ≡ Nothing
   unfolding chosen
   chosen-none e = ap first (drop-of-length-le (v .list) {i = k} (omega (arith, w .long)))
 
-  chosen-at : (d : Event) → k < 8 → chosen v k ≡ Found (getD (v .list) k d)
+  pub chosen-at : (d : Event) → k < 8 → chosen v k ≡ Found (getD (v .list) k d)
   unfolding chosen
   chosen-at d l = ap first (drop-cons (v .list) k d (omega (arith, w .long)))
 
@@ -67,10 +75,10 @@ module _ {v : EventList} {g : Option Base} {best i : ℕ} (h : Looking v g best 
   enough : v .n ≤ length (v .list)
   enough = omega (arith, h .well .few, h .well .long)
 
-  pub placed-here : (d : Event) → i < v .n → EventOf (getD (v .list) i d)
+  placed-here : (d : Event) → i < v .n → EventOf (getD (v .list) i d)
   placed-here d l = first-at (v .n) (v .list) enough EventOf i d l (h .well .placed)
 
-  pub placed-best : (d : Event) → best < 8 → EventOf (getD (v .list) best d)
+  placed-best : (d : Event) → best < 8 → EventOf (getD (v .list) best d)
   placed-best d l = placed-at (h .placed) (chosen-at v (h .well) best d l)
 
   look-next : (d : Event) (r : ℕ) → i < v .n → r ≤ 8 → Better (chosen v best) g (getD (v .list) i d) (chosen v r) → Looking v g r (i + 1)
@@ -81,45 +89,68 @@ module _ {v : EventList} {g : Option Base} {best i : ℕ} (h : Looking v g best 
   unfolding scan
   look-last l = record { is = sym (h .same ∙ rw (first-end (v .n) (v .list) enough i l)); placed = h .placed }
 
-  pub found-none : v .n ≤ i → best ≡ 8 → NextAmong (namesOf v) g Nothing
-  found-none l e = subst (NextAmong (namesOf v) g) (chosen-none v (h .well) best e) (look-last l)
+module _ {v : EventList} {e : Event} {at : List Position} {n : ℕ} {g : Position} (s : StandAt v e at n g) (started : Bool) {best i : ℕ} (h : Looking v (after started e) best i) where
+  abbrev numbered : ℕ → Event
+  numbered k = getD (v .list) k e
 
-  pub found-best : (d : Event) → v .n ≤ i → best < 8 → NextAmong (namesOf v) g (Found (getD (v .list) best d))
-  found-best d l u = subst (NextAmong (namesOf v) g) (chosen-at v (h .well) best d u) (look-last l)
+  position-of : (k : ℕ) (q : Position) → k < 8 → getD at k q ≡ numbered k .at
+  position-of k q l = ap (λ (ps : List Position). getD ps k q) (s .each) ∙ position-at (v .list) k e q (omega (arith, s .well .long))
 
-module _ {v : EventList} (started : Bool) {g : Event} (p : EventOf g) {best i : ℕ} (h : Looking v (after started g) best i) (d : Event) (l : i < v .n) where
-  abbrev here : Event
-  here = getD (v .list) i d
+  pub small-best : (q : Position) → best < 8 → SmallPosition (getD at best q)
+  small-best q l = rw (position-of best q l) (placed-best h e l .small)
 
-  abbrev passes : Bool
-  passes = rightOf started (fractionOf (g .at)) (fractionOf (here .at))
+  pub look-stop : n ≤ i → NextAmong (namesOf v) (after started e) (chosen v best)
+  look-stop l = look-last h (omega (arith, s .count))
 
-  q : EventOf here
-  q = placed-here h d l
+  module _ (q : Position) (l : i < n) where
+    in-use : i < v .n
+    in-use = omega (arith, s .count)
 
-  pub look-on : passes ≡ false → Looking v (after started g) best (i + 1)
-  look-on t = look-next h d best l (h .upto) (better-old (chosen v best) g here p q started t (h .placed))
+    in-list : i < 8
+    in-list = omega (arith, in-use, s .well .few)
 
-  module _ (t : passes ≡ true) where
-    replace : Sooner (chosen v best) here (Found here) → Looking v (after started g) i (i + 1)
-    replace s =
-        let b : i < 8 = omega (arith, h .well .few) in
-        look-next h d i l (omega arith)
-        (better-new (chosen v best) g here p q (chosen v i) started t (subst (Sooner (chosen v best) here) (sym (chosen-at v (h .well) i d b)) s))
+    abbrev here : Event
+    here = numbered i
 
-    pub look-new : best ≡ 8 → Looking v (after started g) i (i + 1)
-    look-new e = replace (sooner-none (chosen v best) here (chosen-none v (h .well) best e) q)
+    placed : EventOf here
+    placed = placed-here h e in-use
 
-    module _ (f : Event) (u : best < 8) where
-      abbrev old : Event
-      old = getD (v .list) best f
+    pub small-here : SmallPosition (getD at i q)
+    small-here = rw (position-of i q in-list) (placed .small)
 
-      pub look-better : before (fractionOf (here .at)) (fractionOf (old .at)) ≡ true → Looking v (after started g) i (i + 1)
-      look-better b = replace (sooner-new (chosen v best) here old (chosen-at v (h .well) best f u) q (placed-best h f u) b)
+    abbrev passes : Bool
+    passes = rightOf started (fractionOf g) (fractionOf (getD at i q))
 
-      pub look-same : before (fractionOf (here .at)) (fractionOf (old .at)) ≡ false → Looking v (after started g) best (i + 1)
-      look-same b =
-          let e = chosen-at v (h .well) best f u in
-          look-next h d best l (h .upto)
-          (better-new (chosen v best) g here p q (chosen v best) started t
-          (subst (Sooner (chosen v best) here) (sym e) (sooner-old (chosen v best) here old e q (placed-best h f u) b)))
+    passes-is : rightOf started (fractionOf (e .at)) (fractionOf (here .at)) ≡ passes
+    passes-is x = rightOf started (fractionOf (s .here x)) (fractionOf (sym (position-of i q in-list) x))
+
+    pub look-on : passes ≡ false → Looking v (after started e) best (i + 1)
+    look-on t = look-next h e best in-use (h .upto) (better-old (chosen v best) e here (s .event) placed started (passes-is ∙ t) (h .placed))
+
+    module _ (t : passes ≡ true) where
+      replace : Sooner (chosen v best) here (Found here) → Looking v (after started e) i (i + 1)
+      replace o =
+          look-next h e i in-use (omega (arith, in-list))
+          (better-new (chosen v best) e here (s .event) placed (chosen v i) started (passes-is ∙ t) (subst (Sooner (chosen v best) here) (sym (chosen-at v (h .well) i e in-list)) o))
+
+      pub look-new : best ≡ 8 → Looking v (after started e) i (i + 1)
+      look-new b = replace (sooner-none (chosen v best) here (chosen-none v (h .well) best b) placed)
+
+      module _ (r : Position) (u : best < 8) where
+        abbrev sooner : Bool
+        sooner = before (fractionOf (getD at i q)) (fractionOf (getD at best r))
+
+        old : chosen v best ≡ Found (numbered best)
+        old = chosen-at v (h .well) best e u
+
+        sooner-is : before (fractionOf (here .at)) (fractionOf (numbered best .at)) ≡ sooner
+        sooner-is x = before (fractionOf (sym (position-of i q in-list) x)) (fractionOf (sym (position-of best r u) x))
+
+        pub look-better : sooner ≡ true → Looking v (after started e) i (i + 1)
+        look-better b = replace (sooner-new (chosen v best) here (numbered best) old placed (placed-best h e u) (sooner-is ∙ b))
+
+        pub look-same : sooner ≡ false → Looking v (after started e) best (i + 1)
+        look-same b =
+            look-next h e best in-use (h .upto)
+            (better-new (chosen v best) e here (s .event) placed (chosen v best) started (passes-is ∙ t)
+            (subst (Sooner (chosen v best) here) (sym old) (sooner-old (chosen v best) here (numbered best) old placed (placed-best h e u) (sooner-is ∙ b))))

@@ -7,7 +7,6 @@ use geometry::Position;
 use geometry::Trapezoid;
 use overlay::EventList;
 use sweep::Event;
-use sweep::Next;
 ghost use mathlib.Core.Path.{_≡_};
 ghost use mathlib.Core.Bool.{_&&_};
 ghost use Rattle.geometry.specs.Limit.{coordinateLimit, OnGrid};
@@ -17,8 +16,7 @@ ghost use Rattle.geometry.specs.Ranges.{crossing};
 ghost use Rattle.overlay.specs.Overlaps.{overlapRight, overlaps};
 ghost use Rattle.geometry_code.specs.Code.{fractionOf, SmallPosition};
 ghost use Rattle.trapezoids_code.specs.Placed.{Pair};
-ghost use Rattle.sweep_code.specs.Events.{NextAmong, EventOf, after};
-ghost use Rattle.overlaps_code.specs.Code.{crossBetween, CrossingBetween, rightOf, WellPlaced, AllEvents, namesOf};
+ghost use Rattle.overlaps_code.specs.Code.{crossBetween, CrossingBetween, rightOf, WellPlaced, AllEvents, positionsOf, SomeStandAt, NextNumber};
 
 // Right of a position each bottom is below the other's top.
 fn overlap_right(a: Trapezoid, b: Trapezoid, p: Position) -> bool
@@ -158,31 +156,50 @@ fn eligible(started: bool, g: Position, p: Position) -> bool
     true
 }
 
-// The first event right of g in the order of positions, or the first of all where nothing has been started.
-pub fn next_event(v: EventList, started: bool, g: Event) -> Next
-    requires { ⌜ WellPlaced v × EventOf g ⌝ }
-    ensures { λ r. ⌜ NextAmong (namesOf v) (after started g) r ⌝ }
+// Where the events are.
+pub fn positions_of(v: EventList) -> [Position; 8]
+    requires { ⌜ WellPlaced v ⌝ }
+    ensures { λ r. ⌜ r ≡ positionsOf (v .list) ⌝ }
 {
-    let n = v.n;
+    let e0 = v.list[0];
+    let e1 = v.list[1];
+    let e2 = v.list[2];
+    let e3 = v.list[3];
+    let e4 = v.list[4];
+    let e5 = v.list[5];
+    let e6 = v.list[6];
+    let e7 = v.list[7];
+    let p0 = e0.at;
+    let p1 = e1.at;
+    let p2 = e2.at;
+    let p3 = e3.at;
+    let p4 = e4.at;
+    let p5 = e5.at;
+    let p6 = e6.at;
+    let p7 = e7.at;
+    [p0, p1, p2, p3, p4, p5, p6, p7]
+}
+
+// The number of the first event right of g in the order of positions, or of the first of all where nothing has been started; 8 where there is none.
+pub fn next_event(at: [Position; 8], n: usize, started: bool, g: Position) -> usize
+    requires { ⌜ SomeStandAt at n g ⌝ }
+    ensures { λ r. ⌜ NextNumber at n started g r ⌝ }
+{
     let mut best = 8;
     let mut i = 0;
     while i < n {
-        let e = v.list[i];
-        if eligible(started, g.at, e.at) {
+        let p = at[i];
+        if eligible(started, g, p) {
             if best == 8 {
                 best = i;
             } else {
-                let b = v.list[best];
-                if geometry_code::is_before(e.at, b.at) {
+                let b = at[best];
+                if geometry_code::is_before(p, b) {
                     best = i;
                 }
             }
         }
         i += 1;
     }
-    if best == 8 {
-        return Next::Nothing;
-    }
-    let b = v.list[best];
-    Next::Found(b)
+    best
 }

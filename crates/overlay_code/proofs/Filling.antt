@@ -7,7 +7,7 @@ use mathlib.Core.Option.{Option, none, some}
 use Prim.Native.Nat.{ℕ, zero, suc, _+_, _*_, _-_, _<_, _≤_}
 use native.Mathlib.Omega.{arith}
 use lib.Dec.{eqb, eqb·zero-suc, eqb·suc-zero, eqb·suc-suc, eqb→eq, not-T}
-use lib.ListN.{length}
+use lib.ListN.{length, getD}
 use lib.IntN.{ℤ}
 use borrow.Rule.Slice.PartMut.{putMid}
 use Rattle.lists.specs.Lists.{All}
@@ -19,6 +19,7 @@ use Rattle.levels.proofs.Next.{beyond, next-all}
 use Rattle.levels.proofs.Walk.{next-some}
 use Rattle.levels.proofs.Scan.{scan-is-next}
 use Rattle.geometry.specs.declared.Base.{Base}
+use Rattle.geometry.specs.declared.Position.{Position}
 use Rattle.geometry.specs.declared.Trapezoid.{Trapezoid}
 use Rattle.geometry.specs.Limit.{coordinateLimit}
 use Rattle.geometry.specs.Fitness.{FitFor}
@@ -28,8 +29,7 @@ use Rattle.geometry.specs.declared.Fill.the-variants.{NoRoom, Written}
 use Rattle.sweep.specs.Segments.{Segment, spanning}
 use Rattle.sweep.specs.Sweep.{earlier}
 use Rattle.sweep.specs.declared.Event.{Event}
-use Rattle.sweep.specs.declared.Next.{Next}
-use Rattle.sweep.specs.declared.Next.the-variants.{Nothing, Found}
+use Rattle.sweep.specs.declared.Next.the-variants.{Found}
 use Rattle.sweep.proofs.Sweep.{Placed, placed-order}
 use Rattle.sweep.proofs.Loop.{from, sweep-none, sweep-start, sweep-turn, sweep-stop}
 use Rattle.overlay.specs.declared.EventList.{EventList}
@@ -37,11 +37,12 @@ use Rattle.overlay.specs.declared.Column.{Column}
 use Rattle.overlay.specs.Overlaps.{overlaps}
 use Rattle.overlay.specs.Overlay.{Part, sides, overlayEvents, inRange, parts, subdivision, overlay, tagged}
 use Rattle.overlay.proofs.Events.{complete}
-use Rattle.geometry_code.specs.Code.{fractionOf}
+use Rattle.geometry_code.specs.Code.{fractionOf, PositionOf}
 use Rattle.trapezoids_code.specs.Tails.{inFront, Borrowed, FilledAs}
 use Rattle.trapezoids_code.proofs.Writing.{tail, fill-nothing, Writing, write-start, write-stop, write-full, write-upto, write-turn}
-use Rattle.sweep_code.specs.Events.{NextAmong, EventOf, optionOf, NextPlaced}
-use Rattle.overlaps_code.specs.Code.{namesOf}
+use Rattle.sweep_code.specs.Events.{NextAmong, EventOf, optionOf, NextPlaced, after}
+use Rattle.overlaps_code.specs.Code.{positionsOf, namesOf, WellPlaced, chosen, StandAt, NextNumber}
+use Rattle.overlaps_code.proofs.NextEvent.{chosen-none, chosen-at}
 use Rattle.columns_code.specs.Order.{sideNumbers, HasSides, strips, orderAt}
 use Rattle.columns_code.specs.Code.{ColumnAt, FourSides}
 use Rattle.columns_code.proofs.NumberOrder.{order-members}
@@ -82,51 +83,69 @@ module _ (A B : Trapezoid) where
   abbrev divide : Base → List Segment
   divide k = spanning (λ (s : Segment). s) (position k) (sides A B)
 
-  module _ (ha : FitFor coordinateLimit A) (hb : FitFor coordinateLimit B) (v : EventList) (names : namesOf v ≡ overlayEvents A B) where
-    proper : All (Placed position) (overlayEvents A B)
-    proper = complete ha hb .proper
+pub stand : {v : EventList} → WellPlaced v → {at : List Position} → at ≡ positionsOf (v .list) → {k : Base} {g : Position} → PositionOf k g
+    → StandAt v (record { base = k; at = g }) at (v .n) g
+stand well each q = record { well = well; count = refl; each = each; event = q; here = refl }
 
-    next-is : (g : Option Base) (r : Next) → NextAmong (namesOf v) g r → next (earlier position) g (overlayEvents A B) ≡ optionOf r
-    next-is g r h =
-        sym (h .is ∙ ap (scan (earlier position) none g) names ∙ scan-is-next (earlier position) (Placed position) (placed-order position) g (overlayEvents A B) proper)
+module _ {A B : Trapezoid} (ha : FitFor coordinateLimit A) (hb : FitFor coordinateLimit B)
+    {v : EventList} (well : WellPlaced v) (names : namesOf v ≡ overlayEvents A B) {at : List Position} (each : at ≡ positionsOf (v .list)) where
+  proper : All (Placed position) (overlayEvents A B)
+  proper = complete ha hb .proper
 
-    next-proper : (g : Option Base) (k : Base) → next (earlier position) g (overlayEvents A B) ≡ some k → Proper (position k)
-    next-proper g k e = subst (IfSome (Placed position)) e (next-all (earlier position) (Placed position) g (overlayEvents A B) proper)
+  -- the event with number r, the next one right of k, at g, or of all
+  module _ {k : Base} {g : Position} (q : PositionOf k g) {started : Bool} {r : ℕ} (h : NextNumber at (v .n) started g r) where
+    abbrev right : Option Base
+    right = after started (record { base = k; at = g })
 
-    -- no event at all
-    pub no-event : (r : Next) → r ≡ Nothing → NextAmong (namesOf v) none r → subdivision A B ≡ []
+    among : NextAmong (namesOf v) right (chosen v r)
+    among = h .is v (record { base = k; at = g }) (stand well each q)
+
+    next-is : next (earlier position) right (overlayEvents A B) ≡ optionOf (chosen v r)
+    next-is =
+        sym (among .is ∙ ap (scan (earlier position) none right) names ∙ scan-is-next (earlier position) (Placed position) (placed-order position) right (overlayEvents A B) proper)
+
+    next-none : r ≡ 8 → next (earlier position) right (overlayEvents A B) ≡ none
+    next-none e = next-is ∙ ap optionOf (chosen-none v well r e)
+
+    module _ (u : r ≡ 8 → ⊥) (d : Event) where
+      is-found : chosen v r ≡ Found (getD (v .list) r d)
+      is-found = chosen-at v well r d (omega (arith, h .upto, u))
+
+      next-found : next (earlier position) right (overlayEvents A B) ≡ some (getD (v .list) r d .base)
+      next-found = next-is ∙ ap optionOf is-found
+
+      pub found-event : EventOf (getD (v .list) r d)
+      found-event = subst NextPlaced is-found (among .placed)
+
+      pub found-proper : Proper (position (getD (v .list) r d .base))
+      found-proper = subst (IfSome (Placed position)) next-found (next-all (earlier position) (Placed position) right (overlayEvents A B) proper)
+
+  -- the first event, or none at all
+  module _ {k : Base} {g : Position} (q : PositionOf k g) {r : ℕ} (h : NextNumber at (v .n) false g r) where
+    pub no-event : r ≡ 8 → subdivision A B ≡ []
     unfolding subdivision
-    no-event r e h = sweep-none (λ (s : Segment). s) position (parts A B) (sides A B) (overlayEvents A B) proper (next-is none r h ∙ ap optionOf e)
+    no-event e = sweep-none (λ (s : Segment). s) position (parts A B) (sides A B) (overlayEvents A B) proper (next-none q h e)
 
-    -- the first event
-    module _ (r : Next) (k : Event) (e : r ≡ Found k) (h : NextAmong (namesOf v) none r) where
-      pub first-proper : Proper (position (k .base))
-      first-proper = next-proper none (k .base) (next-is none r h ∙ ap optionOf e)
+    pub first-event : (r ≡ 8 → ⊥) → (d : Event) → subdivision A B ≡ rest A B (getD (v .list) r d .base)
+    unfolding subdivision
+    first-event u d = sweep-start (λ (s : Segment). s) position (parts A B) (sides A B) (overlayEvents A B) proper (getD (v .list) r d .base) (next-found q h u d)
 
-      pub first-event : subdivision A B ≡ rest (k .base)
-      unfolding subdivision
-      first-event = sweep-start (λ (s : Segment). s) position (parts A B) (sides A B) (overlayEvents A B) proper (k .base) (next-is none r h ∙ ap optionOf e)
+  -- the event after k, or none
+  module _ {k : Base} {g : Position} (q : PositionOf k g) (hk : Proper (position k)) {r : ℕ} (h : NextNumber at (v .n) true g r) where
+    pub last-event : r ≡ 8 → rest A B k ≡ []
+    last-event e = sweep-stop (λ (s : Segment). s) position (parts A B) (sides A B) (overlayEvents A B) proper k hk (next-none q h e)
 
-    -- the event after p, or none
-    module _ (p : Base) (hp : Proper (position p)) (r : Next) (h : NextAmong (namesOf v) (some p) r) where
-      pub last-event : r ≡ Nothing → rest p ≡ []
-      last-event e = sweep-stop (λ (s : Segment). s) position (parts A B) (sides A B) (overlayEvents A B) proper p hp (next-is (some p) r h ∙ ap optionOf e)
+    module _ (u : r ≡ 8 → ⊥) (d : Event) where
+      abbrev later : Base
+      later = getD (v .list) r d .base
 
-      module _ (k : Event) (e : r ≡ Found k) where
-        found : next (earlier position) (some p) (overlayEvents A B) ≡ some (k .base)
-        found = next-is (some p) r h ∙ ap optionOf e
+      pub later-event : rest A B k ≡ parts A B k later (divide A B k) ++ rest A B later
+      later-event = sweep-turn (λ (s : Segment). s) position (parts A B) (sides A B) (overlayEvents A B) proper k later hk (next-found q h u d)
 
-        pub later-proper : Proper (position (k .base))
-        later-proper = next-proper (some p) (k .base) found
-
-        pub later-event : rest p ≡ parts A B p (k .base) (divide p) ++ rest (k .base)
-        later-event = sweep-turn (λ (s : Segment). s) position (parts A B) (sides A B) (overlayEvents A B) proper p (k .base) hp found
-
-        pub fewer : left (k .base) < left p
-        fewer = let e = ap length (next-some (earlier position) (placed-order position) (some p) (overlayEvents A B) (k .base) hp proper found) in omega (arith, e)
-
-pub found-event : (r : Next) (k : Event) → r ≡ Found k → NextPlaced r → EventOf k
-found-event r k e h = subst NextPlaced e h
+      pub fewer : left A B later < left A B k
+      fewer =
+          let e = ap length (next-some (earlier position) (placed-order position) (some k) (overlayEvents A B) later hk proper (next-found q h u d)) in
+          omega (arith, e)
 
 -- ---- the loop
 -- before the event p, with the column c left of it: n trapezoids stand in out, which has W words
@@ -156,34 +175,34 @@ module _ {A B : Trapezoid} (ha : FitFor coordinateLimit A) (hb : FitFor coordina
   fill-stop e = write-stop (h .writing) (ap (tagged tag) e ∙ (unfold tagged in refl))
 
   -- what a turn adds, with the column d right of p
-  abbrev more : Column → Event → List Trapezoid
-  more d q = strips tag A B (p .base) (q .base) (d .in_a) (d .in_b) (d .order)
+  abbrev more : Column → Base → List Trapezoid
+  more d q = strips tag A B (p .base) q (d .in_a) (d .in_b) (d .order)
 
-  module _ (d : Column) (k : ColumnAt A B (fractionOf (p .at)) d) (q : Event) (turn : rest A B (p .base) ≡ parts A B (p .base) (q .base) (divide A B (p .base)) ++ rest A B (q .base)) where
-    more-is : more d q ≡ tagged tag (parts A B (p .base) (q .base) (divide A B (p .base)))
+  module _ (d : Column) (k : ColumnAt A B (fractionOf (p .at)) d) (q : Base) (turn : rest A B (p .base) ≡ parts A B (p .base) q (divide A B (p .base)) ++ rest A B q) where
+    more-is : more d q ≡ tagged tag (parts A B (p .base) q (divide A B (p .base)))
     more-is =
         let x = h .event .is in
-        ap (strips tag A B (p .base) (q .base) (d .in_a) (d .in_b)) (k .order ∙ ap (λ (y : Fraction). orderAt A B y (d .in_a) (d .in_b)) x)
-        ∙ strips-exact ha hb (p .base) (q .base) (h .proper) tag ht (d .in_a) (d .in_b) (k .in-a ∙ ap (λ (y : Fraction). inRange y A) x) (k .in-b ∙ ap (λ (y : Fraction). inRange y B) x)
+        ap (strips tag A B (p .base) q (d .in_a) (d .in_b)) (k .order ∙ ap (λ (y : Fraction). orderAt A B y (d .in_a) (d .in_b)) x)
+        ∙ strips-exact ha hb (p .base) q (h .proper) tag ht (d .in_a) (d .in_b) (k .in-a ∙ ap (λ (y : Fraction). inRange y A) x) (k .in-b ∙ ap (λ (y : Fraction). inRange y B) x)
 
-    next-is-more : tagged tag (rest A B (p .base)) ≡ more d q ++ tagged tag (rest A B (q .base))
+    next-is-more : tagged tag (rest A B (p .base)) ≡ more d q ++ tagged tag (rest A B q)
     next-is-more =
         ap (tagged tag) turn
-        ∙ tagged-append tag (parts A B (p .base) (q .base) (divide A B (p .base))) (rest A B (q .base))
-        ∙ ap (λ (ts : List Trapezoid). ts ++ tagged tag (rest A B (q .base))) (sym more-is)
+        ∙ tagged-append tag (parts A B (p .base) q (divide A B (p .base))) (rest A B q)
+        ∙ ap (λ (ts : List Trapezoid). ts ++ tagged tag (rest A B q)) (sym more-is)
 
     module _ (f : Fill) (t : List ℤ) (g : FilledAs (length (tail out n)) (room - n) (more d q) f t) where
       -- they do not fit
       pub fill-full : f ≡ NoRoom → room < length (tagged tag (subdivision A B))
-      fill-full e = write-full (h .writing) (more d q) (tagged tag (rest A B (q .base))) next-is-more f t g e
+      fill-full e = write-full (h .writing) (more d q) (tagged tag (rest A B q)) next-is-more f t g e
 
       pub fill-upto : (m : ℕ) → f ≡ Written m → n + m ≤ room
-      fill-upto m e = write-upto (h .writing) (more d q) (tagged tag (rest A B (q .base))) next-is-more f t g m e
+      fill-upto m e = write-upto (h .writing) (more d q) (tagged tag (rest A B q)) next-is-more f t g m e
 
-      pub fill-turn : (m : ℕ) → f ≡ Written m → EventOf q → Proper (position (q .base))
-          → Filling A B tag W room (putMid (memoryWidth * n) (length out - memoryWidth * n) out t) q d (n + m)
+      pub fill-turn : (m : ℕ) → f ≡ Written m → {at : Position} → PositionOf q at → Proper (position q)
+          → Filling A B tag W room (putMid (memoryWidth * n) (length out - memoryWidth * n) out t) (record { base = q; at = at }) d (n + m)
       fill-turn m e ev pr =
-          record { writing = write-turn (h .writing) (more d q) (tagged tag (rest A B (q .base))) next-is-more f t g m e; event = ev; proper = pr; four = column-four ha hb (fractionOf (p .at)) d k }
+          record { writing = write-turn (h .writing) (more d q) (tagged tag (rest A B q)) next-is-more f t g m e; event = ev; proper = pr; four = column-four ha hb (fractionOf (p .at)) d k }
 
 -- ---- the overlay
 test-swap : (m n : ℕ) → eqb m n ≡ eqb n m

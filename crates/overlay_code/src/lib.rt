@@ -5,14 +5,14 @@ use geometry::Placed;
 use geometry::Trapezoid;
 use overlay::Column;
 use overlay::Orders;
-use sweep::Next;
 ghost use mathlib.Core.Path.{_≡_};
-ghost use mathlib.Core.Bool.{cond, _&&_};
+ghost use mathlib.Core.Bool.{true, cond, _&&_};
 ghost use Prim.Native.Nat.{_≤_};
 ghost use lib.Dec.{eqb};
 ghost use lib.ListN.{length};
 ghost use Rattle.geometry.specs.Positions.{position};
 ghost use Rattle.overlay.specs.Overlay.{tagOf, subdivision, overlay, tagged};
+ghost use Rattle.overlay.specs.Overlaps.{overlaps};
 ghost use Rattle.trapezoids_code.specs.Tails.{Borrowed, FilledAs};
 ghost use Rattle.trapezoids_code.specs.Placed.{Pair};
 ghost use Rattle.columns_code.specs.Order.{passing, strips};
@@ -130,15 +130,13 @@ fn fill_columns(a: Placed, b: Placed, tag: u8, out: &mut [i32], room: usize) -> 
     ensures { λ r. ⌜ FilledAs (length (now (out .entry))) room (tagged tag (subdivision (a .shape) (b .shape))) r (now (out .exit)) ⌝ }
 {
     let v = overlaps_code::events_of(a, b);
-    let s = a.shape;
-    let t = b.shape;
-    let mut p = sweep_code::event_at(s.left, a.left);
-    let first = overlaps_code::next_event(v, false, p);
-    let Next::Found(e) = first else {
+    let at = overlaps_code::positions_of(v);
+    let i = overlaps_code::next_event(at, v.n, false, a.left);
+    if i == 8 {
         return Fill::Written(0);
-    };
-    p = e;
-    let m = columns_code::meetings_of(s, t);
+    }
+    let mut p = v.list[i];
+    let m = columns_code::meetings_of(a.shape, b.shape);
     let order = [0, 1, 2, 3];
     let mut c = Column {
         order,
@@ -147,15 +145,16 @@ fn fill_columns(a: Placed, b: Placed, tag: u8, out: &mut [i32], room: usize) -> 
     };
     let mut n = 0;
     loop {
-        let next = overlaps_code::next_event(v, true, p);
-        let Next::Found(q) = next else {
+        let j = overlaps_code::next_event(at, v.n, true, p.at);
+        if j == 8 {
             return Fill::Written(n);
-        };
+        }
+        let q = v.list[j];
         let o = columns_code::orders_at(m, p.at);
         c = columns_code::column_at(a, b, o, p.at, c);
         let f = fill_column(
-            s,
-            t,
+            a.shape,
+            b.shape,
             tag,
             p.base,
             q.base,
@@ -173,13 +172,21 @@ fn fill_columns(a: Placed, b: Placed, tag: u8, out: &mut [i32], room: usize) -> 
     }
 }
 
+// The trapezoids of the overlay of two that overlap, as in `overlay_into`.
+pub fn overlapping_into(a: Placed, b: Placed, tag: u8, out: &mut [i32], room: usize) -> Fill
+    requires { ⌜ Pair a b × (1 ≤ tag) × (overlaps (a .shape) (b .shape) ≡ true) × Borrowed (now out) room ⌝ }
+    ensures { λ r. ⌜ FilledAs (length (now (out .entry))) room (tagged tag (overlay (a .shape) (b .shape))) r (now (out .exit)) ⌝ }
+{
+    fill_columns(a, b, tag, out, room)
+}
+
 // The trapezoids of the overlay that have the tag, written into a blank tail of which `room` records may be filled.
 pub fn overlay_into(a: Placed, b: Placed, tag: u8, out: &mut [i32], room: usize) -> Fill
     requires { ⌜ Pair a b × (1 ≤ tag) × Borrowed (now out) room ⌝ }
     ensures { λ r. ⌜ FilledAs (length (now (out .entry))) room (tagged tag (overlay (a .shape) (b .shape))) r (now (out .exit)) ⌝ }
 {
     if overlaps_code::overlapping(a, b) {
-        return fill_columns(a, b, tag, out, room);
+        return overlapping_into(a, b, tag, out, room);
     }
     if tag == 1 {
         return trapezoids_code::put(a.shape, out, room);

@@ -63,6 +63,15 @@ pub first-folded : (n room : ℕ) (a b : Trapezoid) (f : Fill) (r : Folded) (d :
 first-folded n room a b f r d g e =
     rw (first-parts a b, first-stages a b) (subst (λ (x : Folded). FoldedAs n room (tagged 1 (overlay a b)) (overlaid (length (tagged 1 (overlay a b))) ∷ []) x d) e (once-folded n room (tagged 1 (overlay a b)) f d g))
 
+-- n is the buffer's own length, and u is b
+pub folded-long : (m n room : ℕ) (ts : List Trapezoid) (ms : List Stage) (r : Folded) (d : List ℤ) → m ≡ n → FoldedAs m room ts ms r d → FoldedAs n room ts ms r d
+folded-long m n room ts ms r d e g = subst (λ (x : ℕ). FoldedAs x room ts ms r d) e g
+
+pub first-at : (n room : ℕ) (a b u : Trapezoid) (r : Folded) (d : List ℤ) → b ≡ u → length d ≡ n → FoldedAs n room (minus (a ∷ []) b) (minusStages 0 (a ∷ []) b) r d
+    → FoldedAs (length d) room (minus (a ∷ []) u) (minusStages 0 (a ∷ []) u) r d
+first-at n room a b u r d e l g =
+    folded-long n (length d) room (minus (a ∷ []) u) (minusStages 0 (a ∷ []) u) r d (sym l) (subst (λ (x : Trapezoid). FoldedAs n room (minus (a ∷ []) x) (minusStages 0 (a ∷ []) x) r d) e g)
+
 -- ---- the rest
 module _ (n room : ℕ) (a b : Trapezoid) (bs : List Trapezoid) where
   abbrev all : List Trapezoid
@@ -122,7 +131,7 @@ module _ (n room : ℕ) (a b : Trapezoid) (layer : List ℤ) (j : ℕ) (some : j
         let k = known (Done m c) e in
         let u = filled-leading n room (minus (a ∷ []) b) m d (k .1) in
         let v = subst (λ (ts : List Trapezoid). FoldedAs (length d) room (minusAll ts (from layer (j + 1))) (minusAllStages 0 ts (from layer (j + 1))) r t) u h in
-        let w = subst (λ (x : ℕ). FoldedAs x room (minusAll (minus (a ∷ []) b) (from layer (j + 1))) (minusAllStages 0 (minus (a ∷ []) b) (from layer (j + 1))) r t) l v in
+        let w = folded-long (length d) n room (minusAll (minus (a ∷ []) b) (from layer (j + 1))) (minusAllStages 0 (minus (a ∷ []) b) (from layer (j + 1))) r t l v in
         at-layer (withOverlays c r) t (one-rest n room a b (from layer (j + 1)) c (k .0) r t w)
 
 -- ---- a whole layer

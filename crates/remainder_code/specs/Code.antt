@@ -1,22 +1,25 @@
 -- What folds answer and write, by the definitions.
 use mathlib.Core.Path.{_≡_}
-use mathlib.Core.Bool.{Bool, cond}
+use mathlib.Core.Bool.{Bool, true, cond}
 use mathlib.Core.List.{List, [], _∷_}
-use Prim.Native.Nat.{ℕ, suc, _+_, _*_, _-_, _≤_}
+use Prim.Native.Nat.{ℕ, suc, _+_, _*_, _-_, _<_, _≤_}
 use lib.ListN.{length, take, drop, replicate}
 use lib.IntN.{ℤ, pos}
 use Rattle.lists.specs.Lists.{All}
 use Rattle.records.specs.Limits.{memoryWidth, maxRecords}
-use Rattle.records.specs.Records.{recordsFrom, image, count, Blank}
+use Rattle.records.specs.Records.{recordAt, recordsFrom, image, count, Blank}
 use Rattle.geometry.specs.declared.Trapezoid.{Trapezoid}
 use Rattle.geometry.specs.Limit.{coordinateLimit}
 use Rattle.geometry.specs.Fitness.{FitFor}
-use Rattle.geometry.specs.Trapezoids.{trapezoidCodec}
+use Rattle.geometry.specs.Trapezoids.{trapezoidCodec, layerOf}
 use Rattle.geometry.specs.declared.Fill.the-variants.{Written}
+use Rattle.overlay.specs.Overlaps.{overlaps}
 use Rattle.boolean.specs.Operations.{minus, minusAll}
 use Rattle.boolean.specs.declared.Folded.{Folded}
 use Rattle.boolean.specs.declared.Folded.the-variants.{NoRoom, Done}
 use Rattle.boolean.specs.Space.{Stage, enough, no-room, space, minusStages, minusAllStages, oneStages}
+use Rattle.boxes.specs.declared.Found.{Found}
+use Rattle.trapezoids_code.specs.Placed.{PlacedAs}
 use Rattle.trapezoids_code.specs.Tails.{FilledAs}
 
 -- of a tail of n words, for a fold with the result ts and the stages ms: there was no room after so many overlays, and the tail is blank; or
@@ -71,6 +74,11 @@ from s i = recordsFrom trapezoidCodec (count trapezoidCodec s - i) s i
 abbrev pub beforeFirst : (Trapezoid → Bool) → List Trapezoid → ℕ
 beforeFirst test [] = 0
 beforeFirst test (t ∷ ts) = cond (test t) 0 (suc (beforeFirst test ts))
+
+-- the first trapezoid of a layer that overlaps a, if some does
+pub record FoundAs (a : Trapezoid) (layer : List ℤ) (r : Found) : Type 0 where
+  pub before : r .before ≡ beforeFirst (overlaps a) (layerOf layer)
+  pub placed : r .before < count trapezoidCodec layer → PlacedAs (recordAt trapezoidCodec layer (r .before)) (r .placed) × (overlaps a (r .placed .shape) ≡ true)
 
 -- ---- the number of overlays
 -- the most that are made for one trapezoid, for a layer of them, and for an operation

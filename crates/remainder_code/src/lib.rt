@@ -1,9 +1,11 @@
 // What remains of trapezoids minus others, with room for so many.
 use boolean::Folded;
 use boxes::Box;
+use boxes::Found;
 use geometry::Fill;
 use geometry::Placed;
 ghost use mathlib.Core.Path.{_≡_};
+ghost use mathlib.Core.Bool.{true};
 ghost use mathlib.Core.List.{[], _∷_, _++_};
 ghost use Prim.Native.Nat.{_+_, _*_, _-_, _<_, _≤_};
 ghost use lib.ListN.{length, take, drop, replicate};
@@ -19,7 +21,7 @@ ghost use Rattle.boolean.specs.Space.{addition};
 ghost use Rattle.trapezoids_code.specs.Placed.{PlacedAs, Pair};
 ghost use Rattle.trapezoids_code.specs.Tails.{Borrowed};
 ghost use Rattle.boxes_code.specs.Code.{BoxedAs, BoxedLayer};
-ghost use Rattle.remainder_code.specs.Code.{maxOverlays, withOverlays, OverlaysWithin, leading, Remaining, FoldedAs, beforeFirst, MinusWritten, ScratchFor};
+ghost use Rattle.remainder_code.specs.Code.{maxOverlays, withOverlays, OverlaysWithin, leading, Remaining, FoldedAs, beforeFirst, FoundAs, MinusWritten, ScratchFor};
 
 // Each trapezoid of the remainder, in order, replaced by its parts that are not in b. Those not yet reached count against the room.
 pub fn minus_into(remainder: &[i32], b: Placed, out: &mut [i32], room: usize) -> Folded
@@ -153,6 +155,21 @@ pub fn first_into(a: Placed, b: Placed, out: &mut [i32], room: usize) -> Folded
     }
 }
 
+// The same of two that overlap.
+pub fn cut_into(a: Placed, b: Placed, out: &mut [i32], room: usize) -> Folded
+    requires { ⌜ Pair a b × (overlaps (a .shape) (b .shape) ≡ true) × Borrowed (now out) room ⌝ }
+    ensures { λ r. ⌜ MinusWritten (now (out .entry)) room (a .shape ∷ []) (b .shape) r (now (out .exit)) ⌝ }
+{
+    let f = overlay_code::overlapping_into(a, b, 1, out, room);
+    match f {
+        Fill::NoRoom => Folded::NoRoom(1),
+        Fill::Written(n) => Folded::Done {
+            trapezoids: n,
+            overlays: 1,
+        },
+    }
+}
+
 // One trapezoid added whole.
 pub fn add_whole(a: Placed, out: &mut [i32], room: usize) -> Folded
     requires { ⌜ Borrowed (now out) room ⌝ }
@@ -168,10 +185,10 @@ pub fn add_whole(a: Placed, out: &mut [i32], room: usize) -> Folded
     }
 }
 
-// How many trapezoids of a layer come before the first that overlaps a; all of them if none does.
-pub fn first_overlapping(a: Placed, e: Box, layer: &[i32], boxes: &[i64]) -> usize
+// The first trapezoid of a layer that overlaps a; if none does, all of the layer comes before a itself.
+pub fn first_overlapping(a: Placed, e: Box, layer: &[i32], boxes: &[i64]) -> Found
     requires { ⌜ BoxedAs a e × BoxedLayer (now layer) (now boxes) ⌝ }
-    ensures { λ r. ⌜ r ≡ beforeFirst (overlaps (a .shape)) (layerOf (now (layer .entry))) ⌝ }
+    ensures { λ r. ⌜ FoundAs (a .shape) (now (layer .entry)) r ⌝ }
 {
     let n = layer.len() / records::MEMORY_WIDTH;
     let mut i = 0;
@@ -179,10 +196,16 @@ pub fn first_overlapping(a: Placed, e: Box, layer: &[i32], boxes: &[i64]) -> usi
         if !boxes_code::boxes_disjoint(e, boxes, i) {
             let b = trapezoids_code::placed_at(layer, i);
             if overlaps_code::overlapping(a, b) {
-                return i;
+                return Found {
+                    before: i,
+                    placed: b,
+                };
             }
         }
         i += 1;
     }
-    i
+    Found {
+        before: i,
+        placed: a,
+    }
 }

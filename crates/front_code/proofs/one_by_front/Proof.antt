@@ -37,7 +37,7 @@ more-overlays-requires c κs =
     let f = at-one-past2 .one-past2 in
     let v = at-first-overlapping .first-overlapping in
     let a = at-start .args in
-    (omega (arith, past-upto (a .out .now) (a .k) (a .room) (at-start .pre .0 .2) (a .a .shape) (v .result) (v .ensures), at-start .pre .0 .2 .within, at-start .pre .0 .3), within-least (maxRecords * (maxRecords - v .result) + 1) maxOverlays (f .result) (omega arith) (f .ensures .1 .1 .0))
+    (omega (arith, past-upto (a .out .now) (a .k) (a .room) (at-start .pre .0 .2) (a .a .shape) (v .result .before) (v .ensures .before), at-start .pre .0 .2 .within, at-start .pre .0 .3), within-least (maxRecords * (maxRecords - v .result .before) + 1) maxOverlays (f .result) (omega arith) (f .ensures .1 .1 .0))
 
 returns-2 : tie.Need-returns-2
 returns-2 c =
@@ -49,12 +49,12 @@ returns-2 c =
     let f = at-one-past2 .one-past2 in
     let v = at-first-overlapping .first-overlapping in
     let a = at-start .args in
-    let u = past-upto (a .out .now) (a .k) (a .room) (at-start .pre .0 .2) (a .a .shape) (v .result) (v .ensures) in
-    let g = past-skip (a .out .now) (a .k) (a .room) (at-start .pre .0 .2) (a .a .shape) (v .result) (v .ensures) (omega (arith, at-if1 .if1 .left)) (f .result) _ (f .ensures .0) in
-    let m = maxRecords * (maxRecords - v .result) + 1 in
-    let w = within-more m (v .result) (v .result) (f .result) (omega arith) (f .ensures .1 .1 .0) in (
+    let u = past-upto (a .out .now) (a .k) (a .room) (at-start .pre .0 .2) (a .a .shape) (v .result .before) (v .ensures .before) in
+    let g = past-skip (a .out .now) (a .k) (a .room) (at-start .pre .0 .2) (a .a .shape) (v .result .before) (v .ensures .before) (omega (arith, at-if1 .if1 .left)) (f .result) _ (f .ensures .0) in
+    let m = maxRecords * (maxRecords - v .result .before) + 1 in
+    let w = within-more m (v .result .before) (v .result .before) (f .result) (omega arith) (f .ensures .1 .1 .0) in (
       rw r g,
-      (f .ensures .1 .0, (within-least (v .result + m) overlaysOfOne (c .more-overlays .result) (omega (arith, u, at-start .pre .0 .2 .within, at-start .pre .0 .3)) (subst (OverlaysWithin (v .result + m)) (sym r) w), f .ensures .1 .1 .1)),
+      (f .ensures .1 .0, (within-least (v .result .before + m) overlaysOfOne (c .more-overlays .result) (omega (arith, u, at-start .pre .0 .2 .within, at-start .pre .0 .3)) (subst (OverlaysWithin (v .result .before + m)) (sym r) w), f .ensures .1 .1 .1)),
     )
 
 pub one-by-front-spec : {M : Type 1} → statement M

@@ -1,27 +1,19 @@
 use mathlib.Core.Path.{sym, _∙_}
 use lib.ListN.{length}
-use Rattle.overlay_code.proofs.Filling.{overlay-columns, overlay-first, overlay-second}
+use borrow.Author.Needs.{needs}
+use Rattle.overlay_code.proofs.Filling.{overlay-first, overlay-second}
 use Rattle.overlay_code.proofs.overlay_into.Statement.{statement}
 use Rattle.overlay_code.proofs.overlay_into.Tie as tie
 
 overlapping-requires : tie.Need-overlapping-requires
 overlapping-requires c κs = c .pre .0
 
-fill-columns-requires : tie.Need-fill-columns-requires
-fill-columns-requires c κs = c .before .before .before .pre
-
-same-length : tie.Need-same-length
-same-length c = c .before .fill-columns .kept .1 .1 .1 .0
-
-returns : tie.Need-returns
-returns c =
-    let at-fill-columns = c .before in
-    let at-if1 = at-fill-columns .before .before in
+overlapping-into-requires : tie.Need-overlapping-into-requires
+overlapping-into-requires c κs =
+    let at-if1 = c .before in
     let at-overlapping = at-if1 .before in
-    let at-start = at-overlapping .before in
-    let s = at-start .args in
-    let f = at-fill-columns .fill-columns in
-    overlay-columns (s .a .shape) (s .b .shape) (s .tag) (s .room) (length (s .out .now)) (f .result) (f .last .1 .1 .1 .0) (sym (at-overlapping .overlapping .ensures) ∙ at-if1 .if1 .taken) (f .ensures)
+    let h = at-overlapping .before .pre in
+    (h .0, h .1, sym (at-overlapping .overlapping .ensures) ∙ at-if1 .if1 .taken, h .2)
 
 put-requires : tie.Need-put-requires
 put-requires c κs =
@@ -66,9 +58,9 @@ overlay-into-spec =
     tie.close
     (tie.spec
     overlapping-requires
-    fill-columns-requires
-    same-length
-    returns
+    overlapping-into-requires
+    (λ c. search needs)
+    (λ c. search needs)
     put-requires
     same-length-2
     returns-2

@@ -2,6 +2,7 @@
 use mathlib.Core.Path.{refl, sym, _∙_}
 use mathlib.Core.Logic.{⊎-elim}
 use Prim.Native.Nat.{_-_}
+use native.Mathlib.Omega.{arith}
 use borrow.Author.Needs.{needs}
 use borrow.Author.Tests.{not-false}
 use Rattle.records.specs.Records.{recordAt, count}
@@ -44,7 +45,12 @@ returns c =
     let at-loop-test = at-placed-at .before .before .before in
     let at-loop = at-loop-test .before in
     let at-start = at-loop .before in
-    pass-found (overlaps (at-start .args .a .shape)) (at-loop .loop .inv) (at-loop-test .loop-test .taken) (at-placed-at .placed-at .result .shape) (at-placed-at .placed-at .ensures .shape) (sym (at-overlapping .overlapping .ensures) ∙ c .if2 .taken)
+    let p = at-placed-at .placed-at in
+    let o = sym (at-overlapping .overlapping .ensures) ∙ c .if2 .taken in
+    record {
+      before = pass-found (overlaps (at-start .args .a .shape)) (at-loop .loop .inv) (at-loop-test .loop-test .taken) (p .result .shape) (p .ensures .shape) o;
+      placed = λ _. (p .ensures, o);
+    }
 
 loop-again : tie.Need-loop-again Inv-loop μ-loop
 loop-again c =
@@ -61,7 +67,10 @@ loop-again c =
     (c .if1 .came)
 
 returns-2 : tie.Need-returns-2 Inv-loop μ-loop
-returns-2 c = pass-stop (overlaps (c .before .before .args .a .shape)) (c .before .loop .inv) (c .loop-test .left)
+returns-2 c =
+    let at-loop = c .before in
+    let l = c .loop-test .left in
+    record { before = pass-stop (overlaps (at-loop .before .args .a .shape)) (at-loop .loop .inv) l; placed = λ s. absurd (omega (arith, l, s)) }
 
 pub first-overlapping-spec : {M : Type 1} → statement M
 first-overlapping-spec =

@@ -1,0 +1,36 @@
+use mathlib.Core.Path.{ap}
+use lib.ListN.{length}
+use borrow.Author.Needs.{needs}
+use Rattle.remainder_code.proofs.Answers.{once}
+use Rattle.remainder_code.proofs.One.{first-folded}
+use Rattle.remainder_code.proofs.cut_into.Statement.{statement}
+use Rattle.remainder_code.proofs.cut_into.Tie as tie
+
+returns : tie.Need-returns
+returns c =
+    let at-overlapping-into = c .before .before .before in
+    let at-start = at-overlapping-into .before .before in
+    let a = at-start .args in
+    let f = at-overlapping-into .overlapping-into in
+    first-folded (length (a .out .now)) (a .room) (a .a .shape) (a .b .shape) (f .result) _ (f .last .1 .1 .1 .0) (f .ensures) (ap once (c .enum-told .given .1))
+
+returns-2 : tie.Need-returns-2
+returns-2 c =
+    let at-f = c .before in
+    let at-overlapping-into = at-f .before .before .before in
+    let at-start = at-overlapping-into .before .before in
+    let a = at-start .args in
+    let f = at-overlapping-into .overlapping-into in
+    first-folded (length (a .out .now)) (a .room) (a .a .shape) (a .b .shape) (f .result) _ (f .last .1 .1 .1 .0) (f .ensures) (ap once (at-f .f .given .1))
+
+pub cut-into-spec : {M : Type 1} → statement M
+cut-into-spec =
+    tie.close
+    (tie.spec
+    (λ c κs. search needs)
+    (λ c. search needs)
+    (λ c. search needs)
+    (λ c. search needs)
+    returns
+    (λ c. search needs)
+    returns-2)
