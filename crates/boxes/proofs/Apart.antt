@@ -14,7 +14,7 @@ use Rattle.geometry.specs.Points.{Point, IsPoint}
 use Rattle.geometry.specs.Fitness.{FitFor}
 use Rattle.geometry.proofs.Fitness.{fit-more}
 use Rattle.boxes.specs.declared.Box.{Box}
-use Rattle.boxes.specs.Boxes.{largestLimit, leftEnd, rightEnd, boxOf, apartBy, boxesApart, boxesDisjoint, Inside, Ends}
+use Rattle.boxes.specs.Boxes.{largestLimit, leftEnd, rightEnd, boxOf, boxesApartBy, boxesApart, boxesDisjoint, Inside, Ends}
 use Rattle.boxes.specs.Statements.{BoxesApart, BoxesDisjoint}
 use Rattle.boxes.proofs.Magnitudes.{lowest-low, highest-high}
 use Rattle.boxes.proofs.Holds.{InBox, closed-in-box, lies-inside}
@@ -25,9 +25,9 @@ unfolding boxOf
 box-ends {t} h = record { low = lowest-low (t .bottom) (h .grid .1 .1 .1 .1 .0) (leftEnd t) (rightEnd t) .less; high = highest-high (t .top) (h .grid .1 .1 .1 .1 .1 .0) (leftEnd t) (rightEnd t) .more }
 
 -- ---- the four ways of a test
-four : (before : ℤ → ℤ → Bool) (e f : Box) {C : Type 0} → T (apartBy before e f)
+four : (before : ℤ → ℤ → Bool) (e f : Box) {C : Type 0} → T (boxesApartBy before e f)
     → (T (before (f .right .v) (e .left .v)) → C) → (T (before (e .right .v) (f .left .v)) → C) → (T (before (f .top .v) (e .bottom .v)) → C) → (T (before (e .top .v) (f .bottom .v)) → C) → C
-unfolding apartBy
+unfolding boxesApartBy
 four before e f h a b c d =
     elim (or-yes (before (f .right .v) (e .left .v)) _ h) [
       | inl k ↦ a k

@@ -11,7 +11,7 @@ use Rattle.geometry.specs.Lines.{dx, dy, offset, det, numer}
 use Rattle.geometry.specs.Positions.{ratio, meet}
 use Rattle.boxes.specs.declared.Box.{Box}
 use Rattle.boxes.specs.Whole.{floor, ceiling}
-use Rattle.boxes.specs.Boxes.{near, endless, heightBelow, heightAbove, lowest, highest, int, leftEnd, rightEnd, boxOf, apartBy, boxesApart, boxesDisjoint}
+use Rattle.boxes.specs.Boxes.{near, endless, heightBelow, heightAbove, lowest, highest, int, leftEnd, rightEnd, boxOf, boxesApartBy, boxesApart, boxesDisjoint}
 
 -- −7/2 lies between −4 and −3, and −6/2 is −3
 rounding : (floor (negsuc 6) (pos 2) ≡ negsuc 3) × (ceiling (negsuc 6) (pos 2) ≡ negsuc 2) × (floor (negsuc 5) (pos 2) ≡ negsuc 2) × (ceiling (negsuc 5) (pos 2) ≡ negsuc 2)
@@ -99,7 +99,7 @@ Above =
     × Tests square (box (pos 0) (pos 4) (pos 3) (pos 8)) false false
 
 tests : Beside × Above
-unfolding apartBy
+unfolding boxesApartBy
 tests = (
   ((refl, refl, refl, refl), (refl, refl, refl, refl), (refl, refl, refl, refl)),
   ((refl, refl, refl, refl), (refl, refl, refl, refl), (refl, refl, refl, refl)),

@@ -67,18 +67,18 @@ boxOf t =
     }
 
 -- one ends before the other begins, by a test of "before"
-unfoldable pub apartBy : (ℤ → ℤ → Bool) → Box → Box → Bool
-apartBy before e f =
+unfoldable pub boxesApartBy : (ℤ → ℤ → Bool) → Box → Box → Bool
+boxesApartBy before e f =
     before (f .right .v) (e .left .v)
     || (before (e .right .v) (f .left .v) || (before (f .top .v) (e .bottom .v) || before (e .top .v) (f .bottom .v)))
 
 -- the boxes share no point, their edges counted
 abbrev pub boxesApart : Box → Box → Bool
-boxesApart = apartBy ltZ
+boxesApart = boxesApartBy ltZ
 
 -- they share no point inside: edges may meet
 abbrev pub boxesDisjoint : Box → Box → Bool
-boxesDisjoint = apartBy leZ
+boxesDisjoint = boxesApartBy leZ
 
 -- ---- the points of a box
 -- P lies in it, and on neither its right nor its top edge; an end that is `endless` says nothing

@@ -31,9 +31,9 @@ CrossingBetween lo hi l m Nowhere = crossBetween lo hi (crossing l m) ≡ false
 CrossingBetween lo hi l m (At p) = (crossBetween lo hi (crossing l m) ≡ true) × PositionOf (crossing l m) p
 
 -- p is right of g, or anywhere
-abbrev pub rightOf : Bool → Fraction → Fraction → Bool
-rightOf true g p = before g p
-rightOf false g p = true
+abbrev pub rightOrAny : Bool → Fraction → Fraction → Bool
+rightOrAny true g p = before g p
+rightOrAny false g p = true
 
 -- ---- events in an array
 abbrev pub basesOf : List Event → List Base
@@ -65,8 +65,8 @@ abbrev pub first : List Event → Next
 first [] = Nothing
 first (e ∷ es) = Found e
 
-unfoldable pub chosen : EventList → ℕ → Next
-chosen v k = first (drop k (v .list))
+unfoldable pub eventNumbered : EventList → ℕ → Next
+eventNumbered v k = first (drop k (v .list))
 
 -- the n events of v stand at the positions `at`, and the event e at g
 pub record StandAt (v : EventList) (e : Event) (at : List Position) (n : ℕ) (g : Position) : Type 0 where
@@ -84,4 +84,4 @@ pub record SomeStandAt (at : List Position) (n : ℕ) (g : Position) : Type 0 wh
 -- r is the number of the next event, of whichever events stand there
 pub record NextNumber (at : List Position) (n : ℕ) (started : Bool) (g : Position) (r : ℕ) : Type 0 where
   pub upto : r ≤ 8
-  pub is : (v : EventList) (e : Event) → StandAt v e at n g → NextAmong (namesOf v) (after started e) (chosen v r)
+  pub is : (v : EventList) (e : Event) → StandAt v e at n g → NextAmong (namesOf v) (after started e) (eventNumbered v r)

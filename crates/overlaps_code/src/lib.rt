@@ -16,7 +16,7 @@ ghost use Rattle.geometry.specs.Ranges.{crossing};
 ghost use Rattle.overlay.specs.Overlaps.{overlapRight, overlaps};
 ghost use Rattle.geometry_code.specs.Code.{fractionOf, SmallPosition};
 ghost use Rattle.trapezoids_code.specs.Placed.{Pair};
-ghost use Rattle.overlaps_code.specs.Code.{crossBetween, CrossingBetween, rightOf, WellPlaced, AllEvents, positionsOf, SomeStandAt, NextNumber};
+ghost use Rattle.overlaps_code.specs.Code.{crossBetween, CrossingBetween, rightOrAny, WellPlaced, AllEvents, positionsOf, SomeStandAt, NextNumber};
 
 // Right of a position each bottom is below the other's top.
 fn overlap_right(a: Trapezoid, b: Trapezoid, p: Position) -> bool
@@ -148,7 +148,7 @@ pub fn events_of(a: Placed, b: Placed) -> EventList
 // Whether position p is right of position g, or anywhere where nothing has been started.
 fn eligible(started: bool, g: Position, p: Position) -> bool
     requires { ⌜ SmallPosition g × SmallPosition p ⌝ }
-    ensures { λ r. ⌜ r ≡ rightOf started (fractionOf g) (fractionOf p) ⌝ }
+    ensures { λ r. ⌜ r ≡ rightOrAny started (fractionOf g) (fractionOf p) ⌝ }
 {
     if started {
         return geometry_code::is_before(g, p);

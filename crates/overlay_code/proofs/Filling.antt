@@ -41,7 +41,7 @@ use Rattle.geometry_code.specs.Code.{fractionOf, PositionOf}
 use Rattle.trapezoids_code.specs.Tails.{inFront, Borrowed, FilledAs}
 use Rattle.trapezoids_code.proofs.Writing.{tail, fill-nothing, Writing, write-start, write-stop, write-full, write-upto, write-turn}
 use Rattle.sweep_code.specs.Events.{NextAmong, EventOf, optionOf, NextPlaced, after}
-use Rattle.overlaps_code.specs.Code.{positionsOf, namesOf, WellPlaced, chosen, StandAt, NextNumber}
+use Rattle.overlaps_code.specs.Code.{positionsOf, namesOf, WellPlaced, eventNumbered, StandAt, NextNumber}
 use Rattle.overlaps_code.proofs.NextEvent.{chosen-none, chosen-at}
 use Rattle.columns_code.specs.Order.{sideNumbers, HasSides, strips, orderAt}
 use Rattle.columns_code.specs.Code.{ColumnAt, FourSides}
@@ -97,10 +97,10 @@ module _ {A B : Trapezoid} (ha : FitFor coordinateLimit A) (hb : FitFor coordina
     abbrev right : Option Base
     right = after started (record { base = k; at = g })
 
-    among : NextAmong (namesOf v) right (chosen v r)
+    among : NextAmong (namesOf v) right (eventNumbered v r)
     among = h .is v (record { base = k; at = g }) (stand well each q)
 
-    next-is : next (earlier position) right (overlayEvents A B) ≡ optionOf (chosen v r)
+    next-is : next (earlier position) right (overlayEvents A B) ≡ optionOf (eventNumbered v r)
     next-is =
         sym (among .is ∙ ap (scan (earlier position) none right) names ∙ scan-is-next (earlier position) (Placed position) (placed-order position) right (overlayEvents A B) proper)
 
@@ -108,7 +108,7 @@ module _ {A B : Trapezoid} (ha : FitFor coordinateLimit A) (hb : FitFor coordina
     next-none e = next-is ∙ ap optionOf (chosen-none v well r e)
 
     module _ (u : r ≡ 8 → ⊥) (d : Event) where
-      is-found : chosen v r ≡ Found (getD (v .list) r d)
+      is-found : eventNumbered v r ≡ Found (getD (v .list) r d)
       is-found = chosen-at v well r d (omega (arith, h .upto, u))
 
       next-found : next (earlier position) right (overlayEvents A B) ≡ some (getD (v .list) r d .base)

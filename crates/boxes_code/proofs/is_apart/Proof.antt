@@ -1,22 +1,22 @@
 use borrow.Author.Needs.{needs}
-use Rattle.boxes.specs.Boxes.{apartBy}
+use Rattle.boxes.specs.Boxes.{boxesApartBy}
 use Rattle.boxes_code.proofs.Branches.{found, next}
 use Rattle.boxes_code.proofs.is_apart.Statement.{statement}
 use Rattle.boxes_code.proofs.is_apart.Tie as tie
 
 returns : tie.Need-returns
-unfolding apartBy
+unfolding boxesApartBy
 returns c = found _ (c .before .less .ensures) (c .if1 .taken)
 
 returns-2 : tie.Need-returns-2
-unfolding apartBy
+unfolding boxesApartBy
 returns-2 c =
     let at-less2 = c .before in
     let at-if1 = at-less2 .before in
     next (at-if1 .before .less .ensures) (at-if1 .if1 .left) (found _ (at-less2 .less2 .ensures) (c .if2 .taken))
 
 returns-3 : tie.Need-returns-3
-unfolding apartBy
+unfolding boxesApartBy
 returns-3 c =
     let at-less3 = c .before in
     let at-if2 = at-less3 .before in
@@ -27,7 +27,7 @@ returns-3 c =
     (found _ (at-less3 .less3 .ensures) (c .if3 .taken)))
 
 returns-4 : tie.Need-returns-4
-unfolding apartBy
+unfolding boxesApartBy
 returns-4 c =
     let at-if3 = c .before in
     let at-less3 = at-if3 .before in
