@@ -1,6 +1,6 @@
 /* Polygons fractured into trapezoids; set operations, deoverlapping, equality, the point question and connected components of
- * layers of trapezoids; layer files: exact for every input. docs/CALLS.md has the whole table of refusals, their order and
- * places, and the rule of space.
+ * layers of trapezoids; transistors from three layers; layer files: exact for every input. docs/CALLS.md has the whole table of
+ * refusals, their order and places, and the rule of space.
  *
  * LAYERS. A layer is signed 32-bit words and their number: LOXURFA_TRAPEZOID_WORDS words to a trapezoid, at most
  * LOXURFA_MAX_TRAPEZOIDS trapezoids. A trapezoid is the two lines of its left base, the two of its right base, its bottom and
@@ -9,17 +9,17 @@
  * OUTPUTS. `out` takes trapezoids in the same form; past them its words are set to 0. `scratch` has as many words as `out`, and
  * all of them are 0 in the end. What either held before does not matter.
  *
- * MEMORY. What a call writes (`out`, `scratch`, `numbers`) overlaps nothing else that it is given: no other output, no layer, not
- * `file` and not `words`. Nothing checks that: reading a layer file in place, for one, destroys it and answers success. What is only
- * read may be the same memory. Words are aligned to 4 bytes, bytes to none. A pointer may be NULL where its length is 0, and only
- * there.
+ * MEMORY. What a call writes (`out`, `scratch`, `numbers`, `list`) overlaps nothing else that it is given: no other output, no layer,
+ * not `file` and not `words`. Nothing checks that: reading a layer file in place, for one, destroys it and answers success. What is
+ * only read may be the same memory. Words are aligned to 4 bytes, bytes to none. A pointer may be NULL where its length is 0, and
+ * only there.
  *
  * CALLS AT ONCE. No call keeps anything, and none allocates: any number of threads may call, each with outputs of its own. A call
  * takes no more than LOXURFA_STACK_BYTES of stack.
  *
  * ANSWERS. Each call answers one number, which the functions loxurfa_refused to loxurfa_overlays take apart:
  *   bit 63 set    refused: the refusal's number in bits 32 to 39, its place in bits 0 to 31. With the numbers 1 to 11 nothing
- *                 has changed, with 12 (no space) the outputs and `scratch` are all 0.
+ *                 has changed, with 12 (no space) the outputs, `list` and `scratch` are all 0.
  *   bit 63 clear  done: the call's value, as said at each, in bits 32 to 62, the number of overlays made in bits 0 to 31 (0 where
  *                 nothing is said).
  */
@@ -44,7 +44,8 @@ extern "C" {
 #define LOXURFA_MAX_LAYERS 16          /* in a layer file */
 #define LOXURFA_MAX_FILE_BYTES 65532   /* more are refused unread */
 #define LOXURFA_MAX_LAYER_FILE_WORDS 12321 /* of a layer file that passes: 1 + 2 * 16 + 24 * 512 */
-#define LOXURFA_STACK_BYTES 65536      /* more than any call takes */
+#define LOXURFA_TRIPLE_WORDS 3         /* words of a triple */
+#define LOXURFA_STACK_BYTES 262144     /* more than any call takes */
 
 /* Codes of set operations. */
 #define LOXURFA_UNION 0
@@ -107,6 +108,16 @@ uint64_t loxurfa_contains(int32_t x, int32_t y, int32_t d, const int32_t *a, siz
  * each trapezoid, and gets the lowest number of a trapezoid of its component, counted from 0. Value: the number of components. */
 uint64_t loxurfa_components(const int32_t *a, size_t a_words, uint32_t *numbers, size_t numbers_count);
 
+/* The transistors of three layers. The shapes of a layer are its connected components, as loxurfa_components numbers them. A shape
+ * encloses another if every point of the other lies in it. `list` gets each triple of a collector that encloses a base that
+ * encloses an emitter, once: LOXURFA_TRIPLE_WORDS words, the numbers of the collector, the base and the emitter, each in its own
+ * layer, ascending by collector, then base, then emitter. `list` has any length; past the triples it is set to 0. There are at
+ * most as many triples as shapes of the emitters' layer, so LOXURFA_TRIPLE_WORDS words for each of its trapezoids are always enough.
+ * `out` is room to work in, and all 0 in the end. Value: the triples. Overlays: those made. */
+uint64_t loxurfa_transistors(const int32_t *collectors, size_t collectors_words, const int32_t *bases, size_t bases_words,
+                             const int32_t *emitters, size_t emitters_words, uint32_t *list, size_t list_words,
+                             int32_t *out, size_t out_words, int32_t *scratch, size_t scratch_words);
+
 /* The words of a layer file (docs/FORMATS.md): the number of layers, offset and length of each in trapezoids, then the trapezoids.
  * `out` has any length; past the words it is set to 0. Value: the trapezoids of all layers. */
 uint64_t loxurfa_read_layers(const uint8_t *file, size_t file_bytes, int32_t *out, size_t out_words);
@@ -163,6 +174,18 @@ static inline uint64_t loxurfa_call_components(const int32_t *a, size_t a_words,
     return loxurfa_components(a_words ? a : &word, a_words, numbers_count ? numbers : &number, numbers_count);
 }
 
+static inline uint64_t loxurfa_call_transistors(const int32_t *collectors, size_t collectors_words, const int32_t *bases,
+                                                size_t bases_words, const int32_t *emitters, size_t emitters_words,
+                                                uint32_t *list, size_t list_words, int32_t *out, size_t out_words,
+                                                int32_t *scratch, size_t scratch_words)
+{
+    int32_t word = 0;
+    uint32_t number = 0;
+    return loxurfa_transistors(collectors_words ? collectors : &word, collectors_words, bases_words ? bases : &word, bases_words,
+                               emitters_words ? emitters : &word, emitters_words, list_words ? list : &number, list_words,
+                               out_words ? out : &word, out_words, scratch_words ? scratch : &word, scratch_words);
+}
+
 static inline uint64_t loxurfa_call_read_layers(const uint8_t *file, size_t file_bytes, int32_t *out, size_t out_words)
 {
     uint8_t byte = 0;
@@ -183,6 +206,7 @@ static inline uint64_t loxurfa_call_write_layers(const int32_t *words, size_t wo
 #define loxurfa_equal loxurfa_call_equal
 #define loxurfa_contains loxurfa_call_contains
 #define loxurfa_components loxurfa_call_components
+#define loxurfa_transistors loxurfa_call_transistors
 #define loxurfa_read_layers loxurfa_call_read_layers
 #define loxurfa_write_layers loxurfa_call_write_layers
 

@@ -1,4 +1,5 @@
-//! Exact set operations on layers of trapezoids.
+//! Exact set operations on layers of trapezoids, their connected components, and transistors from
+//! three layers.
 //!
 //! A layer is a slice of `i32` words, 24 for each trapezoid: left base (two lines), right base
 //! (two lines), bottom, top. A line is x1 y1 x2 y2 with x1 < x2, each from -2048 to 2048.
@@ -16,11 +17,13 @@ pub struct Readme;
 mod components;
 mod files;
 mod fracture;
+mod transistors;
 
 pub use components::components;
 pub use files::{decode_layers, encode_layers, read_layers, write_layers};
 pub use files::{MAX_LAYERS, MAX_LAYER_FILE_WORDS};
 pub use fracture::{fracture, MAX_POLYGONS, MAX_VERTICES, MIN_VERTICES};
+pub use transistors::{transistors, Transistors, Triple, TRIPLE_WORDS};
 
 /// Words in one trapezoid.
 pub const TRAPEZOID_WORDS: usize = 24;
@@ -38,7 +41,7 @@ pub const MAX_DENOMINATOR: i32 = 1024;
 pub const MAX_FILE_BYTES: usize = 65_532;
 
 /// Bytes of stack, more than any call takes.
-pub const STACK_BYTES: usize = 65_536;
+pub const STACK_BYTES: usize = 262_144;
 
 /// The numbers of refusals, by what is refused.
 pub mod refused {
@@ -220,10 +223,12 @@ pub mod raw {
     mod components;
     mod files;
     mod fracture;
+    mod transistors;
 
     pub use components::components;
     pub use files::{read_layers, write_layers};
     pub use fracture::fracture;
+    pub use transistors::transistors;
 
     mod c {
         extern "C" {

@@ -4,8 +4,9 @@
 mod reference;
 mod support;
 
-use loxurfa::{combine, deoverlap, equal, Code, Done, Equality, Refusal};
+use loxurfa::{combine, deoverlap, equal, transistors};
 use loxurfa::{raw, refused, MAX_LAYER_FILE_WORDS, STACK_BYTES, TRAPEZOID_WORDS};
+use loxurfa::{Code, Done, Equality, Refusal, Transistors};
 use std::fs;
 use std::path::{Path, PathBuf};
 use std::process::Command;
@@ -35,7 +36,7 @@ fn written(call: &Call) -> Vec<u8> {
     let mut bytes = (call.function as u32).to_ne_bytes().to_vec();
     bytes.extend(call.code.to_ne_bytes());
     bytes.extend(call.point.iter().flat_map(|word| word.to_ne_bytes()));
-    for i in 0..4 {
+    for i in 0..6 {
         let (size, count): (u32, usize) = match call.buffers.get(i) {
             Some(Buffer::Bytes(all)) => (1, all.len()),
             Some(buffer) => (4, buffer.len()),
@@ -134,6 +135,9 @@ fn calls(random: &mut Random, of_each: usize) -> Vec<Call> {
             Function::Components,
             vec![words(&both), Buffer::Numbers(vec![7; 40])],
         );
+        let layers = [&both, &upright, &lying].map(words).to_vec();
+        let rest = vec![Buffer::Numbers(vec![7; 60]), room(), room()];
+        with(Function::Transistors, [layers, rest].concat());
         with(
             Function::ReadLayers,
             vec![
@@ -292,6 +296,26 @@ fn the_order_of_rows() {
     second[23] = 2049;
     let answer = raw::combine(0, &[first, second].concat(), &[], out, scratch);
     assert_eq!(answer, support::outcomes::refusal(9, 0));
+}
+
+/// What docs/CALLS.md says of a transistor's space.
+#[test]
+fn space_of_transistors() {
+    let square = |x: i32, width: i32| rectangle(x, x + width, x, x + width);
+    let cell = [square(0, 9), square(1, 7), square(2, 5)];
+    let into = |[c, b, e]: [&[i32]; 3], records: usize, words: usize| {
+        let room = || vec![1; TRAPEZOID_WORDS * records];
+        transistors(c, b, e, &mut vec![1; words], &mut room(), &mut room())
+    };
+    let done = |triples, overlays| Ok(Transistors { triples, overlays });
+    let one = cell.each_ref().map(|layer| &layer[..]);
+    assert_eq!(into(one, 0, 3), done(1, 2));
+    assert_eq!(into(one, 0, 2), refusal(refused::SPACE, 0));
+    let two = cell.map(|layer| [layer, square(20, 1)].concat());
+    let two = two.each_ref().map(|layer| &layer[..]);
+    assert_eq!(into(two, 1, 6), done(2, 8));
+    assert_eq!(into(two, 0, 6), refusal(refused::SPACE, 0));
+    assert_eq!(into(two, 1, 5), refusal(refused::SPACE, 0));
 }
 
 /// One corner in common.

@@ -73,6 +73,8 @@ fn constants() -> Vec<(&'static str, i64, i64)> {
     let (polygons, layers) = (format("polygonFile"), format("layerFile"));
     let bytes = between(FORMATS, "leb n ", ")");
     let words = 1 + 2 * layers["count"] + layers["unit"] * layers["total"];
+    let extraction = "crates/extraction/specs/Extraction.antt";
+    let triple = between(extraction, "tripleCodec = record { width = ", ";");
     vec![
         ("TRAPEZOID_WORDS", width, loxurfa::TRAPEZOID_WORDS as i64),
         ("MAX_TRAPEZOIDS", most, loxurfa::MAX_TRAPEZOIDS as i64),
@@ -104,8 +106,9 @@ fn constants() -> Vec<(&'static str, i64, i64)> {
             words,
             loxurfa::MAX_LAYER_FILE_WORDS as i64,
         ),
+        ("TRIPLE_WORDS", triple, loxurfa::TRIPLE_WORDS as i64),
         // Measured: tests/calls.rs.
-        ("STACK_BYTES", 65_536, loxurfa::STACK_BYTES as i64),
+        ("STACK_BYTES", 262_144, loxurfa::STACK_BYTES as i64),
     ]
 }
 
@@ -326,6 +329,7 @@ fn sentences() {
     let (count, layer_count) = (polygons["count"], layers["count"]);
     let (least, largest) = (polygons["least"], polygons["most"]);
     let words = said(defined(LIMITS, "memoryWidth") * defined(LIMITS, "maxRecords"));
+    let list = said(loxurfa::TRIPLE_WORDS as i64 * defined(LIMITS, "maxRecords"));
     let file_bytes =
         |f: &BTreeMap<String, i64>| said(4 * (1 + 2 * f["count"] + f["unit"] * f["total"]));
 
@@ -344,6 +348,7 @@ fn sentences() {
         format!("records of {width} words"),
         format!("give an output the {most} records"),
         format!("LOXURFA_STACK_BYTES, {},", named["STACK_BYTES"]),
+        format!("three words for each trapezoid of `emitters`, at most {list},"),
     ];
     let formats = [
         format!("| entries (N) | 0 to {count} | 0 to {layer_count} |"),
@@ -397,6 +402,7 @@ fn rows_of_each_call() {
         "equal",
         "contains",
         "components",
+        "transistors",
         "read_layers",
         "write_layers",
     ];

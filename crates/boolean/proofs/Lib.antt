@@ -9,4 +9,5 @@ pub mod Space
 pub mod Stages
 pub mod Counts
 pub mod Shifting
+pub mod Apart
 pub mod Examples

@@ -24,10 +24,10 @@ ghost use Rattle.trapezoids_code.specs.Placed.{PlacedAs};
 ghost use Rattle.boxes_code.specs.Code.{Sizes, boxWidth, boxWords, boxAt, FirstBoxes, BoxesOf, bothSmall};
 
 // Words of a box in a slice.
-const WIDTH: usize = 4;
+pub const WIDTH: usize = 4;
 
 // Words of a small layer.
-const SMALL_WORDS: usize = records::MEMORY_WIDTH * boxes::FEW;
+pub const SMALL_WORDS: usize = records::MEMORY_WIDTH * boxes::FEW;
 
 // Rounded toward zero.
 fn quotient(n: Int, d: Int) -> Int

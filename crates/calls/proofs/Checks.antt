@@ -37,7 +37,7 @@ pub record LayerFor (L : ℕ) (a : List ℤ) : Type 0 where
   pub fit : All (FitFor L) (layerOf a)
   pub few : count trapezoidCodec a ≤ maxRecords
 
-layer-ready : (L : ℕ) (a : List ℤ) → sized (length a) ≡ true → All (FitFor L) (layerOf a) → LayerFor L a
+pub layer-ready : (L : ℕ) (a : List ℤ) → sized (length a) ≡ true → All (FitFor L) (layerOf a) → LayerFor L a
 layer-ready L a e h = record { fit = h; few = omega (arith, sized-most (length a) e) }
 
 -- the public functions' limit is one that the arithmetic carries
@@ -149,7 +149,7 @@ pub small-row : (n : ℕ) → n < 256 → (b : Bool) (c : Checked) → (b ≡ tr
 small-row n l true c h = h refl
 small-row n l false c h = (l, omega arith)
 
-layer-length : (a : List ℤ) → sized (length a) ≡ true → length (layerOf a) ≤ maxRecords
+pub layer-length : (a : List ℤ) → sized (length a) ≡ true → length (layerOf a) ≤ maxRecords
 layer-length a e = omega (arith, length-from trapezoidCodec (count trapezoidCodec a) a 0, sized-most (length a) e)
 
 small-layers : (L : ℕ) (a b : List ℤ) → sized (length a) ≡ true → sized (length b) ≡ true → SmallChecked (bothChecked L a b)

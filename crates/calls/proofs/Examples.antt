@@ -3,7 +3,7 @@ use mathlib.Core.Path.{_≡_, refl}
 use mathlib.Core.List.{List, [], _∷_, _++_}
 use Prim.Native.Nat.{ℕ}
 use lib.IntN.{ℤ, pos, negsuc}
-use Rattle.lists.specs.Lists.{cut}
+use Rattle.lists.specs.Lists.{each, cut}
 use Rattle.lists.specs.Tests.{keep}
 use Rattle.integer.specs.Integer.{_⊕_, _⊖_, _⊗_, ⊝_}
 use Rattle.integer.specs.Compare.{orderOf}
@@ -23,8 +23,15 @@ use Rattle.sweep.specs.Sums.{sum}
 use Rattle.sweep.specs.Segments.{spans, inside, crossInside}
 use Rattle.sweep.specs.Columns.{slabs, upTo, column}
 use Rattle.sweep.specs.Sweep.{columns, sweep}
-use Rattle.boolean.specs.Operations.{difference}
-use Rattle.boolean.specs.Space.{space, differenceStages}
+use Rattle.geometry.specs.Ranges.{commonLeft, commonRight}
+use Rattle.overlay.specs.Overlaps.{crossesInCommon, overlapRight, overlapFrom, overlaps}
+use Rattle.overlay.specs.Overlay as overlays
+use Rattle.boolean.specs.Operations.{minus, minusAll, difference}
+use Rattle.boolean.specs.Space.{minusStages, minusAllStages, differenceStages, space}
+use Rattle.connectivity.specs.Touching.{notAbove, touchesAt, crossesWithin, touchesFrom, touchesBetween, touches}
+use Rattle.connectivity.specs.Components.{ownNumbers, relabelled, joinedNumbers, joinedFirst, joinedAll, touchingAt, componentNumbers}
+use Rattle.extraction.specs.Shapes.{havingNumber, shapeOf, shapeNumbers}
+use Rattle.extraction.specs.Extraction.{shapeEncloses, triples, enclosingStages}
 use Rattle.fracture.specs.Polygons.{edge, edgesFrom, edges}
 use Rattle.fracture.specs.Fracture as fractures
 use Rattle.files.specs.Formats.{fileSized}
@@ -37,6 +44,7 @@ use Rattle.calls.specs.Components as connectivity
 use Rattle.calls.specs.Answers.{refused-equality, refused-point}
 use Rattle.calls.specs.Rows.{plateLimit, pointPasses, fractureChecked, combineChecked, deoverlapChecked, equalChecked, containsChecked}
 use Rattle.calls.specs.Outcomes.{observed, fractureOutcome, combined, deoverlapOutcome, equalOutcome, containsAnswer}
+use Rattle.calls.specs.Transistors.{transistorsChecked, observedTransistors, transistorsOutcome}
 use Rattle.calls.specs.Table.{box, Q, layer, q, lent, cleared, vertex, fileOf, point}
 
 -- ---- "Rows are checked downward": each input below breaks two rows or more
@@ -142,3 +150,33 @@ examples = (
   (refl, refl, refl, refl, refl, refl, refl, refl),
   (refl, refl, refl, refl),
 )
+
+-- ---- transistors
+-- apart from Q, so that Q is number 1 in a layer of both
+abbrev apart : Trapezoid
+apart = box 8 0 9 1
+
+abbrev both : List ℤ
+both = layer (apart ∷ Q ∷ [])
+
+-- row 1, then 7 to 11: "Places are numbered on through collector, base and emitter layers." "12 is met there by the same rule, or by too short a
+-- list; all three are then zero. Otherwise the list, of any length, is zero past the triples"
+abbrev Listed : Type 0
+Listed =
+    (transistorsOutcome plateLimit (layer (far ∷ [])) q odd [] [] [] .answer ≡ refused 1 0)
+    × (transistorsOutcome plateLimit (layer (far ∷ [])) q q [] odd odd .answer ≡ refused 1 0)
+    × (transistorsOutcome plateLimit both q (layer (Q ∷ far ∷ flat ∷ [])) [] [] [] .answer ≡ refused 7 4)
+    × (transistorsOutcome plateLimit both q q (9 ∷ 9 ∷ 9 ∷ []) [] [] ≡ observedTransistors (refused 12 0) (0 ∷ 0 ∷ 0 ∷ []) [] [])
+    × (transistorsOutcome plateLimit both q q (9 ∷ 9 ∷ []) (lent 1) (lent 1) ≡ observedTransistors (refused 12 0) (0 ∷ 0 ∷ []) (cleared 1) (cleared 1))
+    × (transistorsOutcome plateLimit both q q (9 ∷ 9 ∷ 9 ∷ 9 ∷ []) (lent 1) (lent 1) ≡ observedTransistors (done 1 3) (1 ∷ 0 ∷ 0 ∷ 0 ∷ []) (cleared 1) (cleared 1))
+
+transistor-examples : Listed
+unfolding each keep _⊕_ _⊖_ _⊗_ ⊝_ orderOf before sized recordAt recordsFrom wordsOf insert levels
+    onGrid dx dy offset det numer crosses ratio meet heights rightOf below trapezoidOf trapezoidWords
+    lineOnGrid isLine belowBetween shapeVerdict verdict firstRefusal sum spans inside crossInside slabs upTo column columns sweep
+    commonLeft commonRight crossesInCommon overlapRight overlapFrom overlaps overlays.sides overlays.sideCrossings overlays.overlayEvents overlays.fills
+    overlays.tagAbove overlays.stack overlays.parts overlays.subdivision overlays.overlay overlays.tagged
+    notAbove touchesAt crossesWithin touchesFrom touchesBetween touches ownNumbers relabelled joinedNumbers joinedFirst joinedAll touchingAt componentNumbers
+    minus minusAll difference minusStages minusAllStages differenceStages space
+    havingNumber shapeOf shapeNumbers shapeEncloses triples enclosingStages transistorsChecked transistorsOutcome
+transistor-examples = (refl, refl, refl, refl, refl, refl)

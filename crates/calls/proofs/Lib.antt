@@ -6,6 +6,7 @@ pub mod Room
 pub mod Success
 pub mod Same
 pub mod Components
+pub mod Transistors
 pub mod Fracturing
 pub mod Exact
 pub mod Table

@@ -5,6 +5,7 @@ use Prim.Native.Nat.{ℕ}
 use lib.IntN.{ℤ}
 use Rattle.files.specs.Outcomes as files
 use Rattle.calls.specs.Outcomes.{Outcome, observed}
+use Rattle.calls.specs.Transistors.{TransistorsOutcome, observedTransistors}
 use Rattle.calls.specs.Packed.{packed}
 use Rattle.calls.specs.Contracts.{SeenFromC, FileSeenFromC}
 
@@ -13,3 +14,8 @@ seen {A} pack e h = (h ∙ ap (λ (x : Outcome A). pack (x .answer)) e, ap (λ (
 
 pub file-seen : {W : Type 0} {o : files.FileOutcome W} {answer : files.Answer} {out : List W} → files.observedFile answer out ≡ o → {n : ℕ} → n ≡ packed answer → FileSeenFromC o n out
 file-seen {W} e h = (h ∙ ap (λ (x : files.FileOutcome W). packed (x .answer)) e, ap (λ (x : files.FileOutcome W). x .out) e)
+
+pub transistors-seen : {o : TransistorsOutcome} {answer : files.Answer} {list : List ℕ} {out scratch : List ℤ} → observedTransistors answer list out scratch ≡ o → {n : ℕ} → n ≡ packed answer
+    → (n ≡ packed (o .answer)) × (list ≡ o .list) × (out ≡ o .out) × (scratch ≡ o .scratch)
+transistors-seen e h =
+    (h ∙ ap (λ (x : TransistorsOutcome). packed (x .answer)) e, ap (λ (x : TransistorsOutcome). x .list) e, ap (λ (x : TransistorsOutcome). x .out) e, ap (λ (x : TransistorsOutcome). x .scratch) e)

@@ -9,6 +9,8 @@ use Rattle.files.specs.declared.LayersWritten.{LayersWritten}
 use Rattle.files.specs.Outcomes as files
 use Rattle.calls.specs.declared.Connected.{Connected}
 use Rattle.calls.specs.Components as connectivity
+use Rattle.calls.specs.declared.Extracted.{Extracted}
+use Rattle.calls.specs.Transistors.{extractedAnswer, observedTransistors, transistorsOutcome}
 use Rattle.calls.specs.declared.Fractured.{Fractured}
 use Rattle.calls.specs.declared.Combined.{Combined}
 use Rattle.calls.specs.declared.Deoverlapped.{Deoverlapped}
@@ -46,6 +48,10 @@ WriteKept L words out answer out-then = files.observedFile (files.writtenAnswer 
 abbrev pub ComponentsKept : ℕ → List ℤ → List ℕ → Connected → List ℕ → Type 0
 ComponentsKept L a numbers answer numbers-then = connectivity.observedComponents (connectivity.connectedAnswer answer) numbers-then ≡ connectivity.componentsOutcome L a numbers
 
+abbrev pub TransistorsKept : ℕ → List ℤ → List ℤ → List ℤ → List ℕ → List ℤ → List ℤ → Extracted → List ℕ → List ℤ → List ℤ → Type 0
+TransistorsKept L c b e list out scratch answer list-then out-then scratch-then =
+    observedTransistors (extractedAnswer answer) list-then out-then scratch-then ≡ transistorsOutcome L c b e list out scratch
+
 -- ---- the functions for C: the answer is one number. Of an outcome o, what was seen: the answer's number, and the words left
 abbrev pub SeenFromC : {A : Type 0} → (A → ℕ) → Outcome A → ℕ → List ℤ → List ℤ → Type 0
 SeenFromC pack o answer out scratch = (answer ≡ pack (o .answer)) × (out ≡ o .out) × (scratch ≡ o .scratch)
@@ -76,3 +82,8 @@ WriteKeptForC L words out answer out-then = FileSeenFromC (files.writeLayers L w
 
 abbrev pub ComponentsKeptForC : ℕ → List ℤ → List ℕ → ℕ → List ℕ → Type 0
 ComponentsKeptForC L a numbers answer numbers-then = (answer ≡ packedCount (connectivity.componentsOutcome L a numbers .answer)) × (numbers-then ≡ connectivity.componentsOutcome L a numbers .numbers)
+
+abbrev pub TransistorsKeptForC : ℕ → List ℤ → List ℤ → List ℤ → List ℕ → List ℤ → List ℤ → ℕ → List ℕ → List ℤ → List ℤ → Type 0
+TransistorsKeptForC L c b e list out scratch answer list-then out-then scratch-then =
+    (answer ≡ packed (transistorsOutcome L c b e list out scratch .answer)) × (list-then ≡ transistorsOutcome L c b e list out scratch .list)
+    × (out-then ≡ transistorsOutcome L c b e list out scratch .out) × (scratch-then ≡ transistorsOutcome L c b e list out scratch .scratch)

@@ -3,6 +3,7 @@ pub mod Answers
 pub mod Rows
 pub mod Outcomes
 pub mod Components
+pub mod Transistors
 pub mod Packed
 pub mod Contracts
 pub mod Statements

@@ -43,3 +43,9 @@ pub enum Connected {
     Refused { number: u32, place: usize },
     Done { components: usize },
 }
+
+// What `transistors` answers: the refusal's number and place, or the triples listed and the overlays made.
+pub enum Extracted {
+    Refused { number: u32, place: usize },
+    Done { triples: usize, overlays: usize },
+}

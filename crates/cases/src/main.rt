@@ -1,4 +1,4 @@
-// The limits of paper 01 on files, through the public functions of `loxurfa`: 2, 3, 32, 33 vertices and 64, 65 polygons in a polygon
+// The limits of paper 01 on files, through the public functions of `loxurfa_files`: 2, 3, 32, 33 vertices and 64, 65 polygons in a polygon
 // file, 512, 513 trapezoids in a layer file. Each case has its answer, which stands in the file `stdout`, and the reason.
 use calls::Fractured;
 use files::LayersRead;
@@ -11,7 +11,7 @@ fn fracture(file: &[u8], bytes: usize) {
     let mut out = [7i32; records::MAX_WORDS];
     let mut scratch = [7i32; records::MAX_WORDS];
     if bytes <= file.len() {
-        let r = loxurfa::fracture(&file[..bytes], &mut out, &mut scratch);
+        let r = loxurfa_files::fracture(&file[..bytes], &mut out, &mut scratch);
         match r {
             Fractured::Refused { number, place } => case_parts::refused(number, place),
             Fractured::Done { pieces, overlays } => case_parts::done(pieces, overlays),
@@ -70,7 +70,7 @@ fn bytes_of(words: &[i32], file: &mut [u8]) {
 }
 
 fn write_layers(words: &[i32], file: &mut [u8]) {
-    let r = loxurfa::write_layers(words, file);
+    let r = loxurfa_files::write_layers(words, file);
     match r {
         LayersWritten::Refused { number, place } => case_parts::refused(number, place),
         LayersWritten::Done { pieces, overlays } => case_parts::done_file(pieces),
@@ -78,7 +78,7 @@ fn write_layers(words: &[i32], file: &mut [u8]) {
 }
 
 fn read_layers(file: &[u8], words: &mut [i32]) {
-    let r = loxurfa::read_layers(file, words);
+    let r = loxurfa_files::read_layers(file, words);
     match r {
         LayersRead::Refused { number, place } => case_parts::refused(number, place),
         LayersRead::Done { pieces, overlays } => case_parts::done_file(pieces),

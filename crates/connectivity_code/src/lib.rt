@@ -215,7 +215,7 @@ fn count_own(numbers: &[u32]) -> usize
 }
 
 // The component numbers of a layer of fit trapezoids, with `boxes` for the boxes of the layer.
-fn components_with(layer: &[i32], boxes: &mut [i64], numbers: &mut [u32]) -> usize
+pub fn components_with(layer: &[i32], boxes: &mut [i64], numbers: &mut [u32]) -> usize
     requires { ⌜ Numbering (now layer) (now numbers) × (length (now numbers) ≤ maxRecords) × (boxWidth * length (now numbers) ≤ length (now boxes)) ⌝ }
     ensures { λ r. ⌜ now (numbers .exit) ≡ componentNumbers (layerOf (now (layer .entry))) ⌝ }
     ensures { λ r. ⌜ (r ≡ componentCount (layerOf (now (layer .entry)))) × (r ≤ maxRecords) ⌝ }

@@ -1,2 +1,3 @@
 pub mod Folds
 pub mod Alone
+pub mod Left

@@ -1,17 +1,11 @@
 -- The equality test: what the answers about the two differences say of it.
 use mathlib.Core.Path.{_≡_, refl, sym, _∙_, ap, subst}
 use mathlib.Core.List.{List, [], _∷_, _++_, append-nil}
-use Prim.Native.Nat.{ℕ, _+_, _*_, _-_, _<_, _≤_}
+use Prim.Native.Nat.{ℕ, _+_, _<_}
 use native.Mathlib.Omega.{arith}
-use lib.ListN.{length, take, drop, replicate, replicate-append-replicate}
-use lib.Seq.{length-take-le}
-use lib.IntN.{ℤ, pos}
-use Rattle.records.specs.Limits.{memoryWidth}
-use Rattle.records.specs.Records.{image, Blank}
-use Rattle.records.proofs.Buffer.{blank-of, image-none, image-drop}
+use lib.ListN.{length}
+use lib.IntN.{ℤ}
 use Rattle.geometry.specs.declared.Trapezoid.{Trapezoid}
-use Rattle.geometry.specs.Trapezoids.{trapezoidCodec}
-use Rattle.geometry.proofs.Trapezoids.{trapezoid-faithful}
 use Rattle.boolean.specs.declared.Folded.the-variants.{NoRoom, Done}
 use Rattle.boolean.specs.declared.Compared.the-variants.{Same, Differs}
 use Rattle.boolean.specs.declared.Compared.the-variants as comparison
@@ -19,11 +13,8 @@ use Rattle.boolean.specs.Operations.{difference, OperandOf}
 use Rattle.boolean.specs.Space.{Stage, enough, plus, space, differenceStages, onlyIfEmpty, equalityStages}
 use Rattle.boolean.proofs.Space.{space-enough, space-no-room}
 use Rattle.remainder_code.specs.Code.{FoldedAs}
+use Rattle.difference_code.proofs.Left.{left-none}
 use Rattle.equality_code.specs.Code.{ComparedAs}
-
-none-left : (ts : List Trapezoid) → length ts ≡ 0 → ts ≡ []
-none-left [] e = refl
-none-left (t ∷ ts) e = absurd (omega (arith, e))
 
 module _ (room : ℕ) (A B : List Trapezoid) (n : ℕ) (d : List ℤ) where
   -- ---- the first minus the second
@@ -51,30 +42,7 @@ module _ (room : ℕ) (A B : List Trapezoid) (n : ℕ) (d : List ℤ) where
     both-no-room c g = both ∙ ap (plus made) (g .0)
 
     pub both-same : (p c : ℕ) → p ≡ 0 → FoldedAs n room (difference B A) (differenceStages 0 B A) (Done p c) d → ComparedAs room A B (Same (made + c))
-    both-same p c e g = (both ∙ ap (plus made) (g .0), empty, none-left (difference B A) (sym (g .1 .0) ∙ e))
+    both-same p c e g = (both ∙ ap (plus made) (g .0), empty, left-none n room (difference B A) (differenceStages 0 B A) p c d g e)
 
     pub both-second : (p c : ℕ) → 0 < p → FoldedAs n room (difference B A) (differenceStages 0 B A) (Done p c) d → ComparedAs room A B (Differs 1 (made + c))
     both-second p c l g = (both ∙ ap (plus made) (g .0), second-left (difference B A) (omega (arith, l, g .1 .0)))
-
--- ---- what a success has left, cleared again
-module _ (n room : ℕ) (ts : List Trapezoid) (ms : List Stage) (p c : ℕ) (t : List ℤ) (g : FoldedAs n room ts ms (Done p c) t) where
-  -- nothing
-  pub left-none : p ≡ 0 → ts ≡ []
-  left-none e = none-left ts (sym (g .1 .0) ∙ e)
-
-  pub left-blank : p ≡ 0 → Blank (pos 0) t
-  left-blank e = blank-of (pos 0) t n (g .1 .2 ∙ ap (image trapezoidCodec n) (left-none e) ∙ image-none trapezoidCodec trapezoid-faithful n)
-
-  -- p trapezoids
-  module _ (long : length t ≡ n) (wide : memoryWidth * room ≤ n) where
-    pub left-words : memoryWidth * p ≤ length t
-    left-words = omega (arith, g .1 .0, g .1 .1, long, wide)
-
-    pub left-length : memoryWidth * p ≡ length (take (memoryWidth * p) t)
-    left-length = sym (length-take-le (memoryWidth * p) t left-words)
-
-    pub left-cleared : (u : List ℤ) → u ≡ replicate (length (take (memoryWidth * p) t)) (pos 0) → Blank (pos 0) (u ++ drop (memoryWidth * p) t)
-    left-cleared u e =
-        let m = memoryWidth * length ts in
-        let z : drop (memoryWidth * p) t ≡ replicate (n - m) (pos 0) = (λ j. drop (memoryWidth * g .1 .0 j) (g .1 .2 j)) ∙ image-drop trapezoidCodec trapezoid-faithful n ts in
-        blank-of (pos 0) (u ++ drop (memoryWidth * p) t) (memoryWidth * p + (n - m)) ((λ j. e j ++ z j) ∙ ap (λ (x : ℕ). replicate x (pos 0) ++ replicate (n - m) (pos 0)) (sym left-length) ∙ replicate-append-replicate (memoryWidth * p) (n - m) (pos 0))

@@ -17,9 +17,9 @@ use Rattle.boolean.specs.declared.Folded.{Folded}
 use Rattle.boolean.specs.Operations.{common, intersection}
 use Rattle.boolean.specs.Space.{Stage, overlaid, enough, space, commonStages, intersectionStages}
 use Rattle.boolean.proofs.Shifting.{overlaid-shift, common-shift}
+use Rattle.boolean.proofs.Apart.{common-apart}
 use Rattle.remainder_code.specs.Code.{FoldedAs, OverlaysWithin}
 use Rattle.remainder_code.proofs.Answers.{folded-within, within-least, space-overlaid}
-use Rattle.remainder_code.proofs.Apart.{common-apart}
 use Rattle.remainder_code.proofs.Folding.{Fold, Steps, Folding, fold-next, Part, appending, appending-steps}
 
 -- ---- one trapezoid and a layer

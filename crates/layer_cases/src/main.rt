@@ -1,5 +1,5 @@
-// The limit of paper 01 on layers, through the public functions of `loxurfa`: 512 and 513 trapezoids. Each case has its answer, which
-// stands in the file `stdout`, and the reason.
+// The limit of paper 01 on layers, through the public functions of `loxurfa` and `loxurfa_shapes`: 512 and 513 trapezoids. Each case has
+// its answer, which stands in the file `stdout`, and the reason.
 use calls::Combined;
 use calls::Connected;
 use calls::Deoverlapped;
@@ -87,7 +87,7 @@ fn equals(a: &[i32], less: &[i32]) {
 }
 
 fn components(a: &[i32], numbers: &mut [u32]) {
-    let r = loxurfa::components(a, numbers);
+    let r = loxurfa_shapes::components(a, numbers);
     match r {
         Connected::Refused { number, place } => case_parts::refused(number, place),
         Connected::Done { components } => {

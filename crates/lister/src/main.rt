@@ -39,7 +39,7 @@ fn list_file(
     requires { ⌜ (length (now first) ≡ maxWords) × (length (now out) ≡ maxWords) × (length (now scratch) ≡ maxWords) × (listingRoom ≤ length (now text)) ⌝ }
     ensures { λ r. ⌜ Put (listed (now (file .entry))) (now (text .entry)) r (now (text .exit)) ⌝ }
 {
-    let f = loxurfa::fracture(file, first, scratch);
+    let f = loxurfa_files::fracture(file, first, scratch);
     match f {
         Fractured::Refused { number, place } => {
             return listing_code::refuse_into(number, place, text);

@@ -7,3 +7,4 @@ pub mod Kept
 pub mod Counts
 pub mod Parts
 pub mod Fill
+pub mod Each

@@ -49,3 +49,8 @@ cut (n ∷ ns) xs = take n xs ∷ cut ns (drop n xs)
 abbrev pub joined : {A : Type 0} → List (List A) → List A
 joined [] = []
 joined (xs ∷ xss) = xs ++ joined xss
+
+-- for each element the list that f makes of it, one after the other
+unfoldable pub each : {A B : Type 0} → (A → List B) → List A → List B
+each f [] = []
+each f (x ∷ xs) = f x ++ each f xs

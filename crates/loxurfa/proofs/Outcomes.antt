@@ -2,20 +2,15 @@
 use mathlib.Core.Path.{_≡_, _∙_, ap, subst}
 use mathlib.Core.Bool.{true, false}
 use mathlib.Core.List.{List, [], _∷_}
-use Prim.Native.Nat.{ℕ, _/_, _≤_}
+use Prim.Native.Nat.{ℕ, _≤_}
 use native.Mathlib.Omega.{arith}
-use lib.ListN.{length, length-replicate}
-use lib.IntN.{ℤ, pos}
-use Rattle.records.specs.Limits.{memoryWidth, maxRecords}
-use Rattle.records.specs.Records.{Blank}
-use Rattle.records.proofs.Buffer.{blank-of}
+use lib.ListN.{length}
+use lib.IntN.{ℤ}
+use Rattle.records.specs.Limits.{maxRecords}
 use Rattle.geometry.specs.declared.Trapezoid.{Trapezoid}
-use Rattle.geometry.specs.declared.Checked.{Checked}
 use Rattle.geometry.specs.declared.Checked.the-variants.{Passed, Refused}
 use Rattle.geometry.specs.Points.{Point}
 use Rattle.geometry.specs.Trapezoids.{layerOf, liesInLayer}
-use Rattle.geometry.specs.Fitness.{SmallRefusal}
-use Rattle.geometry.proofs.Refusals.{SmallChecked}
 use Rattle.boolean.specs.declared.Folded.{Folded}
 use Rattle.boolean.specs.declared.Folded.the-variants.{NoRoom, Done}
 use Rattle.boolean.specs.Operations.{codeAt, result, difference, deoverlapped, OperandOf}
@@ -26,26 +21,8 @@ use Rattle.files.specs.Outcomes.{refused, done, SmallAnswer}
 use Rattle.calls.specs.Answers.{refused-equality, same, differs, refused-point, yes, no, SmallEqualityAnswer}
 use Rattle.calls.specs.Rows.{combineChecked, deoverlapChecked, equalChecked, containsChecked}
 use Rattle.calls.specs.Outcomes.{observed, zeros, roomOf, written, combined, deoverlapOutcome, compared, comparedIn, equalOutcome, containsAnswer}
-use Rattle.trapezoids_code.specs.Tails.{Borrowed}
 use Rattle.remainder_code.specs.Code.{maxOverlays, OverlaysWithin, FoldedAs}
 use Rattle.equality_code.specs.Code.{ComparedAs, ComparedWithin}
-
-pub small-refused : {c : Checked} {n p : ℕ} → c ≡ Refused n p → SmallChecked c → SmallRefusal n p
-small-refused e h = subst SmallChecked e h
-
--- of 12
-pub no-room-small : SmallRefusal 12 0
-no-room-small = (omega arith, omega arith)
-
--- ---- a cleared output and scratch area
-pub cleared-length : (d : List ℤ) (n : ℕ) → d ≡ zeros n → length d ≡ n
-cleared-length d n e = ap length e ∙ length-replicate n (pos 0)
-
-pub cleared-borrowed : (d : List ℤ) (n : ℕ) → d ≡ zeros n → Borrowed d (n / memoryWidth)
-cleared-borrowed d n e = record { blank = blank-of (pos 0) d n e; wide = omega (arith, cleared-length d n e) }
-
-pub blank-zeros : (d : List ℤ) (n : ℕ) → Blank (pos 0) d → length d ≡ n → d ≡ zeros n
-blank-zeros d n e l = e ∙ ap zeros l
 
 -- ---- the point question
 module _ (L : ℕ) (P : Point) (a b : List ℤ) (code : ℕ) where

@@ -1,57 +1,20 @@
-// The public interface: polygons fractured into trapezoids; set operations, deoverlapping, equality, the point question and
-// connected components of layers of trapezoids; and layer files, for every input.
+// The public interface, points: set operations, deoverlapping, equality and the point question of layers of trapezoids, for every
+// input. The other public functions are in `loxurfa_files` and `loxurfa_shapes`.
 use boolean::Compared;
 use boolean::Folded;
 use calls::Combined;
-use calls::Connected;
 use calls::Containment;
 use calls::Deoverlapped;
 use calls::Equality;
-use calls::Fractured;
-use files::LayersRead;
-use files::LayersWritten;
 use geometry::Checked;
-use geometry::Fill;
 use integer::Int;
 ghost use mathlib.Core.Path.{_≡_};
-ghost use Rattle.files.specs.Outcomes.{readAnswer, writtenAnswer, SmallAnswer};
-ghost use Rattle.calls.specs.Components.{connectedAnswer, SmallComponentsAnswer};
-ghost use Rattle.calls.specs.Contracts.{ComponentsKept, ReadKept, WriteKept, FractureKept, CombineKept, DeoverlapKept, EqualKept, ContainsKept};
-ghost use Rattle.calls.specs.Answers.{fracturedAnswer, combinedAnswer, deoverlappedAnswer, equalityAnswer, pointAnswer, SmallEqualityAnswer, SmallPointAnswer};
+ghost use Rattle.files.specs.Outcomes.{SmallAnswer};
+ghost use Rattle.calls.specs.Contracts.{CombineKept, DeoverlapKept, EqualKept, ContainsKept};
+ghost use Rattle.calls.specs.Answers.{combinedAnswer, deoverlappedAnswer, equalityAnswer, pointAnswer, SmallEqualityAnswer, SmallPointAnswer};
 ghost use Rattle.calls.specs.Rows.{plateLimit};
 ghost use Rattle.calls.specs.Outcomes.{containsAnswer};
 ghost use Rattle.geometry_code.specs.Code.{pointOf};
-
-// The trapezoids of the polygons of a polygon file, written to `out`. `scratch` is as long as `out`.
-pub fn fracture(file: &[u8], out: &mut [i32], scratch: &mut [i32]) -> Fractured
-    ensures { λ r. ⌜ FractureKept plateLimit (now (file .entry)) (now (out .entry)) (now (scratch .entry)) r (now (out .exit)) (now (scratch .exit)) ⌝ }
-    ensures small { λ r. ⌜ SmallAnswer (fracturedAnswer r) ⌝ }
-{
-    let checked = rows_code::fracture_checked(calls::PLATE_LIMIT, file, out.len(), scratch.len());
-    match checked {
-        Checked::Refused { number, place } => {
-            return Fractured::Refused { number, place };
-        }
-        Checked::Passed => {}
-    }
-    let room = out.len() / records::MEMORY_WIDTH;
-    records_code::clear_both(out, scratch);
-    let f = polygons_code::fracture_file(file, calls::PLATE_LIMIT, out, room);
-    match f {
-        Fill::NoRoom => {
-            return Fractured::Refused {
-                number: 12,
-                place: 0,
-            };
-        }
-        Fill::Written(n) => {
-            return Fractured::Done {
-                pieces: n,
-                overlays: 0,
-            };
-        }
-    }
-}
 
 // The set operation with this code on a and b, written to `out`. `scratch` is as long as `out`.
 pub fn combine(code: u32, a: &[i32], b: &[i32], out: &mut [i32], scratch: &mut [i32]) -> Combined
@@ -186,74 +149,4 @@ pub fn contains(x: i32, y: i32, d: i32, a: &[i32], b: &[i32], code: u32) -> Cont
     let q = integer_code::widen(y);
     let e = integer_code::widen(d);
     contains_at(p, q, e, a, b, code)
-}
-
-// Each trapezoid's component number, the lowest of its component, written to `numbers`, which has an entry for each trapezoid.
-pub fn components(a: &[i32], numbers: &mut [u32]) -> Connected
-    ensures { λ r. ⌜ ComponentsKept plateLimit (now (a .entry)) (now (numbers .entry)) r (now (numbers .exit)) ⌝ }
-    ensures small { λ r. ⌜ SmallComponentsAnswer (connectedAnswer r) ⌝ }
-{
-    let checked = rows_code::components_checked(calls::PLATE_LIMIT, a, numbers.len());
-    match checked {
-        Checked::Refused { number, place } => {
-            return Connected::Refused { number, place };
-        }
-        Checked::Passed => {}
-    }
-    let n = connectivity_code::components_into(a, numbers);
-    Connected::Done { components: n }
-}
-
-// The words of a layer file, written to `out`, which has any length.
-pub fn read_layers(file: &[u8], out: &mut [i32]) -> LayersRead
-    ensures { λ r. ⌜ ReadKept plateLimit (now (file .entry)) (now (out .entry)) r (now (out .exit)) ⌝ }
-    ensures small { λ r. ⌜ SmallAnswer (readAnswer r) ⌝ }
-{
-    let c = files_code::check_layer_file(file, calls::PLATE_LIMIT);
-    match c {
-        Checked::Passed => {}
-        Checked::Refused { number, place } => {
-            return LayersRead::Refused { number, place };
-        }
-    }
-    records_code::clear(out);
-    if out.len() < file.len() / 4 {
-        return LayersRead::Refused {
-            number: 12,
-            place: 0,
-        };
-    }
-    files_code::decode(file, out);
-    let pieces = files_code::file_trapezoids(file);
-    LayersRead::Done {
-        pieces,
-        overlays: 0,
-    }
-}
-
-// The layer file with these words, written to `out`, which has any length.
-pub fn write_layers(words: &[i32], out: &mut [u8]) -> LayersWritten
-    ensures { λ r. ⌜ WriteKept plateLimit (now (words .entry)) (now (out .entry)) r (now (out .exit)) ⌝ }
-    ensures small { λ r. ⌜ SmallAnswer (writtenAnswer r) ⌝ }
-{
-    let c = files_code::check_layer_words(words, calls::PLATE_LIMIT);
-    match c {
-        Checked::Passed => {}
-        Checked::Refused { number, place } => {
-            return LayersWritten::Refused { number, place };
-        }
-    }
-    records_code::clear_bytes(out);
-    if out.len() / 4 < words.len() {
-        return LayersWritten::Refused {
-            number: 12,
-            place: 0,
-        };
-    }
-    files_code::encode(words, out);
-    let pieces = files_code::words_trapezoids(words);
-    LayersWritten::Done {
-        pieces,
-        overlays: 0,
-    }
 }

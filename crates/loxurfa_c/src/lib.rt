@@ -4,6 +4,7 @@ use calls::Connected;
 use calls::Containment;
 use calls::Deoverlapped;
 use calls::Equality;
+use calls::Extracted;
 use calls::Fractured;
 use files::LayersRead;
 use files::LayersWritten;
@@ -13,7 +14,7 @@ ghost use Rattle.records.specs.Limits.{maxRecords};
 ghost use Rattle.geometry.specs.Fitness.{SmallRefusal};
 ghost use Rattle.calls.specs.Packed.{refusal as refusalOf, success as successOf};
 ghost use Rattle.calls.specs.Rows.{plateLimit};
-ghost use Rattle.calls.specs.Contracts.{FractureKeptForC, CombineKeptForC, DeoverlapKeptForC, EqualKeptForC, ContainsKeptForC, ReadKeptForC, WriteKeptForC, ComponentsKeptForC};
+ghost use Rattle.calls.specs.Contracts.{FractureKeptForC, CombineKeptForC, DeoverlapKeptForC, EqualKeptForC, ContainsKeptForC, ReadKeptForC, WriteKeptForC, ComponentsKeptForC, TransistorsKeptForC};
 
 fn refusal(number: u32, place: usize) -> u64
     requires { ⌜ SmallRefusal number place ⌝ }
@@ -33,7 +34,7 @@ fn success(high: usize, overlays: usize) -> u64
 pub extern "C" fn loxurfa_fracture(file: &[u8], out: &mut [i32], scratch: &mut [i32]) -> u64
     ensures { λ r. ⌜ FractureKeptForC plateLimit (now (file .entry)) (now (out .entry)) (now (scratch .entry)) r (now (out .exit)) (now (scratch .exit)) ⌝ }
 {
-    let answer = loxurfa::fracture(file, out, scratch);
+    let answer = loxurfa_files::fracture(file, out, scratch);
     match answer {
         Fractured::Refused { number, place } => {
             return refusal(number, place);
@@ -120,7 +121,7 @@ pub extern "C" fn loxurfa_contains(x: i32, y: i32, d: i32, a: &[i32], b: &[i32],
 pub extern "C" fn loxurfa_read_layers(file: &[u8], out: &mut [i32]) -> u64
     ensures { λ r. ⌜ ReadKeptForC plateLimit (now (file .entry)) (now (out .entry)) r (now (out .exit)) ⌝ }
 {
-    let answer = loxurfa::read_layers(file, out);
+    let answer = loxurfa_files::read_layers(file, out);
     match answer {
         LayersRead::Refused { number, place } => {
             return refusal(number, place);
@@ -135,7 +136,7 @@ pub extern "C" fn loxurfa_read_layers(file: &[u8], out: &mut [i32]) -> u64
 pub extern "C" fn loxurfa_write_layers(words: &[i32], out: &mut [u8]) -> u64
     ensures { λ r. ⌜ WriteKeptForC plateLimit (now (words .entry)) (now (out .entry)) r (now (out .exit)) ⌝ }
 {
-    let answer = loxurfa::write_layers(words, out);
+    let answer = loxurfa_files::write_layers(words, out);
     match answer {
         LayersWritten::Refused { number, place } => {
             return refusal(number, place);
@@ -150,13 +151,35 @@ pub extern "C" fn loxurfa_write_layers(words: &[i32], out: &mut [u8]) -> u64
 pub extern "C" fn loxurfa_components(a: &[i32], numbers: &mut [u32]) -> u64
     ensures { λ r. ⌜ ComponentsKeptForC plateLimit (now (a .entry)) (now (numbers .entry)) r (now (numbers .exit)) ⌝ }
 {
-    let answer = loxurfa::components(a, numbers);
+    let answer = loxurfa_shapes::components(a, numbers);
     match answer {
         Connected::Refused { number, place } => {
             return refusal(number, place);
         }
         Connected::Done { components } => {
             return success(components, 0);
+        }
+    }
+}
+
+#[no_mangle]
+pub extern "C" fn loxurfa_transistors(
+    collectors: &[i32],
+    bases: &[i32],
+    emitters: &[i32],
+    list: &mut [u32],
+    out: &mut [i32],
+    scratch: &mut [i32],
+) -> u64
+    ensures { λ r. ⌜ TransistorsKeptForC plateLimit (now (collectors .entry)) (now (bases .entry)) (now (emitters .entry)) (now (list .entry)) (now (out .entry)) (now (scratch .entry)) r (now (list .exit)) (now (out .exit)) (now (scratch .exit)) ⌝ }
+{
+    let answer = loxurfa_shapes::transistors(collectors, bases, emitters, list, out, scratch);
+    match answer {
+        Extracted::Refused { number, place } => {
+            return refusal(number, place);
+        }
+        Extracted::Done { triples, overlays } => {
+            return success(triples, overlays);
         }
     }
 }

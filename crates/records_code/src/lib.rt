@@ -44,6 +44,17 @@ pub fn clear_bytes(bytes: &mut [u8])
     }
 }
 
+// The same for numbers.
+pub fn clear_numbers(numbers: &mut [u32])
+    ensures { λ _. ⌜ now (numbers .exit) ≡ replicate (length (now (numbers .entry))) 0 ⌝ }
+{
+    let mut i = 0;
+    while i < numbers.len() {
+        numbers[i] = 0;
+        i += 1;
+    }
+}
+
 // All words of src to dst, which is as long.
 pub fn copy(src: &[i32], dst: &mut [i32])
     requires { ⌜ length (now src) ≡ length (now dst) ⌝ }

@@ -1,4 +1,4 @@
--- Trapezoids that do not overlap: the overlay leaves them whole.
+-- Trapezoids before the first that overlaps: they stand whole.
 use mathlib.Core.Path.{_≡_, refl, sym, _∙_, ap}
 use mathlib.Core.Bool.{Bool, true, false, cond}
 use mathlib.Core.List.{List, [], _∷_, _++_}
@@ -13,20 +13,13 @@ use Rattle.boolean.specs.Operations.{minus, minusAll}
 use Rattle.boolean.specs.Space.{overlaid, plus, space, minusStages, minusAllStages}
 use Rattle.boolean.proofs.Space.{plus-none, plus-plus, space-enough}
 use Rattle.boolean.proofs.Shifting.{minus-shift}
+use Rattle.boolean.proofs.Apart.{part-apart}
 use Rattle.remainder_code.specs.Code.{beforeFirst}
 use Rattle.remainder_code.proofs.Reducing.{all-one, all-stages-one}
 use Rattle.remainder_code.proofs.MinusFold.{minus-none, minus-one, stages-none, stages-one}
 use Rattle.remainder_code.proofs.Answers.{space-overlaid}
 
--- ---- the definitions
-pub part-apart : (r b : Trapezoid) → overlaps r b ≡ false → tagged 1 (overlay r b) ≡ r ∷ []
-unfolding overlay tagged
-part-apart r b e = rw e refl
-
-pub common-apart : (a b : Trapezoid) → overlaps a b ≡ false → tagged 3 (overlay a b) ≡ []
-unfolding overlay tagged
-common-apart a b e = rw e refl
-
+-- ---- how many come before the first that overlaps
 pub before-upto : (test : Trapezoid → Bool) (ts : List Trapezoid) → beforeFirst test ts ≤ length ts
 before-upto test [] = omega arith
 before-upto test (t ∷ ts) = go (test t) (before-upto test ts)

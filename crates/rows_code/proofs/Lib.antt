@@ -3,3 +3,5 @@ pub mod Components
 pub mod Rows
 pub mod Bounds
 pub mod Fracturing
+pub mod Transistors
+pub mod Cleared

@@ -10,6 +10,7 @@ ghost use lib.Signed.{leZ};
 ghost use Rattle.records.specs.Limits.{sized, maxWords};
 ghost use Rattle.geometry.specs.Limit.{coordinateLimit, maxDenominator};
 ghost use Rattle.calls.specs.Components.{listsSized, componentsChecked};
+ghost use Rattle.calls.specs.Transistors.{threeChecked, transistorsChecked};
 ghost use Rattle.calls.specs.Rows.{buffersSized, withinTimes, pointPasses, bothChecked, fractureChecked, combineChecked, deoverlapChecked, equalChecked, containsChecked};
 ghost use Rattle.geometry_code.specs.Code.{pointOf};
 
@@ -232,6 +233,54 @@ pub fn components_checked(limit: u32, a: &[i32], n: usize) -> Checked
 {
     if lists_sized(a, n) {
         return fitness_code::first_refused(a, limit, 0);
+    }
+    Checked::Refused {
+        number: 1,
+        place: 0,
+    }
+}
+
+// Row 1, of three layers, an output and a scratch area.
+fn three_sized(a: usize, b: usize, c: usize, out: usize, scratch: usize) -> bool
+    ensures { λ r. ⌜ r ≡ sized a && (sized b && (sized c && buffersSized out scratch)) ⌝ }
+{
+    if records_code::sized(a) {
+        return both_sized(b, c, out, scratch);
+    }
+    false
+}
+
+// Rows 7 to 11: the trapezoids of three layers in turn, numbered on.
+fn three_checked(limit: u32, a: &[i32], b: &[i32], c: &[i32]) -> Checked
+    requires { ⌜ (limit ≤ coordinateLimit) × (length (now a) ≤ maxWords) × (length (now b) ≤ maxWords) ⌝ }
+    ensures { λ r. ⌜ r ≡ threeChecked limit (now (a .entry)) (now (b .entry)) (now (c .entry)) ⌝ }
+{
+    let first = both_checked(limit, a, b);
+    match first {
+        Checked::Passed => {
+            let start = a.len() / records::MEMORY_WIDTH + b.len() / records::MEMORY_WIDTH;
+            return fitness_code::first_refused(c, limit, start);
+        }
+        Checked::Refused { number, place } => {
+            return Checked::Refused { number, place };
+        }
+    }
+}
+
+// The rows of `transistors`.
+pub fn transistors_checked(
+    limit: u32,
+    collectors: &[i32],
+    bases: &[i32],
+    emitters: &[i32],
+    out: usize,
+    scratch: usize,
+) -> Checked
+    requires { ⌜ limit ≤ coordinateLimit ⌝ }
+    ensures { λ r. ⌜ r ≡ transistorsChecked limit (now (collectors .entry)) (now (bases .entry)) (now (emitters .entry)) out scratch ⌝ }
+{
+    if three_sized(collectors.len(), bases.len(), emitters.len(), out, scratch) {
+        return three_checked(limit, collectors, bases, emitters);
     }
     Checked::Refused {
         number: 1,

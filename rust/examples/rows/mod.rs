@@ -12,6 +12,7 @@ mod layers;
 pub mod longest;
 mod operation;
 mod timing;
+mod transistors;
 
 use timing::{digits, Timed, SAMPLES, SHORTEST};
 
@@ -22,8 +23,8 @@ pub fn table() {
         "A sample is one call, or as many as take {} ms.",
         SHORTEST.as_millis()
     );
-    println!("n: trapezoids of A, of B; for fracture polygons, vertices of each.");
-    println!("Outputs have 512 records; for 4 trapezoids 16, for one overlay 5.");
+    println!("n: trapezoids of A, of B; for transistors of each layer; for fracture polygons, vertices of each.");
+    println!("Outputs have 512 records; for 4 trapezoids and for one cell 16, for one overlay 5.");
     println!("One overlay: A - B and B - A in turn, the result is that of both.");
     println!("contains, direct: beside a direct version, where the Rust program works out the whole result.");
     println!();
@@ -34,6 +35,7 @@ pub fn table() {
     equal::rows();
     contains::rows();
     components::rows();
+    transistors::rows();
     files::rows();
     fracture::rows();
 }

@@ -17,6 +17,8 @@ uint64_t loxurfa_equal(const int32_t *a, size_t n, const int32_t *b, size_t m, i
                        size_t s);
 uint64_t loxurfa_contains(int32_t x, int32_t y, int32_t d, const int32_t *a, size_t n, const int32_t *b, size_t m, uint32_t code);
 uint64_t loxurfa_components(const int32_t *a, size_t n, uint32_t *numbers, size_t o);
+uint64_t loxurfa_transistors(const int32_t *collectors, size_t n, const int32_t *bases, size_t m, const int32_t *emitters, size_t k,
+                             uint32_t *list, size_t l, int32_t *out, size_t o, int32_t *scratch, size_t s);
 uint64_t loxurfa_read_layers(const uint8_t *file, size_t n, int32_t *out, size_t o);
 uint64_t loxurfa_write_layers(const int32_t *words, size_t n, uint8_t *out, size_t o);
 
@@ -56,6 +58,14 @@ uint64_t loxurfa_components(const int32_t *a, size_t n, uint32_t *numbers, size_
 {
     (void)n, (void)o;
     return aligned(a, 4) && aligned(numbers, 4);
+}
+
+uint64_t loxurfa_transistors(const int32_t *collectors, size_t n, const int32_t *bases, size_t m, const int32_t *emitters, size_t k,
+                             uint32_t *list, size_t l, int32_t *out, size_t o, int32_t *scratch, size_t s)
+{
+    (void)n, (void)m, (void)k, (void)l, (void)o, (void)s;
+    return aligned(collectors, 4) && aligned(bases, 4) && aligned(emitters, 4) && aligned(list, 4) && aligned(out, 4)
+           && aligned(scratch, 4);
 }
 
 uint64_t loxurfa_read_layers(const uint8_t *file, size_t n, int32_t *out, size_t o)

@@ -1,9 +1,9 @@
 /* Makes the calls that stand on standard input and writes what came of each on standard output; tests/calls.rs compares that with
  * the Rust crate. All numbers are in the machine's form.
  *
- * A call: the function's number, the code, x, y, d; then four buffers, each as the bytes of an element (1 or 4), the number of elements
+ * A call: the function's number, the code, x, y, d; then six buffers, each as the bytes of an element (1 or 4), the number of elements
  * and the elements. What came of it: the answer; what the header's functions read in it (refused, number, place, value, overlays); the
- * bytes of stack written to; the four buffers' elements.
+ * bytes of stack written to; the six buffers' elements.
  *
  * A buffer without elements is passed as NULL, one of bytes at an odd address. */
 #define _XOPEN_SOURCE 700
@@ -14,7 +14,7 @@
 
 #include "loxurfa.h"
 
-enum { BUFFERS = 4, STACK = 1 << 16, PAINT = 0xa5 };
+enum { BUFFERS = 6, STACK = LOXURFA_STACK_BYTES, PAINT = 0xa5 };
 
 struct buffer {
     uint32_t size, count;
@@ -71,8 +71,11 @@ static uint64_t perform(struct call *c)
     case 5:
         return loxurfa_components(words(c, 0), count(c, 0), numbers(c, 1), count(c, 1));
     case 6:
-        return loxurfa_read_layers(bytes(c, 0), count(c, 0), words(c, 1), count(c, 1));
+        return loxurfa_transistors(words(c, 0), count(c, 0), words(c, 1), count(c, 1), words(c, 2), count(c, 2), numbers(c, 3),
+                                   count(c, 3), words(c, 4), count(c, 4), words(c, 5), count(c, 5));
     case 7:
+        return loxurfa_read_layers(bytes(c, 0), count(c, 0), words(c, 1), count(c, 1));
+    case 8:
         return loxurfa_write_layers(words(c, 0), count(c, 0), bytes(c, 1), count(c, 1));
     }
     fail("no such function");

@@ -9,6 +9,7 @@ pub mod components;
 pub mod files;
 pub mod fracture;
 pub mod listing;
+pub mod transistors;
 
 use std::cmp::Ordering;
 

@@ -1,5 +1,6 @@
 //! Calls of every function, with random and damaged input.
 
+use super::cells::cells;
 use super::files::{about, damage_bytes, damage_file, file_bytes, file_words};
 use super::polygons::{any_polygons, polygon_words};
 use super::{damage, point_near, whole_point, Random, Scene};
@@ -15,6 +16,7 @@ pub enum Function {
     Equal,
     Contains,
     Components,
+    Transistors,
     ReadLayers,
     WriteLayers,
 }
@@ -22,13 +24,14 @@ pub enum Function {
 use Function::*;
 
 impl Function {
-    pub const ALL: [Function; 8] = [
+    pub const ALL: [Function; 9] = [
         Fracture,
         Combine,
         Deoverlap,
         Equal,
         Contains,
         Components,
+        Transistors,
         ReadLayers,
         WriteLayers,
     ];
@@ -37,6 +40,7 @@ impl Function {
     pub fn inputs(self) -> usize {
         match self {
             Combine | Equal | Contains => 2,
+            Transistors => 3,
             _ => 1,
         }
     }
@@ -46,7 +50,7 @@ impl Function {
         match self {
             Fracture => &[1, 4, 5, 6, 7, 12],
             Combine => &[1, 2, 7, 8, 9, 10, 11, 12],
-            Deoverlap | Equal => &[1, 7, 8, 9, 10, 11, 12],
+            Deoverlap | Equal | Transistors => &[1, 7, 8, 9, 10, 11, 12],
             Contains => &[1, 2, 3, 7, 8, 9, 10, 11],
             Components => &[1, 7, 8, 9, 10, 11],
             ReadLayers => &[4, 5, 6, 7, 8, 9, 10, 11, 12],
@@ -126,6 +130,9 @@ impl Call {
             (Equal, [Words(a), Words(b), Words(o), Words(s)]) => raw::equal(a, b, o, s),
             (Contains, [Words(a), Words(b)]) => raw::contains(x, y, d, a, b, code),
             (Components, [Words(a), Numbers(n)]) => raw::components(a, n),
+            (Transistors, [Words(c), Words(b), Words(e), Numbers(l), Words(o), Words(s)]) => {
+                raw::transistors(c, b, e, l, o, s)
+            }
             (ReadLayers, [Bytes(f), Words(o)]) => raw::read_layers(f, o),
             (WriteLayers, [Words(w), Bytes(o)]) => raw::write_layers(w, o),
             _ => panic!("other buffers than {:?} takes", self.function),
@@ -158,6 +165,9 @@ impl Call {
             (Equal, [Words(a), Words(b), Words(o), Words(s)]) => reference::equal(a, b, o, s),
             (Contains, [Words(a), Words(b)]) => reference::contains(x, y, d, a, b, code),
             (Components, [Words(a), Numbers(n)]) => reference::components::components(a, n),
+            (Transistors, [Words(c), Words(b), Words(e), Numbers(l), Words(o), Words(s)]) => {
+                reference::transistors::transistors(c, b, e, l, o, s)
+            }
             (ReadLayers, [Bytes(f), Words(o)]) => reference::files::read_layers(f, o),
             (WriteLayers, [Words(w), Bytes(o)]) => reference::files::write_layers(w, o),
             _ => panic!("other buffers than {:?} takes", self.function),
@@ -293,6 +303,24 @@ pub fn any_call(random: &mut Random, function: Function) -> Call {
             };
             let numbers = (0..count).map(|_| random.next() as u32).collect();
             vec![Buffer::Words(a), Buffer::Numbers(numbers)]
+        }
+        Transistors => {
+            let mut layers = cells(random);
+            match random.below(8) {
+                0 => layers = [(); 3].map(|()| any_layer(random, &scene)),
+                1 | 2 => {
+                    let unfit = random.below(3);
+                    damage(random, &mut layers[unfit]);
+                }
+                3 => layers[random.below(3)] = any_layer(random, &scene),
+                _ => {}
+            }
+            let list = random.below(3 * layers[2].len() / WORDS + 4);
+            let list = (0..list).map(|_| random.next() as u32 | 1).collect();
+            let [out, scratch] = room(random);
+            let [collectors, bases, emitters] = layers.map(Buffer::Words);
+            let list = Buffer::Numbers(list);
+            vec![collectors, bases, emitters, list, out, scratch]
         }
         ReadLayers => {
             let words = layer_file(random);

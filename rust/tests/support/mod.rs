@@ -3,6 +3,7 @@
 #![allow(dead_code)]
 
 pub mod calls;
+pub mod cells;
 pub mod files;
 pub mod outcomes;
 pub mod outputs;

@@ -13,7 +13,8 @@ use Rattle.boolean.specs.Space.{differenceStages}
 use Rattle.remainder_code.specs.Code.{overlaysOfLayer, FoldedAs}
 use Rattle.remainder_code.proofs.Answers.{within-no-room, within-done}
 use Rattle.difference_code.proofs.Alone.{holding-none, folded-none, folded-known}
-use Rattle.equality_code.proofs.Comparing.{left-none, left-blank, left-words, left-length, left-cleared, compared-no-room, compared-first}
+use Rattle.difference_code.proofs.Left.{left-none, left-blank, left-words, left-length, left-cleared}
+use Rattle.equality_code.proofs.Comparing.{compared-no-room, compared-first}
 use Rattle.equality_code.proofs.equal_boxed.Statement.{statement}
 use Rattle.equality_code.proofs.equal_boxed.Tie as tie
 

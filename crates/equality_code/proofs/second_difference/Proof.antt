@@ -12,7 +12,8 @@ use Rattle.boolean.specs.Space.{differenceStages}
 use Rattle.remainder_code.specs.Code.{overlaysOfLayer, FoldedAs}
 use Rattle.remainder_code.proofs.Answers.{within-no-room, within-done}
 use Rattle.difference_code.proofs.Alone.{holding-none, folded-none, folded-known}
-use Rattle.equality_code.proofs.Comparing.{left-blank, left-words, left-length, left-cleared, both-no-room, both-same, both-second}
+use Rattle.difference_code.proofs.Left.{left-blank, left-words, left-length, left-cleared}
+use Rattle.equality_code.proofs.Comparing.{both-no-room, both-same, both-second}
 use Rattle.equality_code.proofs.second_difference.Statement.{statement}
 use Rattle.equality_code.proofs.second_difference.Tie as tie
 

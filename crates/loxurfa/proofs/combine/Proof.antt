@@ -10,7 +10,8 @@ use Rattle.boolean.specs.Space.{stages}
 use Rattle.calls.specs.Rows.{plateLimit, combineChecked}
 use Rattle.calls.specs.Outcomes.{zeros, roomOf}
 use Rattle.calls.proofs.Checks.{CombineReady, combine-ready, combine-refused, layer-of, plate-carried}
-use Rattle.loxurfa.proofs.Outcomes.{small-refused, cleared-length, cleared-borrowed, blank-zeros, combine-refuses, combine-no-room, combine-done, small-done, no-room-small}
+use Rattle.rows_code.proofs.Cleared.{small-refused, cleared-length, cleared-borrowed, blank-zeros, no-room-small}
+use Rattle.loxurfa.proofs.Outcomes.{combine-refuses, combine-no-room, combine-done, small-done}
 use Rattle.loxurfa.proofs.combine.Statement.{statement}
 use Rattle.loxurfa.proofs.combine.Tie as tie
 

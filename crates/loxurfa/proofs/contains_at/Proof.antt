@@ -6,7 +6,8 @@ use Rattle.calls.proofs.Bounds.{point-real}
 use Rattle.calls.proofs.Checks.{ContainsReady, contains-ready, contains-refused, layer-of, plate-carried}
 use Rattle.geometry_code.specs.Code.{pointOf}
 use Rattle.rows_code.proofs.Bounds.{point-small}
-use Rattle.loxurfa.proofs.Outcomes.{small-refused, contains-refuses, contains-yes, contains-no}
+use Rattle.rows_code.proofs.Cleared.{small-refused}
+use Rattle.loxurfa.proofs.Outcomes.{contains-refuses, contains-yes, contains-no}
 use Rattle.loxurfa.proofs.contains_at.Statement.{statement}
 use Rattle.loxurfa.proofs.contains_at.Tie as tie
 

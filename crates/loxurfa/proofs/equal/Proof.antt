@@ -8,7 +8,8 @@ use Rattle.geometry.specs.Trapezoids.{layerOf}
 use Rattle.calls.specs.Rows.{plateLimit, equalChecked}
 use Rattle.calls.specs.Outcomes.{zeros, roomOf}
 use Rattle.calls.proofs.Checks.{EqualReady, equal-ready, equal-refused, layer-of, plate-carried}
-use Rattle.loxurfa.proofs.Outcomes.{small-refused, cleared-length, cleared-borrowed, blank-zeros, equal-refuses, equal-no-room, equal-same, equal-different, small-same, small-different, no-room-small}
+use Rattle.rows_code.proofs.Cleared.{small-refused, cleared-length, cleared-borrowed, blank-zeros, no-room-small}
+use Rattle.loxurfa.proofs.Outcomes.{equal-refuses, equal-no-room, equal-same, equal-different, small-same, small-different}
 use Rattle.loxurfa.proofs.equal.Statement.{statement}
 use Rattle.loxurfa.proofs.equal.Tie as tie
 

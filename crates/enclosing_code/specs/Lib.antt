@@ -1,0 +1,2 @@
+-- Shapes that enclose others.
+pub mod Code

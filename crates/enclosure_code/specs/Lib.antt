@@ -1,0 +1,2 @@
+-- What the functions answer, by the definitions.
+pub mod Code

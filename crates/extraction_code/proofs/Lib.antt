@@ -1,0 +1,4 @@
+pub mod Marks
+pub mod Families
+pub mod Shapes
+pub mod Ways

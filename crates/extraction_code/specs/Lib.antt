@@ -1,0 +1,2 @@
+-- The transistors of three layers.
+pub mod Code

@@ -1,0 +1,2 @@
+pub mod LayerFiles
+pub mod Fracturing

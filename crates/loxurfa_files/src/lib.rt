@@ -1,0 +1,95 @@
+// The public interface, files: polygons fractured into trapezoids, and layer files, for every input.
+use calls::Fractured;
+use files::LayersRead;
+use files::LayersWritten;
+use geometry::Checked;
+use geometry::Fill;
+ghost use Rattle.files.specs.Outcomes.{readAnswer, writtenAnswer, SmallAnswer};
+ghost use Rattle.calls.specs.Contracts.{FractureKept, ReadKept, WriteKept};
+ghost use Rattle.calls.specs.Answers.{fracturedAnswer};
+ghost use Rattle.calls.specs.Rows.{plateLimit};
+
+// The trapezoids of the polygons of a polygon file, written to `out`. `scratch` is as long as `out`.
+pub fn fracture(file: &[u8], out: &mut [i32], scratch: &mut [i32]) -> Fractured
+    ensures { λ r. ⌜ FractureKept plateLimit (now (file .entry)) (now (out .entry)) (now (scratch .entry)) r (now (out .exit)) (now (scratch .exit)) ⌝ }
+    ensures small { λ r. ⌜ SmallAnswer (fracturedAnswer r) ⌝ }
+{
+    let checked = rows_code::fracture_checked(calls::PLATE_LIMIT, file, out.len(), scratch.len());
+    match checked {
+        Checked::Refused { number, place } => {
+            return Fractured::Refused { number, place };
+        }
+        Checked::Passed => {}
+    }
+    let room = out.len() / records::MEMORY_WIDTH;
+    records_code::clear_both(out, scratch);
+    let f = polygons_code::fracture_file(file, calls::PLATE_LIMIT, out, room);
+    match f {
+        Fill::NoRoom => {
+            return Fractured::Refused {
+                number: 12,
+                place: 0,
+            };
+        }
+        Fill::Written(n) => {
+            return Fractured::Done {
+                pieces: n,
+                overlays: 0,
+            };
+        }
+    }
+}
+
+// The words of a layer file, written to `out`, which has any length.
+pub fn read_layers(file: &[u8], out: &mut [i32]) -> LayersRead
+    ensures { λ r. ⌜ ReadKept plateLimit (now (file .entry)) (now (out .entry)) r (now (out .exit)) ⌝ }
+    ensures small { λ r. ⌜ SmallAnswer (readAnswer r) ⌝ }
+{
+    let c = files_code::check_layer_file(file, calls::PLATE_LIMIT);
+    match c {
+        Checked::Passed => {}
+        Checked::Refused { number, place } => {
+            return LayersRead::Refused { number, place };
+        }
+    }
+    records_code::clear(out);
+    if out.len() < file.len() / 4 {
+        return LayersRead::Refused {
+            number: 12,
+            place: 0,
+        };
+    }
+    files_code::decode(file, out);
+    let pieces = files_code::file_trapezoids(file);
+    LayersRead::Done {
+        pieces,
+        overlays: 0,
+    }
+}
+
+// The layer file with these words, written to `out`, which has any length.
+pub fn write_layers(words: &[i32], out: &mut [u8]) -> LayersWritten
+    ensures { λ r. ⌜ WriteKept plateLimit (now (words .entry)) (now (out .entry)) r (now (out .exit)) ⌝ }
+    ensures small { λ r. ⌜ SmallAnswer (writtenAnswer r) ⌝ }
+{
+    let c = files_code::check_layer_words(words, calls::PLATE_LIMIT);
+    match c {
+        Checked::Passed => {}
+        Checked::Refused { number, place } => {
+            return LayersWritten::Refused { number, place };
+        }
+    }
+    records_code::clear_bytes(out);
+    if out.len() / 4 < words.len() {
+        return LayersWritten::Refused {
+            number: 12,
+            place: 0,
+        };
+    }
+    files_code::encode(words, out);
+    let pieces = files_code::words_trapezoids(words);
+    LayersWritten::Done {
+        pieces,
+        overlays: 0,
+    }
+}

@@ -1,0 +1,4 @@
+pub mod Groups
+pub mod Loops
+pub mod Shapes
+pub mod Parts

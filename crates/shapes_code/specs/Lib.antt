@@ -1,0 +1,2 @@
+-- The shapes of a layer, one after the other.
+pub mod Code

@@ -1,0 +1,2 @@
+-- Triples in a list of words.
+pub mod Code
