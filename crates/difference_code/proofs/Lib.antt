@@ -1,3 +1,2 @@
 pub mod Folds
 pub mod Alone
-pub mod Left

@@ -18,7 +18,7 @@ use Rattle.geometry.specs.Trapezoids.{trapezoidCodec, layerOf}
 use Rattle.geometry.proofs.Layers.{all-record}
 use Rattle.boolean.specs.declared.Folded.the-variants.{NoRoom, Done}
 use Rattle.boolean.specs.Operations.{difference}
-use Rattle.boolean.specs.Space.{Space, enough, differenceStages}
+use Rattle.boolean.specs.Space.{Space, enough}
 use Rattle.boolean.specs.Counts.{isNoRoom}
 use Rattle.boxes.specs.Boxes.{boxesDisjoint}
 use Rattle.boxes.proofs.Rejecting.{no-overlap}
@@ -27,8 +27,8 @@ use Rattle.extraction.specs.Shapes.{isSome}
 use Rattle.extraction.specs.Extraction.{shapeEncloses}
 use Rattle.extraction.proofs.Apart.{NoneOf, apart-difference, apart-enough, apart-no-room}
 use Rattle.boxes_code.specs.Code.{boxAt, BoxedLayer}
-use Rattle.remainder_code.specs.Code.{FoldedAs}
-use Rattle.difference_code.proofs.Left.{left-none}
+use Rattle.counted_difference_code.specs.Code.{DifferenceCounted}
+use Rattle.counted_difference_code.proofs.Counted.{none-left}
 use Rattle.enclosure_code.specs.Code.{disjointFrom, allDisjoint, EnclosureIs}
 use Rattle.enclosure_code.proofs.Numbers.{each-below}
 
@@ -46,15 +46,15 @@ module _ (A B : List Trapezoid) where
   encloses-no l = ap not (some-of (difference B A) l)
 
   -- ---- by the difference
-  module _ (room n : ℕ) (d : List ℤ) where
-    pub difference-no-room : (c : ℕ) → FoldedAs n room (difference B A) (differenceStages 0 B A) (NoRoom c) d → EnclosureIs room A B enclosure.NoRoom
-    difference-no-room c g = subst (λ (s : Space). T (isNoRoom s)) (sym (g .0)) tt
+  module _ (room : ℕ) where
+    pub difference-no-room : (c : ℕ) → DifferenceCounted room B A (NoRoom c) → EnclosureIs room A B enclosure.NoRoom
+    difference-no-room c g = subst (λ (s : Space). T (isNoRoom s)) (sym g) tt
 
-    pub difference-yes : (p c : ℕ) → p ≡ 0 → FoldedAs n room (difference B A) (differenceStages 0 B A) (Done p c) d → EnclosureIs room A B (enclosure.Yes c)
-    difference-yes p c e g = (g .0, encloses-yes (left-none n room (difference B A) (differenceStages 0 B A) p c d g e))
+    pub difference-yes : (p c : ℕ) → p ≡ 0 → DifferenceCounted room B A (Done p c) → EnclosureIs room A B (enclosure.Yes c)
+    difference-yes p c e g = (g .0, encloses-yes (none-left (difference B A) (sym (g .1) ∙ e)))
 
-    pub difference-no : (p c : ℕ) → 0 < p → FoldedAs n room (difference B A) (differenceStages 0 B A) (Done p c) d → EnclosureIs room A B (enclosure.No c)
-    difference-no p c l g = (g .0, encloses-no (omega (arith, l, g .1 .0)))
+    pub difference-no : (p c : ℕ) → 0 < p → DifferenceCounted room B A (Done p c) → EnclosureIs room A B (enclosure.No c)
+    difference-no p c l g = (g .0, encloses-no (omega (arith, l, g .1)))
 
 -- ---- by boxes
 all-each : (P : Trapezoid → Type 0) (s : List ℤ) (n k : ℕ) → ((i : ℕ) → k ≤ i → i < k + n → P (recordAt trapezoidCodec s i)) → All P (recordsFrom trapezoidCodec n s k)

@@ -46,49 +46,8 @@ fn all_disjoint(first_boxes: &[i64], m: usize, second_boxes: &[i64], n: usize) -
     true
 }
 
-// Whether a shape encloses another, by the difference of the other minus it. `out` and `scratch` are left blank.
-fn by_difference(
-    shape: &[i32],
-    shape_boxes: &[i64],
-    other: &[i32],
-    other_boxes: &[i64],
-    out: &mut [i32],
-    scratch: &mut [i32],
-    room: usize,
-) -> Enclosure
-    requires { ⌜ BoxedLayer (now shape) (now «shape_boxes») × BoxedLayer (now other) (now «other_boxes») ⌝ }
-    requires { ⌜ Borrowed (now out) room × (room ≤ maxRecords) ⌝ }
-    requires { ⌜ ScratchFor (now out) (now scratch) ⌝ }
-    ensures { λ r. ⌜ EnclosureIs room (layerOf (now (shape .entry))) (layerOf (now (other .entry))) r ⌝ }
-    ensures { λ r. ⌜ EnclosureWithin overlaysOfLayer r ⌝ }
-    ensures { λ _. ⌜ Blank (pos 0) (now (out .exit)) × Blank (pos 0) (now (scratch .exit)) ⌝ }
-{
-    let f = difference_code::difference_into(
-        0,
-        other,
-        other_boxes,
-        shape,
-        shape_boxes,
-        out,
-        scratch,
-        room,
-    );
-    match f {
-        Folded::NoRoom(_) => Enclosure::NoRoom,
-        Folded::Done {
-            trapezoids,
-            overlays,
-        } => {
-            if trapezoids == 0 {
-                return Enclosure::Yes(overlays);
-            }
-            records_code::clear(&mut out[..records::MEMORY_WIDTH * trapezoids]);
-            Enclosure::No(overlays)
-        }
-    }
-}
-
-// The same of shapes with trapezoids. Where all boxes are disjoint nothing is run: the other is left whole, after an overlay for each two trapezoids.
+// Whether a shape encloses another, both with trapezoids, by the difference of the other minus it. Where all boxes are disjoint nothing is run:
+// the other is left whole, after an overlay for each two trapezoids. `out` and `scratch` are left blank.
 fn enclosure(
     shape: &[i32],
     shape_boxes: &[i64],
@@ -114,7 +73,27 @@ fn enclosure(
         }
         return Enclosure::No(m * n);
     }
-    by_difference(shape, shape_boxes, other, other_boxes, out, scratch, room)
+    let f = counted_difference_code::difference_counted(
+        other,
+        other_boxes,
+        shape,
+        shape_boxes,
+        out,
+        scratch,
+        room,
+    );
+    match f {
+        Folded::NoRoom(_) => Enclosure::NoRoom,
+        Folded::Done {
+            trapezoids,
+            overlays,
+        } => {
+            if trapezoids == 0 {
+                return Enclosure::Yes(overlays);
+            }
+            Enclosure::No(overlays)
+        }
+    }
 }
 
 // Whether a shape encloses the trapezoids of a layer with numbers from `start` to before `end`.

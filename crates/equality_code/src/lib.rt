@@ -31,8 +31,7 @@ fn second_difference(
     ensures { λ r. ⌜ ComparedWithin maxOverlays r ⌝ }
     ensures { λ _. ⌜ Blank (pos 0) (now (out .exit)) × Blank (pos 0) (now (scratch .exit)) ⌝ }
 {
-    let f = difference_code::difference_into(
-        0,
+    let f = counted_difference_code::difference_counted(
         second,
         second_boxes,
         first,
@@ -50,7 +49,6 @@ fn second_difference(
             if trapezoids == 0 {
                 return Compared::Same(made + overlays);
             }
-            records_code::clear(&mut out[..records::MEMORY_WIDTH * trapezoids]);
             Compared::Differs {
                 operand: 1,
                 overlays: made + overlays,
@@ -76,8 +74,7 @@ fn equal_boxed(
     ensures { λ r. ⌜ ComparedWithin maxOverlays r ⌝ }
     ensures { λ _. ⌜ Blank (pos 0) (now (out .exit)) × Blank (pos 0) (now (scratch .exit)) ⌝ }
 {
-    let f = difference_code::difference_into(
-        0,
+    let f = counted_difference_code::difference_counted(
         first,
         first_boxes,
         second,
@@ -104,7 +101,6 @@ fn equal_boxed(
                     room,
                 );
             }
-            records_code::clear(&mut out[..records::MEMORY_WIDTH * trapezoids]);
             Compared::Differs {
                 operand: 0,
                 overlays,

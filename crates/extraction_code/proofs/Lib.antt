@@ -1,4 +1,2 @@
 pub mod Marks
-pub mod Families
-pub mod Shapes
 pub mod Ways

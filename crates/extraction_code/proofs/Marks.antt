@@ -17,7 +17,7 @@ use Rattle.extraction.specs.Shapes.{shapeOf, isSome, shapeNumbers}
 use Rattle.extraction.specs.Extraction.{Triple, enclosesAt, tripleIf, triples}
 use Rattle.extraction.proofs.Shapes.{own-below}
 use Rattle.triples_code.specs.Code.{emitterTriples, baseTriples, markedTriples}
-use Rattle.extraction_code.specs.Code.{shapesEnclose, MarkedAs}
+use Rattle.marking_code.specs.Code.{shapesEnclose, MarkedAs}
 
 -- a mark is i exactly if shape i encloses
 mark-test : {ts us : List Trapezoid} {d : List ℕ} → MarkedAs ts us d → (i j : ℕ) → i < length ts → j < length us → eqb (getD d j 0) i ≡ shapesEnclose ts us i j

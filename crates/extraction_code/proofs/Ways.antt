@@ -1,83 +1,67 @@
 -- The ways out of the extraction, each with what was found on the way.
-use mathlib.Core.Path.{_≡_, _∙_, ap, subst}
-use mathlib.Core.List.{List, _++_}
+use mathlib.Core.Path.{_≡_, subst}
+use mathlib.Core.Bool.{true}
+use mathlib.Core.List.{List}
 use mathlib.Core.Logic.{inl, inr}
-use Prim.Native.Nat.{ℕ, _+_, _≤_}
+use Prim.Native.Nat.{ℕ, _≤_}
 use native.Mathlib.Omega.{arith}
-use lib.Dec.{T}
+use lib.Dec.{leb}
 use lib.ListN.{length, replicate}
+use lib.IntN.{ℤ}
+use borrow.Author.Tests.{leb-true}
 use Rattle.lists.specs.Lists.{All}
-use Rattle.lists.proofs.Lists.{any-left, any-right}
+use Rattle.lists.proofs.Conjunction.{and-left, and-right}
 use Rattle.records.specs.Limits.{maxRecords}
 use Rattle.geometry.specs.declared.Trapezoid.{Trapezoid}
 use Rattle.geometry.specs.declared.Fill.{Fill}
 use Rattle.geometry.specs.declared.Fill.the-variants as fill
 use Rattle.geometry.specs.Fitness.{FitFor}
-use Rattle.boolean.specs.Space.{Stage, enough, plus, space}
-use Rattle.boolean.specs.Counts.{Exceeds, isNoRoom}
-use Rattle.boolean.proofs.Space.{space-enough}
-use Rattle.boolean.proofs.Stages.{no-room-exact}
 use Rattle.extraction.specs.declared.Enclosed.{Enclosed}
 use Rattle.extraction.specs.declared.Enclosed.the-variants as enclosed
 use Rattle.extraction.specs.declared.Listed.the-variants as listed
-use Rattle.extraction.specs.Extraction.{Triple, triples, enclosingStages}
+use Rattle.extraction.specs.Extraction.{Triple, triples}
 use Rattle.extraction.proofs.Triples.{triples-few}
 use Rattle.triples_code.specs.Code.{markedTriples, TriplesFilled}
-use Rattle.extraction_code.specs.Code.{Tried, overlaysOfShapes, TriedWithin, ListedAs, ListedWithin}
+use Rattle.boxes_code.specs.Code.{smallWords, bothSmall}
+use Rattle.boxes_code.proofs.Small.{small-words}
+use Rattle.marked_layers_code.specs.Code.{BothTried, BothWithin}
+use Rattle.extraction_code.specs.Code.{ListedAs, ListedWithin, allSmall}
 use Rattle.extraction_code.proofs.Marks.{marked-triples}
 
--- ---- stages in a row: there is no room for them if there is none for some
-module _ (room : ℕ) (ms ns : List Stage) where
-  no-room-left : T (isNoRoom (space room ms)) → T (isNoRoom (space room (ms ++ ns)))
-  no-room-left t = no-room-exact room (ms ++ ns) .1 (any-left (Exceeds room) ms ns (no-room-exact room ms .0 t))
+both-known : (room : ℕ) (C B E : List Trapezoid) (ds es : List ℕ) (r s : Enclosed) → r ≡ s → BothTried room C B E r ds es → BothTried room C B E s ds es
+both-known room C B E ds es r s e t = subst (λ (r : Enclosed). BothTried room C B E r ds es) e t
 
-  no-room-right : T (isNoRoom (space room ns)) → T (isNoRoom (space room (ms ++ ns)))
-  no-room-right t = no-room-exact room (ms ++ ns) .1 (any-right (Exceeds room) ms ns (no-room-exact room ns .0 t))
-
-  enough-both : (m n : ℕ) → space room ms ≡ enough m → space room ns ≡ enough n → space room (ms ++ ns) ≡ enough (m + n)
-  enough-both m n e f = space-enough room m ms ns e ∙ ap (plus m) f
-
--- ---- the answers
-tried-known : (room : ℕ) (ts us : List Trapezoid) (d : List ℕ) (r s : Enclosed) → r ≡ s → Tried room ts us r d → Tried room ts us s d
-tried-known room ts us d r s e t = subst (λ (r : Enclosed). Tried room ts us r d) e t
-
-pub tried-most : (r : Enclosed) (n : ℕ) → r ≡ enclosed.Done n → TriedWithin r → n ≤ overlaysOfShapes
-tried-most r n e t = subst TriedWithin e t
-
-module _ (room : ℕ) (C B E : List Trapezoid) (n : ℕ) where
+module _ (room : ℕ) (C B E : List Trapezoid) (n : ℕ) (r : Enclosed) (ds es : List ℕ) (t : BothTried room C B E r ds es) (d : List ℕ) where
   -- no room for some difference: nothing was written
-  pub listed-first : (r : Enclosed) (ds d : List ℕ) → Tried room C B r ds → r ≡ enclosed.NoRoom → d ≡ replicate n 0 → ListedAs room C B E n listed.NoRoom d
-  listed-first r ds d t e z = (inl (no-room-left room (enclosingStages C B) (enclosingStages B E) (tried-known room C B ds r enclosed.NoRoom e t)), z)
+  pub listed-none : r ≡ enclosed.NoRoom → d ≡ replicate n 0 → ListedAs room C B E n listed.NoRoom d
+  listed-none e z = (inl (both-known room C B E ds es r enclosed.NoRoom e t), z)
 
-  pub listed-second : (r : Enclosed) (es d : List ℕ) → Tried room B E r es → r ≡ enclosed.NoRoom → d ≡ replicate n 0 → ListedAs room C B E n listed.NoRoom d
-  listed-second r es d t e z = (inl (no-room-right room (enclosingStages C B) (enclosingStages B E) (tried-known room B E es r enclosed.NoRoom e t)), z)
+  -- bases and emitters are marked, and the list of triples was written by their marks
+  module _ (made : ℕ) (p : r ≡ enclosed.Done made) (c : ℕ) (ds′ es′ : List ℕ) (h : c ≡ length C) (i : ds′ ≡ ds) (j : es′ ≡ es) (x : Fill) (w : TriplesFilled n (markedTriples c ds′ es′) x d) where
+    both : BothTried room C B E (enclosed.Done made) ds es
+    both = both-known room C B E ds es r (enclosed.Done made) p t
 
-  -- bases and emitters are marked
-  module _ (r s : Enclosed) (ds es : List ℕ) (t : Tried room C B r ds) (u : Tried room B E s es) (made more : ℕ) (p : r ≡ enclosed.Done made) (q : s ≡ enclosed.Done more) where
-    first : Tried room C B (enclosed.Done made) ds
-    first = tried-known room C B ds r (enclosed.Done made) p t
+    same : markedTriples c ds′ es′ ≡ triples C B E
+    same = rw (h, i, j) (marked-triples (both .1) (both .2))
 
-    second : Tried room B E (enclosed.Done more) es
-    second = tried-known room B E es s (enclosed.Done more) q u
+    filled : TriplesFilled n (triples C B E) x d
+    filled = subst (λ (ts : List Triple). TriplesFilled n ts x d) same w
 
-    -- by the marks that the list of triples was written by
-    module _ (c : ℕ) (ds′ es′ : List ℕ) (h : c ≡ length C) (i : ds′ ≡ ds) (j : es′ ≡ es) (x : Fill) (d : List ℕ) (w : TriplesFilled n (markedTriples c ds′ es′) x d) where
-      same : markedTriples c ds′ es′ ≡ triples C B E
-      same = rw (h, i, j) (marked-triples (first .1) (second .1))
+    pub listed-full : x ≡ fill.NoRoom → ListedAs room C B E n listed.NoRoom d
+    listed-full e = let k : TriplesFilled n (triples C B E) fill.NoRoom d = subst (λ (x : Fill). TriplesFilled n (triples C B E) x d) e filled in (inr (k .0), k .1)
 
-      filled : TriplesFilled n (triples C B E) x d
-      filled = subst (λ (ts : List Triple). TriplesFilled n ts x d) same w
+    module _ (m : ℕ) (e : x ≡ fill.Written m) where
+      known : TriplesFilled n (triples C B E) (fill.Written m) d
+      known = subst (λ (x : Fill). TriplesFilled n (triples C B E) x d) e filled
 
-      pub listed-full : x ≡ fill.NoRoom → ListedAs room C B E n listed.NoRoom d
-      listed-full e = let k : TriplesFilled n (triples C B E) fill.NoRoom d = subst (λ (x : Fill). TriplesFilled n (triples C B E) x d) e filled in (inr (k .0), k .1)
+      pub listed-done : ListedAs room C B E n (listed.Done m made) d
+      listed-done = (both .0, known .0, known .1, known .2)
 
-      module _ (m : ℕ) (e : x ≡ fill.Written m) where
-        known : TriplesFilled n (triples C B E) (fill.Written m) d
-        known = subst (λ (x : Fill). TriplesFilled n (triples C B E) x d) e filled
+      pub listed-few : (L : ℕ) → All (FitFor L) C → All (FitFor L) B → All (FitFor L) E → length E ≤ maxRecords → BothWithin r → ListedWithin (listed.Done m made)
+      listed-few L f g k l b = (omega (arith, known .0, triples-few L C B E f g k), subst BothWithin p b)
 
-        pub listed-done : ListedAs room C B E n (listed.Done m (made + more)) d
-        listed-done = (enough-both room (enclosingStages C B) (enclosingStages B E) made more (first .0) (second .0), known .0, known .1, known .2)
-
-        pub listed-few : (L : ℕ) → All (FitFor L) C → All (FitFor L) B → All (FitFor L) E → length E ≤ maxRecords → TriedWithin r → TriedWithin s → ListedWithin (listed.Done m (made + more))
-        listed-few L f g k l a b =
-            (omega (arith, known .0, triples-few L C B E f g k), omega (arith, tried-most r made p a, tried-most s more q b))
+-- ---- three small layers
+pub all-small : (a b c : List ℤ) → allSmall a b c ≡ true → (length a ≤ smallWords) × (length b ≤ smallWords) × (length c ≤ smallWords)
+all-small a b c e =
+    let h = small-words b c (and-right (leb (length a) smallWords) (bothSmall b c) e) in
+    (leb-true (length a) smallWords (and-left (leb (length a) smallWords) (bothSmall b c) e), h .0, h .1)

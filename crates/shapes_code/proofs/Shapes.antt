@@ -1,13 +1,15 @@
 -- The grouped trapezoids of a layer with its component numbers are its shapes.
 use mathlib.Core.Path.{_≡_, refl, sym, _∙_, ap, subst}
 use mathlib.Core.List.{List}
-use Prim.Native.Nat.{ℕ, zero, suc, _<_}
+use Prim.Native.Nat.{ℕ, zero, suc, _<_, _≤_}
 use native.Mathlib.Nat.{mul-div-cancel-left}
 use native.Mathlib.Omega.{arith}
-use lib.ListN.{length, getD}
+use lib.ListN.{length, getD, take, replicate, length-replicate}
 use lib.IntN.{ℤ}
+use lib.Seq.{length-take-le}
 use Rattle.lists.specs.Lists.{All}
 use Rattle.lists.proofs.Lists.{all-of}
+use Rattle.records.specs.Limits.{maxRecords}
 use Rattle.records.specs.Records.{recordsFrom, count}
 use Rattle.records.proofs.Buffer.{image-records}
 use Rattle.geometry.specs.declared.Trapezoid.{Trapezoid}
@@ -24,6 +26,10 @@ use Rattle.extraction.proofs.Shapes.{numbers-length}
 use Rattle.boxes_code.specs.Code.{BoxesOf}
 use Rattle.shapes_code.specs.Code.{groupsBelow, GroupedAs, startOf, groupAt, ShapesIn}
 use Rattle.shapes_code.proofs.Groups.{below-fit, below-most, below-all, below-at, below-rises}
+
+-- the first n of a new array
+pub first-length : (n : ℕ) → n ≤ maxRecords → length {A = ℕ} (take n (replicate maxRecords 0)) ≡ n
+first-length n l = length-take-le n (replicate maxRecords 0) (omega (arith, l, length-replicate {A = ℕ} maxRecords 0))
 
 module _ {s : List ℤ} (h : FitLayer s) where
   number-below : (i : ℕ) → i < length (layerOf s) → getD (componentNumbers (layerOf s)) i 0 < length (layerOf s)

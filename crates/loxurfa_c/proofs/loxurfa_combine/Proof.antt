@@ -1,51 +1,11 @@
-use mathlib.Core.Path.{sym, _∙_, ap, subst}
 use borrow.Author.Needs.{needs}
-use Rattle.files.specs.Outcomes.{SmallAnswer}
-use Rattle.calls.specs.declared.Combined.{Combined}
-use Rattle.calls.specs.Answers.{combinedAnswer}
 use Rattle.calls.specs.Packed.{packed}
 use Rattle.calls.proofs.Seen.{seen}
 use Rattle.loxurfa_c.proofs.loxurfa_combine.Statement.{statement}
 use Rattle.loxurfa_c.proofs.loxurfa_combine.Tie as tie
 
-refusal-requires : tie.Need-refusal-requires
-refusal-requires c κs =
-    let at-answer = c .before in
-    let at-combine = at-answer .before .before .before .before in
-    subst (λ (r : Combined). SmallAnswer (combinedAnswer r)) (at-answer .answer .given .1) (at-combine .combine .ensures .1)
-
 returns : tie.Need-returns
-returns c =
-    let at-answer = c .before .before in
-    let at-combine = at-answer .before .before .before .before in
-    let e = at-combine .combine .ensures .0 in
-    seen packed e (c .refusal .ensures ∙ ap (λ (r : Combined). packed (combinedAnswer r)) (sym (at-answer .answer .given .1)))
-
-success-requires : tie.Need-success-requires
-success-requires c κs =
-    let at-answer2 = c .before in
-    let at-combine = at-answer2 .before .before .before .before in
-    subst (λ (r : Combined). SmallAnswer (combinedAnswer r)) (at-answer2 .answer2 .given .1) (at-combine .combine .ensures .1)
-
-returns-2 : tie.Need-returns-2
-returns-2 c =
-    let at-answer2 = c .before .before in
-    let at-combine = at-answer2 .before .before .before .before in
-    let e = at-combine .combine .ensures .0 in
-    seen packed e (c .success .ensures ∙ ap (λ (r : Combined). packed (combinedAnswer r)) (sym (at-answer2 .answer2 .given .1)))
+returns c = let at-combine = c .before .before .before in seen packed (at-combine .combine .ensures .0) (c .pack-combined .ensures)
 
 pub loxurfa-combine-spec : {M : Type 1} → statement M
-loxurfa-combine-spec =
-    tie.close
-    (tie.spec
-    (λ c κs. search needs)
-    (λ c. search needs)
-    refusal-requires
-    (λ c. search needs)
-    (λ c. search needs)
-    returns
-    (λ c. search needs)
-    success-requires
-    (λ c. search needs)
-    (λ c. search needs)
-    returns-2)
+loxurfa-combine-spec = tie.close (tie.spec (λ c κs. search needs) (λ c κs. search needs) (λ c. search needs) (λ c. search needs) returns)

@@ -1,48 +1,10 @@
-use mathlib.Core.Path.{sym, _∙_, ap, subst}
 use borrow.Author.Needs.{needs}
-use Rattle.files.specs.declared.LayersRead.{LayersRead}
-use Rattle.files.specs.Outcomes.{readAnswer, SmallAnswer}
-use Rattle.calls.specs.Packed.{packed}
 use Rattle.calls.proofs.Seen.{file-seen}
 use Rattle.loxurfa_c.proofs.loxurfa_read_layers.Statement.{statement}
 use Rattle.loxurfa_c.proofs.loxurfa_read_layers.Tie as tie
 
-refusal-requires : tie.Need-refusal-requires
-refusal-requires c κs =
-    let at-answer = c .before in
-    let at-read-layers = at-answer .before .before .before in
-    subst (λ (r : LayersRead). SmallAnswer (readAnswer r)) (at-answer .answer .given .1) (at-read-layers .read-layers .ensures .1)
-
 returns : tie.Need-returns
-returns c =
-    let at-answer = c .before .before in
-    let at-read-layers = at-answer .before .before .before in
-    let e = at-read-layers .read-layers .ensures .0 in
-    file-seen e (c .refusal .ensures ∙ ap (λ (r : LayersRead). packed (readAnswer r)) (sym (at-answer .answer .given .1)))
-
-success-requires : tie.Need-success-requires
-success-requires c κs =
-    let at-answer2 = c .before in
-    let at-read-layers = at-answer2 .before .before .before in
-    subst (λ (r : LayersRead). SmallAnswer (readAnswer r)) (at-answer2 .answer2 .given .1) (at-read-layers .read-layers .ensures .1)
-
-returns-2 : tie.Need-returns-2
-returns-2 c =
-    let at-answer2 = c .before .before in
-    let at-read-layers = at-answer2 .before .before .before in
-    let e = at-read-layers .read-layers .ensures .0 in
-    file-seen e (c .success .ensures ∙ ap (λ (r : LayersRead). packed (readAnswer r)) (sym (at-answer2 .answer2 .given .1)))
+returns c = let at-read-layers = c .before .before in file-seen (at-read-layers .read-layers .ensures .0) (c .pack-read .ensures)
 
 pub loxurfa-read-layers-spec : {M : Type 1} → statement M
-loxurfa-read-layers-spec =
-    tie.close
-    (tie.spec
-    (λ c κs. search needs)
-    (λ c. search needs)
-    refusal-requires
-    (λ c. search needs)
-    returns
-    (λ c. search needs)
-    success-requires
-    (λ c. search needs)
-    returns-2)
+loxurfa-read-layers-spec = tie.close (tie.spec (λ c κs. search needs) (λ c κs. search needs) (λ c. search needs) returns)

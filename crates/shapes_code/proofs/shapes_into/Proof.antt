@@ -1,16 +1,10 @@
-use mathlib.Core.Path.{_≡_, sym, _∙_}
-use Prim.Native.Nat.{ℕ, _≤_}
+use mathlib.Core.Path.{sym, _∙_}
 use native.Mathlib.Omega.{arith}
-use lib.ListN.{length, take, replicate, length-replicate}
-use lib.Seq.{length-take-le}
+use lib.ListN.{length}
 use borrow.Author.Needs.{needs}
-use Rattle.records.specs.Limits.{maxRecords}
+use Rattle.shapes_code.proofs.Shapes.{first-length}
 use Rattle.shapes_code.proofs.shapes_into.Statement.{statement}
 use Rattle.shapes_code.proofs.shapes_into.Tie as tie
-
--- the first n of the numbers
-first-length : (n : ℕ) → n ≤ maxRecords → length {A = ℕ} (take n (replicate maxRecords 0)) ≡ n
-first-length n l = length-take-le n (replicate maxRecords 0) (omega (arith, l, length-replicate {A = ℕ} maxRecords 0))
 
 slice-aggregate-shapes-with : tie.Need-slice-aggregate-shapes-with
 slice-aggregate-shapes-with c =

@@ -25,7 +25,7 @@ use Rattle.extraction.proofs.Shapes.{own-below, some-shape}
 use Rattle.extraction.proofs.Enclosing.{one-test}
 use Rattle.extraction.proofs.Counts.{enclosing-few}
 use Rattle.enclosing_code.specs.Code.{rowStages, familyStages, unmarked, someEncloses, lastMark, FamilyMarked}
-use Rattle.extraction_code.specs.Code.{shapesEnclose, MarkedAs, overlaysOfShapes}
+use Rattle.marking_code.specs.Code.{shapesEnclose, MarkedAs, overlaysOfShapes}
 
 -- ---- the last mark
 module _ (F : ℕ → List Trapezoid) (B : List Trapezoid) where

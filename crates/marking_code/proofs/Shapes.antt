@@ -1,15 +1,11 @@
 -- Shapes in buffers, and what it says that those of two layers were tried.
 use mathlib.Core.Path.{_≡_, sym, _∙_, ap}
-use mathlib.Core.Bool.{true}
 use mathlib.Core.List.{List, _++_}
 use Prim.Native.Nat.{ℕ, _≤_}
 use native.Mathlib.Omega.{arith}
-use lib.Dec.{leb}
-use lib.ListN.{length, take, replicate, length-append, length-replicate}
+use lib.ListN.{length, take, length-append}
 use lib.IntN.{ℤ, pos}
-use lib.Seq.{take-at, length-take-le}
-use borrow.Author.Tests.{leb-true}
-use Rattle.lists.proofs.Conjunction.{and-left, and-right}
+use lib.Seq.{take-at}
 use Rattle.records.specs.Limits.{maxRecords}
 use Rattle.records.specs.Records.{count, Blank}
 use Rattle.records.proofs.Records.{length-from}
@@ -22,21 +18,15 @@ use Rattle.extraction.specs.declared.Enclosed.{Enclosed}
 use Rattle.extraction.specs.declared.Enclosed.the-variants as enclosed
 use Rattle.extraction.specs.Extraction.{enclosingStages}
 use Rattle.trapezoids_code.specs.Tails.{Borrowed}
-use Rattle.boxes_code.specs.Code.{smallWords, bothSmall}
-use Rattle.boxes_code.proofs.Small.{small-words}
 use Rattle.remainder_code.specs.Code.{ScratchFor}
 use Rattle.shapes_code.specs.Code.{groupAt, ShapesIn}
 use Rattle.enclosing_code.specs.Code.{EnclosedAs, Marking, familyStages, FamilyMarked}
-use Rattle.extraction_code.specs.Code.{Tried, TriedWithin, RoomForShapes, allSmall}
-use Rattle.extraction_code.proofs.Families.{family-stages, family-marked, one-mark, overlays-few}
+use Rattle.marking_code.specs.Code.{Tried, TriedWithin, RoomForShapes}
+use Rattle.marking_code.proofs.Families.{family-stages, family-marked, one-mark, overlays-few}
 
 -- ---- parts of buffers
 pub layer-length : (t : List ℤ) → length (layerOf t) ≡ count trapezoidCodec t
 layer-length t = length-from trapezoidCodec (count trapezoidCodec t) t 0
-
--- the first n of a new array
-pub first-length : (n : ℕ) → n ≤ maxRecords → length {A = ℕ} (take n (replicate maxRecords 0)) ≡ n
-first-length n l = length-take-le n (replicate maxRecords 0) (omega (arith, l, length-replicate {A = ℕ} maxRecords 0))
 
 -- a part of n elements that has come back
 module _ {A : Type 0} (t q : List A) (n : ℕ) (l : length t ≡ n) where
@@ -83,9 +73,3 @@ module _ {a b : List ℤ} (f : FitLayer a) (g : FitLayer b)
   tried-few room enclosed.NoRoom l e = tt
   tried-few room (enclosed.Done n) l e =
       overlays-few room n (layerOf a) (layerOf b) l (omega (arith, layer-length a, f .few)) (omega (arith, layer-length b, g .few)) (ap (space room) (sym stages-are) ∙ e)
-
--- ---- three small layers
-pub all-small : (a b c : List ℤ) → allSmall a b c ≡ true → (length a ≤ smallWords) × (length b ≤ smallWords) × (length c ≤ smallWords)
-all-small a b c e =
-    let h = small-words b c (and-right (leb (length a) smallWords) (bothSmall b c) e) in
-    (leb-true (length a) smallWords (and-left (leb (length a) smallWords) (bothSmall b c) e), h .0, h .1)

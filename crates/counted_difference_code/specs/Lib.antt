@@ -1,0 +1,2 @@
+-- What the function answers, by the definitions.
+pub mod Code

@@ -1,0 +1,2 @@
+-- Which collector encloses each base, and which base each emitter.
+pub mod Code

@@ -1,0 +1,2 @@
+-- The shapes of a layer tried with those of another.
+pub mod Code
