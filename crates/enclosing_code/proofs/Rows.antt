@@ -7,7 +7,7 @@ use Prim.Native.Nat.{ℕ, _+_, _*_, _<_, _≤_}
 use native.Mathlib.Numerals.{add-one}
 use native.Mathlib.Omega.{arith}
 use lib.Dec.{T}
-use lib.ListN.{length, getD, set, replicate, length-set, length-replicate, getD-replicate}
+use lib.ListN.{length, getD, replicate, length-set, length-replicate, getD-replicate}
 use lib.Seq.{getD-set-same, getD-set-other}
 use lib.IntN.{ℤ, pos}
 use Rattle.records.specs.Limits.{maxRecords}
@@ -21,8 +21,9 @@ use Rattle.extraction.specs.Shapes.{isSome}
 use Rattle.trapezoids_code.specs.Tails.{Borrowed}
 use Rattle.remainder_code.specs.Code.{overlaysOfLayer, ScratchFor}
 use Rattle.shapes_code.specs.Code.{startOf, trapezoidsBetween, groupAt}
-use Rattle.enclosure_code.specs.Code.{EnclosureIs}
-use Rattle.enclosing_code.specs.Code.{stagesOf, rowStages, rowOf, familyStages, unmarked, someEncloses, markedIf, RowMarked, lastMark, FamilyMarked}
+use Rattle.enclosure_code.specs.Code.{stagesOf, someEncloses, markedIf}
+use Rattle.enclosure_code.proofs.Ones.{none-enough}
+use Rattle.enclosing_code.specs.Code.{rowStages, rowOf, familyStages, unmarked, RowMarked, lastMark, FamilyMarked}
 use Rattle.enclosing_code.proofs.Stages.{stages-none, stages-enough, stages-no-room}
 
 -- ---- the output and the scratch area, left blank by each call
@@ -142,10 +143,6 @@ module _ {room i made j : ℕ} {A : List Trapezoid} {G : ℕ → List Trapezoid}
     try-marked = record { same = h .same; each = λ k m. h .done k (omega (arith, m, e, l)) }
 
 -- ---- a shape with no trapezoids, and one with some
-none-enough : (room : ℕ) → space room [] ≡ enough 0
-unfolding space
-none-enough room = refl
-
 pub row-none : (room n i : ℕ) (A : List Trapezoid) (G : ℕ → List Trapezoid) (d : List ℕ) → A ≡ [] → (space room (rowOf G A n) ≡ enough 0) × RowMarked A i G d d
 row-none room n i A G d e =
     subst (λ (ts : List Trapezoid). (space room (rowOf G ts n) ≡ enough 0) × RowMarked ts i G d d) (sym e) (none-enough room, record { same = refl; each = λ j l. refl })
@@ -153,22 +150,6 @@ row-none room n i A G d e =
 pub row-some : (G : ℕ → List Trapezoid) (A : List Trapezoid) (n : ℕ) → 0 < length A → rowStages G A n ≡ rowOf G A n
 row-some G [] n l = absurd (omega (arith, l))
 row-some G (a ∷ A) n l = refl
-
-module _ (room j i : ℕ) (A : List Trapezoid) (d : List ℕ) where
-  pub one-none : (B : List Trapezoid) → B ≡ [] → (space room (stagesOf A B) ≡ enough 0) × (d ≡ markedIf (someEncloses A B) d j i)
-  one-none B e = subst (λ (ts : List Trapezoid). (space room (stagesOf A ts) ≡ enough 0) × (d ≡ markedIf (someEncloses A ts) d j i)) (sym e) (none-enough room, refl)
-
-  pub one-full : (B : List Trapezoid) → 0 < length B → EnclosureIs room A B enclosure.NoRoom → T (isNoRoom (space room (stagesOf A B)))
-  one-full [] l k = absurd (omega (arith, l))
-  one-full (b ∷ B) l k = k
-
-  pub one-yes : (B : List Trapezoid) → 0 < length B → (c : ℕ) → EnclosureIs room A B (enclosure.Yes c) → (space room (stagesOf A B) ≡ enough c) × (set d j i ≡ markedIf (someEncloses A B) d j i)
-  one-yes [] l c k = absurd (omega (arith, l))
-  one-yes (b ∷ B) l c k = (k .0, sym (ap (λ (t : Bool). markedIf t d j i) (k .1)))
-
-  pub one-no : (B : List Trapezoid) → 0 < length B → (c : ℕ) → EnclosureIs room A B (enclosure.No c) → (space room (stagesOf A B) ≡ enough c) × (d ≡ markedIf (someEncloses A B) d j i)
-  one-no [] l c k = absurd (omega (arith, l))
-  one-no (b ∷ B) l c k = (k .0, sym (ap (λ (t : Bool). markedIf t d j i) (k .1)))
 
 -- ---- the shapes of F with numbers below i tried with the n of G
 pub record TryingAll (room : ℕ) (F G : ℕ → List Trapezoid) (m n : ℕ) (d : List ℕ) (made i : ℕ) : Type 0 where

@@ -14,7 +14,7 @@ use Rattle.boolean.specs.Counts.{isNoRoom}
 use Rattle.boolean.proofs.Space.{after, space-append, space-enough}
 use Rattle.connectivity.specs.Components.{ownNumbers}
 use Rattle.connectivity.proofs.Joining.{less-than, same-or-not}
-use Rattle.enclosing_code.specs.Code.{onlyIf}
+use Rattle.enclosure_code.specs.Code.{onlyIf}
 
 no-room-plus : (m : ℕ) (s : Space) → T (isNoRoom s) → T (isNoRoom (plus m s))
 no-room-plus m (enough c) h = h

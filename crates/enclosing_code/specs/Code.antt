@@ -1,44 +1,17 @@
 -- What the functions answer and write, by the definitions, of families of shapes: F has the shapes with numbers below n, some of them empty.
 use mathlib.Core.Path.{_≡_}
-use mathlib.Core.Bool.{Bool, true, false, cond, _&&_}
-use mathlib.Core.List.{List, []}
-use Prim.Native.Nat.{ℕ, zero, suc, _<_, _≤_}
-use lib.Dec.{T}
+use mathlib.Core.Bool.{cond, _&&_}
+use mathlib.Core.List.{List}
+use Prim.Native.Nat.{ℕ, zero, suc, _<_}
 use lib.ListN.{length, getD, set}
 use Rattle.lists.specs.Lists.{each}
 use Rattle.lists.specs.Tests.{keep}
 use Rattle.records.specs.Limits.{maxRecords}
 use Rattle.geometry.specs.declared.Trapezoid.{Trapezoid}
-use Rattle.boolean.specs.Space.{Stage, enough, space, differenceStages}
-use Rattle.boolean.specs.Counts.{isNoRoom}
+use Rattle.boolean.specs.Space.{Stage, differenceStages}
 use Rattle.connectivity.specs.Components.{ownNumbers}
-use Rattle.extraction.specs.declared.Enclosed.{Enclosed}
-use Rattle.extraction.specs.declared.Enclosed.the-variants.{NoRoom, Done}
 use Rattle.extraction.specs.Shapes.{isSome}
-use Rattle.extraction.specs.Extraction.{shapeEncloses}
-
--- ---- stages and answers
--- these stages, if there is something to do
-abbrev pub onlyIf : Bool → List Stage → List Stage
-onlyIf true ms = ms
-onlyIf false ms = []
-
--- the shape A with B, if that has trapezoids
-abbrev pub stagesOf : List Trapezoid → List Trapezoid → List Stage
-stagesOf A B = onlyIf (isSome B) (differenceStages 0 B A)
-
-abbrev pub EnclosedAs : ℕ → List Stage → Enclosed → Type 0
-EnclosedAs room ms NoRoom = T (isNoRoom (space room ms))
-EnclosedAs room ms (Done overlays) = space room ms ≡ enough overlays
-
-abbrev pub EnclosedWithin : ℕ → Enclosed → Type 0
-EnclosedWithin m NoRoom = Unit {0}
-EnclosedWithin m (Done overlays) = overlays ≤ m
-
--- what holds of the marks where there was room for all
-abbrev pub Marking : Enclosed → Type 0 → Type 0
-Marking NoRoom X = Unit {0}
-Marking (Done overlays) X = X
+use Rattle.enclosure_code.specs.Code.{onlyIf, someEncloses}
 
 module _ (G : ℕ → List Trapezoid) where
   -- the numbers below n whose shapes have trapezoids
@@ -61,15 +34,6 @@ familyStages F m G n = each (λ i. rowStages G (F i) n) (someBelow F m)
 -- the mark of a shape that none encloses
 abbrev pub unmarked : ℕ
 unmarked = maxRecords
-
--- a shape with trapezoids encloses another
-abbrev pub someEncloses : List Trapezoid → List Trapezoid → Bool
-someEncloses A B = isSome B && shapeEncloses A B
-
--- the marks d, and that of number j set to i if the test says so
-abbrev pub markedIf : Bool → List ℕ → ℕ → ℕ → List ℕ
-markedIf true d j i = set d j i
-markedIf false d j i = d
 
 -- the marks d, and those of the shapes that A encloses, if it has trapezoids, set to the number i
 pub record RowMarked (A : List Trapezoid) (i : ℕ) (G : ℕ → List Trapezoid) (d₀ d : List ℕ) : Type 0 where

@@ -1,6 +1,5 @@
 // Which shapes of a layer enclose which of another, where the trapezoids of each shape stand together.
 use extraction::Enclosed;
-use extraction::Enclosure;
 ghost use mathlib.Core.Path.{_≡_};
 ghost use Prim.Native.Nat.{_*_, _<_, _≤_};
 ghost use lib.ListN.{length, replicate};
@@ -12,55 +11,8 @@ ghost use Rattle.trapezoids_code.specs.Tails.{Borrowed};
 ghost use Rattle.boxes_code.specs.Code.{BoxedLayer};
 ghost use Rattle.remainder_code.specs.Code.{overlaysOfLayer, ScratchFor};
 ghost use Rattle.shapes_code.specs.Code.{trapezoidsBetween, groupAt, Groups};
-ghost use Rattle.enclosing_code.specs.Code.{EnclosedAs, EnclosedWithin, Marking, stagesOf, rowStages, rowOf, familyStages, unmarked, someEncloses, markedIf, RowMarked, FamilyMarked};
-
-// A shape tried with the group of a layer from `start` to before `end`, which has the number j. If it encloses it, that gets its number.
-fn enclose_one(
-    number: usize,
-    shape: &[i32],
-    shape_boxes: &[i64],
-    layer: &[i32],
-    boxes: &[i64],
-    start: usize,
-    end: usize,
-    j: usize,
-    marks: &mut [u32],
-    out: &mut [i32],
-    scratch: &mut [i32],
-    room: usize,
-) -> Enclosed
-    requires { ⌜ BoxedLayer (now shape) (now «shape_boxes») × (0 < count trapezoidCodec (now shape)) × (number < maxRecords) × (j < length (now marks)) ⌝ }
-    requires { ⌜ BoxedLayer (now layer) (now boxes) × (end ≤ count trapezoidCodec (now layer)) ⌝ }
-    requires { ⌜ Borrowed (now out) room × (room ≤ maxRecords) ⌝ }
-    requires { ⌜ ScratchFor (now out) (now scratch) ⌝ }
-    ensures { λ r. ⌜ EnclosedAs room (stagesOf (layerOf (now (shape .entry))) (trapezoidsBetween start end (layerOf (now (layer .entry))))) r ⌝ }
-    ensures { λ r. ⌜ EnclosedWithin overlaysOfLayer r ⌝ }
-    ensures { λ r. ⌜ Marking r (now (marks .exit) ≡ markedIf (someEncloses (layerOf (now (shape .entry))) (trapezoidsBetween start end (layerOf (now (layer .entry))))) (now (marks .entry)) j number) ⌝ }
-    ensures { λ _. ⌜ Blank (pos 0) (now (out .exit)) × Blank (pos 0) (now (scratch .exit)) ⌝ }
-{
-    if end <= start {
-        return Enclosed::Done(0);
-    }
-    let f = enclosure_code::encloses_part(
-        shape,
-        shape_boxes,
-        layer,
-        boxes,
-        start,
-        end,
-        out,
-        scratch,
-        room,
-    );
-    match f {
-        Enclosure::NoRoom => Enclosed::NoRoom,
-        Enclosure::Yes(overlays) => {
-            marks[j] = number as u32;
-            Enclosed::Done(overlays)
-        }
-        Enclosure::No(overlays) => Enclosed::Done(overlays),
-    }
-}
+ghost use Rattle.enclosure_code.specs.Code.{EnclosedAs, EnclosedWithin, Marking};
+ghost use Rattle.enclosing_code.specs.Code.{rowStages, rowOf, familyStages, unmarked, RowMarked, FamilyMarked};
 
 // A shape tried with each group of a layer; those that it encloses get its number.
 fn enclose_each(
@@ -89,7 +41,7 @@ fn enclose_each(
     let mut j = 0;
     while j < ends.len() {
         let end = ends[j] as usize;
-        let f = enclose_one(
+        let f = enclosure_code::enclose_one(
             number,
             shape,
             shape_boxes,

@@ -1,6 +1,7 @@
 // Whether a shape of a layer encloses another.
 use boolean::Folded;
 use boxes::Box;
+use extraction::Enclosed;
 use extraction::Enclosure;
 ghost use mathlib.Core.Path.{_≡_};
 ghost use Prim.Native.Nat.{_*_, _<_, _≤_};
@@ -13,7 +14,7 @@ ghost use Rattle.trapezoids_code.specs.Tails.{Borrowed};
 ghost use Rattle.boxes_code.specs.Code.{boxWidth, BoxedLayer};
 ghost use Rattle.remainder_code.specs.Code.{overlaysOfLayer, ScratchFor};
 ghost use Rattle.shapes_code.specs.Code.{trapezoidsBetween};
-ghost use Rattle.enclosure_code.specs.Code.{disjointFrom, allDisjoint, EnclosureIs, EnclosureWithin};
+ghost use Rattle.enclosure_code.specs.Code.{disjointFrom, allDisjoint, EnclosureIs, EnclosureWithin, EnclosedAs, EnclosedWithin, Marking, stagesOf, someEncloses, markedIf};
 
 // Whether a box is disjoint from each of the first n of a slice.
 fn disjoint_from(e: Box, boxes: &[i64], n: usize) -> bool
@@ -97,7 +98,7 @@ fn enclosure(
 }
 
 // Whether a shape encloses the trapezoids of a layer with numbers from `start` to before `end`.
-pub fn encloses_part(
+fn encloses_part(
     shape: &[i32],
     shape_boxes: &[i64],
     layer: &[i32],
@@ -119,4 +120,52 @@ pub fn encloses_part(
     let other = &layer[records::MEMORY_WIDTH * start..records::MEMORY_WIDTH * end];
     let other_boxes = &boxes[boxes_code::WIDTH * start..boxes_code::WIDTH * end];
     enclosure(shape, shape_boxes, other, other_boxes, out, scratch, room)
+}
+
+// A shape tried with the group of a layer from `start` to before `end`, which has the number j. If it encloses it, that gets its number.
+pub fn enclose_one(
+    number: usize,
+    shape: &[i32],
+    shape_boxes: &[i64],
+    layer: &[i32],
+    boxes: &[i64],
+    start: usize,
+    end: usize,
+    j: usize,
+    marks: &mut [u32],
+    out: &mut [i32],
+    scratch: &mut [i32],
+    room: usize,
+) -> Enclosed
+    requires { ⌜ BoxedLayer (now shape) (now «shape_boxes») × (0 < count trapezoidCodec (now shape)) × (number < maxRecords) × (j < length (now marks)) ⌝ }
+    requires { ⌜ BoxedLayer (now layer) (now boxes) × (end ≤ count trapezoidCodec (now layer)) ⌝ }
+    requires { ⌜ Borrowed (now out) room × (room ≤ maxRecords) ⌝ }
+    requires { ⌜ ScratchFor (now out) (now scratch) ⌝ }
+    ensures { λ r. ⌜ EnclosedAs room (stagesOf (layerOf (now (shape .entry))) (trapezoidsBetween start end (layerOf (now (layer .entry))))) r ⌝ }
+    ensures { λ r. ⌜ EnclosedWithin overlaysOfLayer r ⌝ }
+    ensures { λ r. ⌜ Marking r (now (marks .exit) ≡ markedIf (someEncloses (layerOf (now (shape .entry))) (trapezoidsBetween start end (layerOf (now (layer .entry))))) (now (marks .entry)) j number) ⌝ }
+    ensures { λ _. ⌜ Blank (pos 0) (now (out .exit)) × Blank (pos 0) (now (scratch .exit)) ⌝ }
+{
+    if end <= start {
+        return Enclosed::Done(0);
+    }
+    let f = encloses_part(
+        shape,
+        shape_boxes,
+        layer,
+        boxes,
+        start,
+        end,
+        out,
+        scratch,
+        room,
+    );
+    match f {
+        Enclosure::NoRoom => Enclosed::NoRoom,
+        Enclosure::Yes(overlays) => {
+            marks[j] = number as u32;
+            Enclosed::Done(overlays)
+        }
+        Enclosure::No(overlays) => Enclosed::Done(overlays),
+    }
 }

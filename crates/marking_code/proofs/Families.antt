@@ -24,7 +24,8 @@ use Rattle.extraction.specs.Extraction.{shapeEncloses, enclosingStages}
 use Rattle.extraction.proofs.Shapes.{own-below, some-shape}
 use Rattle.extraction.proofs.Enclosing.{one-test}
 use Rattle.extraction.proofs.Counts.{enclosing-few}
-use Rattle.enclosing_code.specs.Code.{rowStages, familyStages, unmarked, someEncloses, lastMark, FamilyMarked}
+use Rattle.enclosure_code.specs.Code.{someEncloses}
+use Rattle.enclosing_code.specs.Code.{rowStages, familyStages, unmarked, lastMark, FamilyMarked}
 use Rattle.marking_code.specs.Code.{shapesEnclose, MarkedAs, overlaysOfShapes}
 
 -- ---- the last mark

@@ -20,7 +20,8 @@ use Rattle.extraction.specs.Extraction.{enclosingStages}
 use Rattle.trapezoids_code.specs.Tails.{Borrowed}
 use Rattle.remainder_code.specs.Code.{ScratchFor}
 use Rattle.shapes_code.specs.Code.{groupAt, ShapesIn}
-use Rattle.enclosing_code.specs.Code.{EnclosedAs, Marking, familyStages, FamilyMarked}
+use Rattle.enclosure_code.specs.Code.{EnclosedAs, Marking}
+use Rattle.enclosing_code.specs.Code.{familyStages, FamilyMarked}
 use Rattle.marking_code.specs.Code.{Tried, TriedWithin, RoomForShapes}
 use Rattle.marking_code.proofs.Families.{family-stages, family-marked, one-mark, overlays-few}
 

@@ -10,7 +10,8 @@ use Rattle.geometry.specs.Trapezoids.{layerOf}
 use Rattle.extraction.specs.declared.Enclosed.{Enclosed}
 use Rattle.remainder_code.specs.Code.{overlaysOfLayer}
 use Rattle.shapes_code.specs.Code.{startOf, trapezoidsBetween, groupAt}
-use Rattle.enclosing_code.specs.Code.{EnclosedAs, EnclosedWithin, Marking, rowOf, unmarked, RowMarked}
+use Rattle.enclosure_code.specs.Code.{EnclosedAs, EnclosedWithin, Marking}
+use Rattle.enclosing_code.specs.Code.{rowOf, unmarked, RowMarked}
 use Rattle.enclosing_code.proofs.Rows.{Clean, clean-start, clean-borrowed, clean-scratch, clean-turn, group-at, start-next, TryingAll, all-start, all-turn, all-full, all-stop}
 use Rattle.enclosing_code.proofs.enclose_all.Statement.{statement}
 use Rattle.enclosing_code.proofs.enclose_all.Tie as tie

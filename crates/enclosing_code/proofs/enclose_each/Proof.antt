@@ -12,7 +12,7 @@ use Rattle.extraction.specs.declared.Enclosed.{Enclosed}
 use Rattle.remainder_code.specs.Code.{overlaysOfLayer}
 use Rattle.shapes_code.specs.Code.{startOf, trapezoidsBetween, groupAt}
 use Rattle.enclosure_code.proofs.Answers.{some-of}
-use Rattle.enclosing_code.specs.Code.{EnclosedAs, EnclosedWithin, Marking, stagesOf, someEncloses, markedIf}
+use Rattle.enclosure_code.specs.Code.{EnclosedAs, EnclosedWithin, Marking, stagesOf, someEncloses, markedIf}
 use Rattle.enclosing_code.proofs.Rows.{Clean, clean-start, clean-borrowed, clean-scratch, clean-turn, group-at, start-next, Trying, try-start, try-turn, try-full, try-stop, try-marked}
 use Rattle.enclosing_code.proofs.enclose_each.Statement.{statement}
 use Rattle.enclosing_code.proofs.enclose_each.Tie as tie

@@ -8,7 +8,8 @@ use Rattle.geometry.specs.Trapezoids.{layerOf}
 use Rattle.boolean.specs.Space.{Stage}
 use Rattle.shapes_code.specs.Code.{trapezoidsBetween, groupAt}
 use Rattle.shapes_code.proofs.Parts.{part-count, part-layer, part-length, part-none, part-boxed}
-use Rattle.enclosing_code.specs.Code.{EnclosedAs, Marking, rowStages, RowMarked}
+use Rattle.enclosure_code.specs.Code.{EnclosedAs, Marking}
+use Rattle.enclosing_code.specs.Code.{rowStages, RowMarked}
 use Rattle.enclosing_code.proofs.Rows.{row-none, row-some}
 use Rattle.enclosing_code.proofs.enclose_row.Statement.{statement}
 use Rattle.enclosing_code.proofs.enclose_row.Tie as tie

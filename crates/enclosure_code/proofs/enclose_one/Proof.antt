@@ -7,10 +7,10 @@ use Rattle.geometry.specs.Trapezoids.{layerOf}
 use Rattle.remainder_code.specs.Code.{overlaysOfLayer}
 use Rattle.shapes_code.specs.Code.{trapezoidsBetween}
 use Rattle.shapes_code.proofs.Parts.{part-length, part-none}
 use Rattle.enclosure_code.specs.Code.{EnclosureIs, EnclosureWithin}
-use Rattle.enclosing_code.proofs.Rows.{one-none, one-full, one-yes, one-no}
-use Rattle.enclosing_code.proofs.enclose_one.Statement.{statement}
-use Rattle.enclosing_code.proofs.enclose_one.Tie as tie
+use Rattle.enclosure_code.proofs.Ones.{one-none, one-full, one-yes, one-no}
+use Rattle.enclosure_code.proofs.enclose_one.Statement.{statement}
+use Rattle.enclosure_code.proofs.enclose_one.Tie as tie
 
 returns : tie.Need-returns
 returns c =
