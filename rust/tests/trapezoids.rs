@@ -136,6 +136,20 @@ fn positions() {
     assert_eq!(position([UP0, Y0], [DOWN_3, Y0]), Ok(Less));
     // 3 is right of 0.
     assert_eq!(position([Y0, DOWN_3], [Y0, UP0]), Ok(Greater));
+    // Mirrored left to right: 0 is right of -3. Upside down: 0 is left of 3. Both: 0 is right of -3.
+    let mirrored = |(x, y): (i32, i32), base: Base| {
+        base.map(|[x1, y1, x2, y2]| match x {
+            1 => [x1, y * y1, x2, y * y2],
+            _ => [-x2, y * y2, -x1, y * y1],
+        })
+    };
+    for (mirror, right) in [((-1, 1), Greater), ((1, -1), Less), ((-1, -1), Greater)] {
+        let (zero, three) = ([Y0, UP0], [Y0, DOWN_3]);
+        assert_eq!(
+            position(mirrored(mirror, zero), mirrored(mirror, three)),
+            Ok(right)
+        );
+    }
     // 2 and 2, named by different lines.
     assert_eq!(position([Y0, UP2], [DOWN_2, Y0]), Ok(Equal));
     // 1 is left of 3/2: y = x/2 with y = 1 - x/2, y = x/3 with y = 1 - x/3.

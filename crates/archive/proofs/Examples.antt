@@ -10,7 +10,7 @@ use Rattle.lists.specs.Lists.{All, cut}
 use Rattle.lists.specs.Tests.{keep}
 use Rattle.integer.specs.Integer.{_⊕_, _⊖_, _⊗_, ⊝_}
 use Rattle.integer.specs.Compare.{orderOf}
-use Rattle.integer.specs.Fraction.{before}
+use Rattle.integer.specs.Fraction.{before, order}
 use Rattle.records.specs.Limits.{sized}
 use Rattle.records.specs.Records.{recordAt, recordsFrom, wordsOf}
 use Rattle.records.specs.Words.{unsigned, signed, wordOf, bytesOf, wordCodec}
@@ -18,6 +18,7 @@ use Rattle.levels.specs.Levels.{insert, levels}
 use Rattle.geometry.specs.Limit.{onGrid}
 use Rattle.geometry.specs.Lines.{dx, dy, offset, det, numer}
 use Rattle.geometry.specs.Positions.{crosses, ratio, meet, heights, rightOf, below}
+use Rattle.geometry.specs.Standing.{oneSign, horizontal}
 use Rattle.geometry.specs.Trapezoids.{trapezoidOf, trapezoidWords}
 use Rattle.geometry.specs.Fitness.{lineOnGrid, isLine, belowBetween, shapeVerdict, verdict, firstRefusal}
 use Rattle.geometry.specs.Ranges.{commonLeft, commonRight}
@@ -101,7 +102,7 @@ examples : All Accepted sources × Contracts (map layerFrom sources) calls × (w
     × WordsHold plateLimit × WriteAccepted writing × (plateLimit ≤ plateLimit) × (reading .file ≡ bytesBy writing) × ReadRight reading
 unfolding _⊕_ _⊖_ _⊗_ ⊝_ orderOf before sized recordAt recordsFrom wordsOf unsigned signed wordOf bytesOf insert levels
     onGrid dx dy offset det numer crosses ratio meet heights rightOf below trapezoidOf trapezoidWords
-    lineOnGrid isLine belowBetween shapeVerdict verdict firstRefusal keep sum spans inside crossInside slabs upTo column columns sweep
+    order oneSign horizontal lineOnGrid isLine belowBetween shapeVerdict verdict firstRefusal keep sum spans inside crossInside slabs upTo column columns sweep
     commonLeft commonRight crossesInCommon overlapRight overlapFrom overlaps overlays.sides overlays.sideCrossings overlays.overlayEvents overlays.fills
     overlays.tagAbove overlays.stack overlays.parts overlays.subdivision overlays.overlay overlays.tagged
     minus minusAll difference deoverlappedFrom minusStages minusAllStages differenceStages deoverlappedStages space

@@ -42,4 +42,4 @@ numerator-fits : {n : ℕ} → n ≤ numerBound largestLimit → n + 2 < limit64
 numerator-fits h = omega (arith, h)
 
 pub position-fits : {p : Position} → SmallPosition p → natAbs (p .num .v) + 2 < limit64
-position-fits h = numerator-fits (omega (arith, h .num-small))
+position-fits h = numerator-fits (omega (arith, h .comparable .num-small))

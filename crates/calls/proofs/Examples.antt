@@ -7,7 +7,7 @@ use Rattle.lists.specs.Lists.{each, cut}
 use Rattle.lists.specs.Tests.{keep}
 use Rattle.integer.specs.Integer.{_⊕_, _⊖_, _⊗_, ⊝_}
 use Rattle.integer.specs.Compare.{orderOf}
-use Rattle.integer.specs.Fraction.{before}
+use Rattle.integer.specs.Fraction.{before, order}
 use Rattle.records.specs.Limits.{sized}
 use Rattle.records.specs.Records.{recordAt, recordsFrom, wordsOf}
 use Rattle.records.specs.Words.{unsigned, signed, wordOf, bytesOf, wordCodec}
@@ -16,6 +16,7 @@ use Rattle.geometry.specs.declared.Trapezoid.{Trapezoid}
 use Rattle.geometry.specs.Limit.{onGrid}
 use Rattle.geometry.specs.Lines.{dx, dy, offset, det, numer}
 use Rattle.geometry.specs.Positions.{crosses, ratio, meet, heights, rightOf, below}
+use Rattle.geometry.specs.Standing.{oneSign, horizontal}
 use Rattle.geometry.specs.Trapezoids.{trapezoidOf, trapezoidWords}
 use Rattle.geometry.specs.Fitness.{lineOnGrid, isLine, belowBetween, shapeVerdict, verdict, firstRefusal}
 use Rattle.geometry.specs.Polygons.{vertexOnGrid}
@@ -133,7 +134,7 @@ Bytes =
 examples : Written × Combined × Places × Asked × Others × Polygons × Layers × Bytes
 unfolding _⊕_ _⊖_ _⊗_ ⊝_ orderOf before sized recordAt recordsFrom wordsOf unsigned signed wordOf bytesOf insert levels
     onGrid dx dy offset det numer crosses ratio meet heights rightOf below trapezoidOf trapezoidWords
-    lineOnGrid isLine belowBetween shapeVerdict verdict firstRefusal keep sum spans inside crossInside slabs upTo column columns sweep space difference differenceStages
+    order oneSign horizontal lineOnGrid isLine belowBetween shapeVerdict verdict firstRefusal keep sum spans inside crossInside slabs upTo column columns sweep space difference differenceStages
     fileSized numberFrom countOf pairLength endOf pairsFrom directoryOf lengthsFrom cut vertexOf vertexWords vertexOnGrid firstOffGrid polygonFileChecked
     layersChecked layerFileChecked files.readLayers files.writeLayers
     edge edgesFrom edges fractures.mark fractures.marks fractures.edgeCrossingsWith fractures.edgeCrossings fractures.polygonEvents
@@ -173,7 +174,7 @@ Listed =
 transistor-examples : Listed
 unfolding each keep _⊕_ _⊖_ _⊗_ ⊝_ orderOf before sized recordAt recordsFrom wordsOf insert levels
     onGrid dx dy offset det numer crosses ratio meet heights rightOf below trapezoidOf trapezoidWords
-    lineOnGrid isLine belowBetween shapeVerdict verdict firstRefusal sum spans inside crossInside slabs upTo column columns sweep
+    order oneSign horizontal lineOnGrid isLine belowBetween shapeVerdict verdict firstRefusal sum spans inside crossInside slabs upTo column columns sweep
     commonLeft commonRight crossesInCommon overlapRight overlapFrom overlaps overlays.sides overlays.sideCrossings overlays.overlayEvents overlays.fills
     overlays.tagAbove overlays.stack overlays.parts overlays.subdivision overlays.overlay overlays.tagged
     notAbove touchesAt crossesWithin touchesFrom touchesBetween touches ownNumbers relabelled joinedNumbers joinedFirst joinedAll touchingAt componentNumbers

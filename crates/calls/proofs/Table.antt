@@ -4,7 +4,7 @@ use Rattle.lists.specs.Lists.{cut}
 use Rattle.lists.specs.Tests.{keep}
 use Rattle.integer.specs.Integer.{_⊕_, _⊖_, _⊗_, ⊝_}
 use Rattle.integer.specs.Compare.{orderOf}
-use Rattle.integer.specs.Fraction.{before}
+use Rattle.integer.specs.Fraction.{before, order}
 use Rattle.records.specs.Limits.{sized}
 use Rattle.records.specs.Records.{recordAt, recordsFrom, wordsOf}
 use Rattle.records.specs.Words.{unsigned, signed, wordOf, bytesOf}
@@ -12,6 +12,7 @@ use Rattle.levels.specs.Levels.{insert, levels}
 use Rattle.geometry.specs.Limit.{onGrid}
 use Rattle.geometry.specs.Lines.{dx, dy, offset, det, numer}
 use Rattle.geometry.specs.Positions.{crosses, ratio, meet, heights, rightOf, below}
+use Rattle.geometry.specs.Standing.{oneSign, horizontal}
 use Rattle.geometry.specs.Points.{orientation, under}
 use Rattle.geometry.specs.Trapezoids.{trapezoidOf, trapezoidWords, liesIn}
 use Rattle.geometry.specs.Fitness.{lineOnGrid, isLine, belowBetween, shapeVerdict, verdict, firstRefusal}
@@ -41,7 +42,7 @@ use Rattle.calls.specs.Table.{Table}
 pub table : Table
 unfolding _⊕_ _⊖_ _⊗_ ⊝_ orderOf before sized recordAt recordsFrom wordsOf unsigned signed wordOf bytesOf insert levels
     onGrid dx dy offset det numer crosses ratio meet heights rightOf below orientation under trapezoidOf trapezoidWords liesIn
-    lineOnGrid isLine belowBetween shapeVerdict verdict firstRefusal keep sum spans inside crossInside slabs upTo column columns sweep
+    order oneSign horizontal lineOnGrid isLine belowBetween shapeVerdict verdict firstRefusal keep sum spans inside crossInside slabs upTo column columns sweep
     commonLeft commonRight crossesInCommon overlapRight overlapFrom overlaps overlays.sides overlays.sideCrossings overlays.overlayEvents overlays.fills
     overlays.tagAbove overlays.stack overlays.parts overlays.subdivision overlays.overlay overlays.tagged
     notAbove touchesAt crossesWithin touchesFrom touchesBetween touches ownNumbers relabelled joinedNumbers joinedFirst joinedAll owners

@@ -9,7 +9,7 @@ use lib.IntN.{ℤ}
 use Rattle.lists.specs.Tests.{keep}
 use Rattle.integer.specs.Integer.{_⊕_, _⊖_, _⊗_, ⊝_}
 use Rattle.integer.specs.Compare.{orderOf}
-use Rattle.integer.specs.Fraction.{before}
+use Rattle.integer.specs.Fraction.{before, order}
 use Rattle.records.specs.Limits.{sized}
 use Rattle.records.specs.Records.{recordAt, recordsFrom, wordsOf}
 use Rattle.levels.specs.Levels.{insert, levels}
@@ -18,6 +18,7 @@ use Rattle.geometry.specs.declared.Trapezoid.{Trapezoid}
 use Rattle.geometry.specs.Limit.{onGrid}
 use Rattle.geometry.specs.Lines.{dx, dy, offset, det, numer}
 use Rattle.geometry.specs.Positions.{crosses, ratio, meet, heights, rightOf, below}
+use Rattle.geometry.specs.Standing.{oneSign, horizontal}
 use Rattle.geometry.specs.Trapezoids.{trapezoidOf, trapezoidWords}
 use Rattle.geometry.specs.Fitness.{lineOnGrid, isLine, belowBetween, shapeVerdict, verdict, firstRefusal}
 use Rattle.geometry.specs.Ranges.{commonLeft, commonRight}
@@ -114,7 +115,7 @@ Numbers =
 chains : Made × Holds one (q-r ∷ []) × Holds two (q∩r ∷ q-r ∷ []) × Holds both (q-r ∷ q∩r ∷ q-r ∷ []) × (told start (stepsOf both) ≡ tells) × Limits × Numbers
 unfolding _⊕_ _⊖_ _⊗_ ⊝_ orderOf before sized recordAt recordsFrom wordsOf insert levels
     onGrid dx dy offset det numer crosses ratio meet heights rightOf below trapezoidOf trapezoidWords
-    lineOnGrid isLine belowBetween shapeVerdict verdict firstRefusal keep spans columns sweep
+    order oneSign horizontal lineOnGrid isLine belowBetween shapeVerdict verdict firstRefusal keep spans columns sweep
     commonLeft commonRight crossesInCommon overlapRight overlapFrom overlaps sides sideCrossings overlayEvents fills tagAbove stack parts subdivision overlay tagged
     minus minusAll difference common intersection minusStages minusAllStages differenceStages commonStages intersectionStages space
     combineChecked combined outcomeOf called run limits held Contracts told

@@ -193,10 +193,10 @@ fn in_range(a: Placed, at: Position) -> bool
     requires { ⌜ PlacedAs (a .shape) a × SmallPosition at ⌝ }
     ensures { λ r. ⌜ r ≡ inRange (fractionOf at) (a .shape) ⌝ }
 {
-    if geometry_code::is_before(at, a.left) {
+    if geometry_code::is_left(geometry_code::compare(at, a.left)) {
         return false;
     }
-    geometry_code::is_before(at, a.right)
+    geometry_code::is_left(geometry_code::compare(at, a.right))
 }
 
 // The column right of a position, from the column before it, however many sides meet there.

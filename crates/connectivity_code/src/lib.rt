@@ -54,10 +54,10 @@ fn touches_from(a: Trapezoid, b: Trapezoid, l: Line, m: Line, lo: Position, hi: 
     let Crossing::At(p) = c else {
         return false;
     };
-    if geometry_code::is_before(p, lo) {
+    if geometry_code::is_left(geometry_code::compare(p, lo)) {
         return false;
     }
-    if geometry_code::is_before(hi, p) {
+    if geometry_code::is_left(geometry_code::compare(hi, p)) {
         return false;
     }
     touches_at(a, b, p)
@@ -70,7 +70,7 @@ pub fn touching(a: Placed, b: Placed) -> bool
 {
     let lo = trapezoids_code::common_left(a, b);
     let hi = trapezoids_code::common_right(a, b);
-    if geometry_code::is_before(hi, lo) {
+    if geometry_code::is_left(geometry_code::compare(hi, lo)) {
         return false;
     }
     let s = a.shape;

@@ -6,13 +6,12 @@ use Rattle.lists.specs.Lists.{All}
 use Rattle.lists.specs.Tests.{all}
 use Rattle.lists.proofs.Tests.{is-true}
 use Rattle.lists.proofs.Lists.{all-map, all-exact}
-use Rattle.integer.specs.Fraction.{before}
 use Rattle.geometry.specs.declared.Trapezoid.{Trapezoid}
 use Rattle.geometry.specs.declared.Verdict.the-variants.{Fit, Row}
 use Rattle.geometry.specs.Limit.{coordinateLimit, OnGrid}
 use Rattle.geometry.specs.Positions.{crosses, position}
 use Rattle.geometry.specs.Trapezoids.{linesOf}
-use Rattle.geometry.specs.Fitness.{lineOnGrid, isLine, belowBetween, shapeVerdict, verdict}
+use Rattle.geometry.specs.Fitness.{lineOnGrid, isLine, leftOf, belowBetween, shapeVerdict, verdict}
 use Rattle.geometry.proofs.Fitness.{grid-exact, grid-more}
 
 -- ---- rows 9 to 11
@@ -27,15 +26,15 @@ module _ (t : Trapezoid) where
     shape-right h = rw (hl, h)
 
     module _ (hr : crosses (t .right .first) (t .right .second) ≡ true) where
-      pub shape-bases : before (position (t .left)) (position (t .right)) ≡ false → Row 10 ≡ shapeVerdict t
+      pub shape-bases : leftOf (t .left) (t .right) ≡ false → Row 10 ≡ shapeVerdict t
       unfolding shapeVerdict
       shape-bases h = rw (hl, hr, h)
 
-      pub shape-sides : before (position (t .left)) (position (t .right)) ≡ true → belowBetween (position (t .left)) (position (t .right)) (t .bottom) (t .top) ≡ false → Row 11 ≡ shapeVerdict t
+      pub shape-sides : leftOf (t .left) (t .right) ≡ true → belowBetween (position (t .left)) (position (t .right)) (t .bottom) (t .top) ≡ false → Row 11 ≡ shapeVerdict t
       unfolding shapeVerdict
       shape-sides h k = rw (hl, hr, h, k)
 
-      pub shape-fit : before (position (t .left)) (position (t .right)) ≡ true → belowBetween (position (t .left)) (position (t .right)) (t .bottom) (t .top) ≡ true → Fit ≡ shapeVerdict t
+      pub shape-fit : leftOf (t .left) (t .right) ≡ true → belowBetween (position (t .left)) (position (t .right)) (t .bottom) (t .top) ≡ true → Fit ≡ shapeVerdict t
       unfolding shapeVerdict
       shape-fit h k = rw (hl, hr, h, k)
 

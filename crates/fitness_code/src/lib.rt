@@ -1,6 +1,7 @@
 // Rows 7 to 11: whether a trapezoid is fit, and the first of a layer that is not.
 use geometry::Checked;
 use geometry::Crossing;
+use geometry::Horizontal;
 use geometry::Line;
 use geometry::Position;
 use geometry::Trapezoid;
@@ -135,13 +136,17 @@ fn judge_shape(t: Trapezoid) -> Verdict
     let Crossing::At(q) = b else {
         return Verdict::Row(9);
     };
-    if geometry_code::is_before(p, q) {
-        if below_between(bottom, top, p, q) {
-            return Verdict::Fit;
+    let h = geometry_code::compare(p, q);
+    match h {
+        Horizontal::Left => {
+            if below_between(bottom, top, p, q) {
+                return Verdict::Fit;
+            }
+            Verdict::Row(11)
         }
-        return Verdict::Row(11);
+        Horizontal::Level => Verdict::Row(10),
+        Horizontal::Right => Verdict::Row(10),
     }
-    Verdict::Row(10)
 }
 
 // The first of the rows 7 to 11 that refuses a trapezoid under a limit.

@@ -17,7 +17,8 @@ use Rattle.geometry.specs.Fitness.{FitFor}
 use Rattle.geometry.specs.declared.Vertex.{Vertex}
 use Rattle.geometry.specs.Polygons.{VertexOnGrid, Polygon, PolygonOnGrid}
 use Rattle.geometry.proofs.Meet.{proper-crosses}
-use Rattle.geometry.proofs.Fitness.{base-exact, bases-exact}
+use Rattle.geometry.proofs.Fitness.{base-exact}
+use Rattle.geometry.proofs.Standing.{left-of-exact}
 use Rattle.sweep.specs.Segments.{spans}
 use Rattle.sweep.specs.Columns.{Slab, Below, column}
 use Rattle.sweep.proofs.Column.{column-open}
@@ -110,7 +111,7 @@ module _ (L : ℕ) (polygon : Polygon) (one : 1 ≤ L) (grid : PolygonOnGrid L p
         lines = (u .0 .1, (u .1 .1, (v .0 .1, (v .1 .1, (d .1, (e .1, tt))))));
         left = base-exact (p .first) (p .second) (u .0 .1) (u .1 .1) .0 cp;
         right = base-exact (q .first) (q .second) (v .0 .1) (v .1 .1) .0 cq;
-        bases = bases-exact p q cp cq .0 (c .wide);
+        bases = left-of-exact p q cp cq .0 (c .wide);
         sides = b .below .between;
       }
 

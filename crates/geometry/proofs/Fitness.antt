@@ -19,21 +19,24 @@ use Rattle.integer.specs.Fraction.{Fraction, Proper, before, mediant}
 use Rattle.integer.proofs.Ring.{ring, _⊞_, _⊟_, _⊠_, con, _≗_, sub-zero}
 use Rattle.integer.proofs.Order.{eq-by, eq-over, positive-mul}
 use Rattle.integer.proofs.Linear.{zarith, minus⁺, minus⁻, parts, one-part, neg-zero}
-use Rattle.integer.proofs.Fraction.{cross, cross-turn, cross→at-most, at-most-before-trans, before-at-most-trans, before→at-most, mediant-proper, mediant-after, mediant-before}
+use Rattle.integer.proofs.Fraction.{cross, cross-turn, before→at-most, mediant-proper, mediant-after, mediant-before}
 use Rattle.geometry.specs.declared.Line.{Line}
 use Rattle.geometry.specs.declared.Trapezoid.{Trapezoid}
+use Rattle.geometry.specs.declared.Horizontal.the-variants.{Left}
 use Rattle.geometry.specs.declared.Verdict.{Verdict}
 use Rattle.geometry.specs.declared.Verdict.the-variants.{Fit, Row}
 use Rattle.geometry.specs.declared.Checked.the-variants.{Passed, Refused}
 use Rattle.geometry.specs.Limit.{onGrid, OnGrid, coordinateLimit}
 use Rattle.geometry.specs.Lines.{dx, dy, offset, IsLine, det}
 use Rattle.geometry.specs.Positions.{gap, crosses, meet, position, below}
+use Rattle.geometry.specs.Standing.{baseCrosses, standing}
 use Rattle.geometry.specs.Points.{Point, at, orientation, On, under, SamePoint}
 use Rattle.geometry.specs.Trapezoids.{linesOf, based, liesIn}
-use Rattle.geometry.specs.Fitness.{CrossInOnePoint, GridRow, LineRow, BaseRow, BasesRow, SidesRow, FitFor, lineOnGrid, isLine, baseCrosses, leftOf, belowBetween, pass, shapeVerdict, verdict, refuse, firstRefusal, GridExact, BaseExact, BasesExact, SidesExact, FitExact, LayerExact, RowExact, RefusedAt, PlaceExact, FitMore, FitHoldsPoint}
+use Rattle.geometry.specs.Fitness.{CrossInOnePoint, GridRow, LineRow, BaseRow, BasesRow, SidesRow, FitFor, lineOnGrid, isLine, leftOf, belowBetween, pass, shapeVerdict, verdict, refuse, firstRefusal, GridExact, BaseExact, BasesExact, SidesExact, FitExact, LayerExact, RowExact, RefusedAt, PlaceExact, FitMore, FitHoldsPoint}
 use Rattle.geometry.proofs.Identities.{dx-positive, orientation-gap}
 use Rattle.geometry.proofs.Heights.{coincide-everywhere}
 use Rattle.geometry.proofs.Meet.{det→crosses, meet-proper, meet-gap, meet-only}
+use Rattle.geometry.proofs.Standing.{left-of-exact, left-exact, standing-exact}
 use Rattle.geometry.proofs.Points.{on, on-point, on-line, on-other, on-cross, on-after, on-before, on-under, on-below}
 use Rattle.geometry.proofs.Sides as Sides
 
@@ -123,22 +126,8 @@ pub base-exact : BaseExact
 base-exact l m hl hm = (one-point l m hl, (λ c. det→crosses l m (slopes-differ l m hl hm c)))
 
 -- ---- row 10
-level : (x y : Fraction) → cross x y ≡ pos 0 → T (not (before y x)) × T (not (before x y))
-level x y e = (cross→at-most x y (omega (zarith, e)), cross→at-most y x (omega (zarith, neg-zero (cross-turn x y) e)))
-
 pub bases-exact : BasesExact
-bases-exact b c hb hc = (
-  (λ h x y hx hy gx gy.
-      at-most-before-trans x (position b) y hx hp hy (level x (position b) (meet-only (b .first) (b .second) x gx) .0)
-      (before-at-most-trans (position b) (position c) y hp hq hy h (level y (position c) (meet-only (c .first) (c .second) y gy) .1))),
-  (λ f. f (position b) (position c) hp hq (meet-gap (b .first) (b .second)) (meet-gap (c .first) (c .second))),
-)
-  where
-    hp : Proper (position b)
-    hp = meet-proper (b .first) (b .second) hb
-
-    hq : Proper (position c)
-    hq = meet-proper (c .first) (c .second) hc
+bases-exact b c hb hc = let k = standing-exact Left b c hb hc in let l = left-exact (standing b c) in ((λ h. k .0 (l .0 h)), (λ h. l .1 (k .1 h)))
 
 -- ---- row 11
 pub sides-exact : SidesExact
@@ -175,7 +164,7 @@ module _ (t : Trapezoid) where
           sides-exact (position (t .left)) (position (t .right)) (t .bottom) (t .top)
           (meet-proper (t .left .first) (t .left .second) (left-row .1 (crossed .0)))
           (meet-proper (t .right .first) (t .right .second) (right-row .1 (crossed .1)))
-          (bases-row .1 h)
+          (left-of-exact (t .left) (t .right) (left-row .1 (crossed .0)) (right-row .1 (crossed .1)) .1 h)
 
 -- ---- the verdict
 -- fit, or a number past k and up to 11
@@ -359,7 +348,7 @@ module _ {L : ℕ} {t : Trapezoid} (h : FitFor L t) where
   right-proper = meet-proper (t .right .first) (t .right .second) right-crosses
 
   pub left-before-right : T (before (position (t .left)) (position (t .right)))
-  left-before-right = bases-row t (h .lines) (h .left, h .right) .1 (h .bases)
+  left-before-right = left-of-exact (t .left) (t .right) left-crosses right-crosses .1 (h .bases)
 
   pub bottom-line : IsLine (t .bottom)
   bottom-line = h .lines .1 .1 .1 .1 .0

@@ -3,6 +3,7 @@ pub mod Identities
 pub mod Heights
 pub mod Between
 pub mod Meet
+pub mod Standing
 pub mod Points
 pub mod Sides
 pub mod Fitness

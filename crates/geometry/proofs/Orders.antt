@@ -3,12 +3,15 @@ use mathlib.Core.Path.{_∙_}
 use mathlib.Core.Logic.{inl, inr}
 use lib.IntN.{pos}
 use lib.Signed.{leZ-yes}
-use Rattle.integer.proofs.Ring.{ring, _⊟_, _⊠_, con, _≗_}
+use Rattle.integer.specs.Integer.{_⊗_}
+use Rattle.integer.proofs.Ring.{ring, _⊟_, _⊠_, con, _≗_, sub-zero}
 use Rattle.integer.proofs.Linear.{neg-zero}
-use Rattle.integer.proofs.Fraction.{cross, cross-turn, before→at-most, at-most-refl, order-equal}
+use Rattle.integer.proofs.Fraction.{cross, cross-turn, before→at-most, at-most-refl}
+use Rattle.geometry.specs.declared.Horizontal.the-variants.{Level}
 use Rattle.geometry.specs.Lines.{dx}
 use Rattle.geometry.specs.Points.{at, under}
 use Rattle.geometry.specs.Orders.{GapMeans, HeightsTotal, HeightsTransitive, RightTotal, RightTransitive, StayInOrder, UnderTransitive}
+use Rattle.geometry.proofs.Standing.{positive-not-zero, horizontal-exact}
 use Rattle.geometry.proofs.Heights as Heights
 use Rattle.geometry.proofs.Between as Between
 use Rattle.geometry.proofs.Points as Points
@@ -16,7 +19,11 @@ use Rattle.geometry.proofs.Points.{on, on-point, on-line, on-other, on-
 
 pub gap-means : GapMeans
 unfolding cross
-gap-means l m x hl hx = (on l x, on-point l x hl hx, order-equal (at (on l x)) x .1 (neg-zero (cross-turn x (at (on l x))) (on-cross l x x ∙ ring 3 (λ a n d. a ⊠ (n ⊠ d ⊟ n ⊠ d) ≗ con (pos 0)) tt (dx l) (x .num) (x .den))), on-line l x, on-other l m x)
+gap-means l m x hl hx =
+    let P = on l x in
+    let real = on-point l x hl hx in
+    let level = neg-zero (cross-turn x (at P)) (on-cross l x x ∙ ring 3 (λ a n d. a ⊠ (n ⊠ d ⊟ n ⊠ d) ≗ con (pos 0)) tt (dx l) (x .num) (x .den)) in
+    (P, real, horizontal-exact Level (at P) x (positive-not-zero real) (positive-not-zero hx) .1 (sub-zero (P .X ⊗ x .den) (x .num ⊗ P .D) level), on-line l x, on-other l m x)
 
 pub heights-total : HeightsTotal
 heights-total x l m = Heights.height-total l m x

@@ -25,6 +25,7 @@ use Rattle.geometry.specs.declared.Checked.the-variants.{Passed, Refused
 use Rattle.geometry.specs.Limit.{onGrid, OnGrid, coordinateLimit}
 use Rattle.geometry.specs.Lines.{IsLine}
 use Rattle.geometry.specs.Positions.{gap, crosses, heights, position}
+use Rattle.geometry.specs.Standing.{isLeft, baseCrosses, standing, LeftOf}
 use Rattle.geometry.specs.Points.{Point, IsPoint, On, SamePoint}
 use Rattle.geometry.specs.Trapezoids.{linesOf, liesIn, trapezoidCodec, layerOf}
 
@@ -36,10 +37,6 @@ pub record CrossInOnePoint (l m : Line) : Type 0 where
   pub on-first : On l point
   pub on-second : On m point
   pub only : (Q : Point) → IsPoint Q → On l Q → On m Q → SamePoint point Q
-
--- row 10: wherever the left base's lines meet is left of wherever the right base's lines meet
-abbrev pub LeftOf : Base → Base → Type 0
-LeftOf b c = (x y : Fraction) → Proper x → Proper y → gap (b .first) (b .second) x ≡ pos 0 → gap (c .first) (c .second) y ≡ pos 0 → T (before x y)
 
 -- row 11: the bottom is below the top at every rational position strictly between the bases
 abbrev pub BelowBetween : Fraction → Fraction → Line → Line → Type 0
@@ -76,11 +73,8 @@ lineOnGrid L l = onGrid L (l .x1) && (onGrid L (l .y1) && (onGrid L (l .x2) && o
 unfoldable pub isLine : Line → Bool
 isLine l = ltZ (l .x1) (l .x2)
 
-abbrev pub baseCrosses : Base → Bool
-baseCrosses b = crosses (b .first) (b .second)
-
 abbrev pub leftOf : Base → Base → Bool
-leftOf b c = before (position b) (position c)
+leftOf b c = isLeft (standing b c)
 
 -- of the heights at the two bases: above at neither, and below at one
 abbrev pub apartBy : Ordering → Ordering → Bool

@@ -2,6 +2,7 @@
 pub mod Limit
 pub mod Lines
 pub mod Positions
+pub mod Standing
 pub mod Points
 pub mod Orders
 pub mod Trapezoids

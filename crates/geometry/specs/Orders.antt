@@ -6,16 +6,17 @@ use mathlib.Core.Logic.{_⊎_}
 use lib.Dec.{T}
 use lib.IntN.{pos}
 use lib.Signed.{_≤ℤ_, _<ℤ_}
-use Rattle.integer.specs.declared.Ordering.the-variants.{Equal}
-use Rattle.integer.specs.Fraction.{Fraction, Proper, before, order}
+use Rattle.integer.specs.Fraction.{Fraction, Proper, before}
 use Rattle.geometry.specs.declared.Line.{Line}
+use Rattle.geometry.specs.declared.Horizontal.the-variants.{Level}
 use Rattle.geometry.specs.Lines.{IsLine, det}
 use Rattle.geometry.specs.Positions.{gap, below}
+use Rattle.geometry.specs.Standing.{horizontal}
 use Rattle.geometry.specs.Points.{Point, IsPoint, at, orientation, On, under}
 
 -- the gap is the place of l's point over x against m: above it, on it or below it
 abbrev pub GapMeans : Type 0
-GapMeans = (l m : Line) (x : Fraction) → IsLine l → Proper x → (P : Point) × IsPoint P × (order (at P) x ≡ Equal) × On l P × (orientation m P ≡ gap l m x)
+GapMeans = (l m : Line) (x : Fraction) → IsLine l → Proper x → (P : Point) × IsPoint P × (horizontal (at P) x ≡ Level) × On l P × (orientation m P ≡ gap l m x)
 
 -- at or below at a position: total and transitive
 abbrev pub HeightsTotal : Type 0

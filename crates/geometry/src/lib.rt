@@ -50,10 +50,17 @@ pub struct Meeting {
     pub numer: Int,
 }
 
-// A horizontal position num/den with den positive.
+// A horizontal position num/den; den is not zero, of either sign.
 pub struct Position {
     pub num: Int,
     pub den: Int,
+}
+
+// How one base or position stands to another.
+pub enum Horizontal {
+    Left,
+    Level,
+    Right,
 }
 
 // Where two lines cross: nowhere, or nowhere in the range that was asked for; or at a position.

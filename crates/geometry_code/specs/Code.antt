@@ -1,15 +1,15 @@
 -- How the functions' structs stand for the numbers of the definitions.
 use mathlib.Core.Path.{_≡_}
-use mathlib.Core.Bool.{Bool, true, false, not}
+use mathlib.Core.Bool.{not}
 use Prim.Native.Nat.{_*_, _≤_}
 use lib.Dec.{T}
 use lib.IntN.{pos, natAbs}
+use lib.Signed.{_<ℤ_}
 use Rattle.integer.specs.declared.Int.{Int}
 use Rattle.integer.specs.declared.Ordering.{Ordering}
-use Rattle.integer.specs.declared.Ordering.the-variants.{Less, Equal, Greater}
 use Rattle.integer.specs.Integer.{_⊗_}
 use Rattle.integer.specs.Compare.{orderOf}
-use Rattle.integer.specs.Fraction.{Fraction}
+use Rattle.integer.specs.Fraction.{Fraction, Proper}
 use Rattle.geometry.specs.declared.Line.{Line}
 use Rattle.geometry.specs.declared.Base.{Base}
 use Rattle.geometry.specs.declared.Corners.{Corners}
@@ -20,7 +20,8 @@ use Rattle.geometry.specs.declared.Crossing.{Crossing}
 use Rattle.geometry.specs.declared.Crossing.the-variants.{Nowhere, At}
 use Rattle.geometry.specs.Limit.{coordinateLimit, maxDenominator, detBound, numerBound}
 use Rattle.geometry.specs.Lines.{dx, dy, offset, det, numer}
-use Rattle.geometry.specs.Positions.{crosses, meet, position, thenBy}
+use Rattle.geometry.specs.Positions.{crosses, ratio, meet, position, thenBy}
+use Rattle.geometry.specs.Standing.{NotZero}
 use Rattle.geometry.specs.Points.{Point}
 
 pub record CornersOf (l : Line) (k : Corners) : Type 0 where
@@ -52,16 +53,26 @@ pub record MeetingOf (l m : Line) (k : Meeting) : Type 0 where
 abbrev pub fractionOf : Position → Fraction
 fractionOf p = record { num = p .num .v; den = p .den .v }
 
--- a position as a comparison takes it
-pub record SmallPosition (p : Position) : Type 0 where
+-- a position as the comparison takes it: "either sign of both determinants, which are never zero"
+pub record Comparable (p : Position) : Type 0 where
   pub num-small : natAbs (p .num .v) ≤ numerBound coordinateLimit
   pub den-small : natAbs (p .den .v) ≤ detBound coordinateLimit
+  pub den-not-zero : NotZero (p .den .v)
+
+-- a position that is kept or that heights are taken at
+pub record SmallPosition (p : Position) : Type 0 where
+  pub comparable : Comparable p
+  pub proper : Proper (fractionOf p)
 
 -- the order right of x by a determinant and a numerator: of the lines that have them it is `rightOf` (proofs/Branches.antt: `right-meeting`)
 unfoldable pub orderRight : Meeting → Fraction → Ordering
 orderRight k x = thenBy (orderOf (x .num ⊗ k .det .v) (k .numer .v ⊗ x .den)) (orderOf (k .det .v) (pos 0))
 
--- where two lines cross, or that they do not
+-- where two lines cross, or that they do not: as the lines give it, and with a positive denominator
+abbrev pub RatioOf : Line → Line → Crossing → Type 0
+RatioOf l m Nowhere = T (not (crosses l m))
+RatioOf l m (At p) = T (crosses l m) × (fractionOf p ≡ ratio l m) × Comparable p
+
 abbrev pub CrossingOf : Line → Line → Crossing → Type 0
 CrossingOf l m Nowhere = T (not (crosses l m))
 CrossingOf l m (At p) = T (crosses l m) × (fractionOf p ≡ meet l m) × SmallPosition p
@@ -70,17 +81,12 @@ pub record PositionOf (b : Base) (p : Position) : Type 0 where
   pub is : fractionOf p ≡ position b
   pub small : SmallPosition p
 
--- less, or where `level` is yes less or equal
-abbrev pub precedesBy : Bool → Ordering → Bool
-precedesBy level Less = true
-precedesBy level Equal = level
-precedesBy level Greater = false
-
 abbrev pub pointOf : Int → Int → Int → Point
 pointOf x y d = record { X = x .v; Y = y .v; D = d .v }
 
--- X, Y and D as row 3 lets them pass: D up to 1,024, X and Y up to D times the limit
+-- X, Y and D as row 3 lets them pass: D from 1 to 1,024, X and Y up to D times the limit
 pub record SmallPoint (x y d : Int) : Type 0 where
   pub x-small : natAbs (x .v) ≤ maxDenominator * coordinateLimit
   pub y-small : natAbs (y .v) ≤ maxDenominator * coordinateLimit
   pub d-small : natAbs (d .v) ≤ maxDenominator
+  pub d-positive : pos 0 <ℤ d .v

@@ -1,10 +1,11 @@
 // Where lines cross, and how positions and heights compare, exact for every input within the coordinate limit.
-// Orders answer `integer::Ordering`: of positions Less is left, Equal is level, Greater is right; of lines Less is below,
-// Equal is meeting or coinciding, Greater is above.
+// A position answers `Horizontal`: Left, Level or Right of another. Lines answer `integer::Ordering`: Less is below, Equal is meeting or
+// coinciding, Greater is above.
 use geometry::Base;
 use geometry::Coefficients;
 use geometry::Corners;
 use geometry::Crossing;
+use geometry::Horizontal;
 use geometry::Line;
 use geometry::Meeting;
 use geometry::Position;
@@ -16,11 +17,11 @@ ghost use lib.Dec.{T};
 ghost use lib.IntN.{natAbs};
 ghost use Rattle.integer.specs.Integer.{_⊗_};
 ghost use Rattle.integer.specs.Compare.{orderOf};
-ghost use Rattle.integer.specs.Fraction.{before, order};
 ghost use Rattle.geometry.specs.Limit.{coordinateLimit, OnGrid, detBound, numerBound};
 ghost use Rattle.geometry.specs.Positions.{crosses, heights, rightOf, isLess, below};
+ghost use Rattle.geometry.specs.Standing.{across, oneSign, horizontal, isLeft};
 ghost use Rattle.geometry.specs.Points.{under as underOf};
-ghost use Rattle.geometry_code.specs.Code.{CornersOf, CoefficientsOf, SmallMeeting, MeetingOf, fractionOf, SmallPosition, orderRight, CrossingOf, PositionOf, pointOf, SmallPoint};
+ghost use Rattle.geometry_code.specs.Code.{CornersOf, CoefficientsOf, SmallMeeting, MeetingOf, fractionOf, Comparable, SmallPosition, orderRight, RatioOf, CrossingOf, PositionOf, pointOf, SmallPoint};
 
 pub fn corners_of(l: Line) -> Corners
     ensures { λ r. ⌜ CornersOf l r ⌝ }
@@ -61,7 +62,25 @@ pub fn meeting_of(l: Line, m: Line) -> Meeting
     Meeting { det, numer }
 }
 
-// Where two lines cross, for either sign of the determinant.
+// Where two lines cross: their numerator over their determinant, which is of either sign.
+pub fn ratio_of(l: Line, m: Line) -> Crossing
+    requires { ⌜ OnGrid coordinateLimit l × OnGrid coordinateLimit m ⌝ }
+    ensures { λ r. ⌜ RatioOf l m r ⌝ }
+{
+    let k = meeting_of(l, m);
+    let num = k.numer;
+    let den = k.det;
+    let p = Position { num, den };
+    let zero = integer_code::of(0);
+    let o = integer_code::compare(den, zero);
+    match o {
+        Ordering::Less => Crossing::At(p),
+        Ordering::Equal => Crossing::Nowhere,
+        Ordering::Greater => Crossing::At(p),
+    }
+}
+
+// The same with a positive denominator, for a position that is kept or that heights are taken at.
 pub fn crossing_of(l: Line, m: Line) -> Crossing
     requires { ⌜ OnGrid coordinateLimit l × OnGrid coordinateLimit m ⌝ }
     ensures { λ r. ⌜ CrossingOf l m r ⌝ }
@@ -112,12 +131,47 @@ pub fn compare_products(a: Int, b: Int, c: Int, d: Int) -> Ordering
     integer_code::compare(p, q)
 }
 
-// Left, level or right.
-pub fn compare(p: Position, q: Position) -> Ordering
-    requires { ⌜ SmallPosition p × SmallPosition q ⌝ }
-    ensures { λ r. ⌜ r ≡ order (fractionOf p) (fractionOf q) ⌝ }
+// Of two numbers that are not 0.
+fn one_sign(d: Int, e: Int) -> bool
+    ensures { λ r. ⌜ r ≡ oneSign (d .v) (e .v) ⌝ }
 {
-    compare_products(p.num, q.den, q.num, p.den)
+    let zero = integer_code::of(0);
+    if integer_code::less(d, zero) {
+        return integer_code::less(e, zero);
+    }
+    !integer_code::less(e, zero)
+}
+
+// By the order of two products.
+fn reply_of(o: Ordering) -> Horizontal
+    ensures { λ r. ⌜ r ≡ across o ⌝ }
+{
+    match o {
+        Ordering::Less => Horizontal::Left,
+        Ordering::Equal => Horizontal::Level,
+        Ordering::Greater => Horizontal::Right,
+    }
+}
+
+// Left, level or right, for either sign of both denominators, which are not zero. Every comparison of bases and positions is this one.
+pub fn compare(p: Position, q: Position) -> Horizontal
+    requires { ⌜ Comparable p × Comparable q ⌝ }
+    ensures { λ r. ⌜ r ≡ horizontal (fractionOf p) (fractionOf q) ⌝ }
+{
+    if one_sign(p.den, q.den) {
+        return reply_of(compare_products(p.num, q.den, q.num, p.den));
+    }
+    reply_of(compare_products(q.num, p.den, p.num, q.den))
+}
+
+pub fn is_left(h: Horizontal) -> bool
+    ensures { λ r. ⌜ r ≡ isLeft h ⌝ }
+{
+    match h {
+        Horizontal::Left => true,
+        Horizontal::Level => false,
+        Horizontal::Right => false,
+    }
 }
 
 // The heights of two lines at a position.
@@ -152,14 +206,6 @@ pub fn right_order(l: Line, m: Line, x: Position) -> Ordering
 {
     let k = meeting_of(l, m);
     order_right(k, x)
-}
-
-// Whether a position is left of another.
-pub fn is_before(p: Position, q: Position) -> bool
-    requires { ⌜ SmallPosition p × SmallPosition q ⌝ }
-    ensures { λ r. ⌜ r ≡ before (fractionOf p) (fractionOf q) ⌝ }
-{
-    is_less(compare(p, q))
 }
 
 // Whether a line is below another right of a position.

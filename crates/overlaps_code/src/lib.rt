@@ -38,8 +38,8 @@ fn crossing_between(l: Line, m: Line, lo: Position, hi: Position) -> Crossing
     let Crossing::At(p) = c else {
         return Crossing::Nowhere;
     };
-    if geometry_code::is_before(lo, p) {
-        if geometry_code::is_before(p, hi) {
+    if geometry_code::is_left(geometry_code::compare(lo, p)) {
+        if geometry_code::is_left(geometry_code::compare(p, hi)) {
             return Crossing::At(p);
         }
     }
@@ -65,7 +65,7 @@ pub fn overlapping(a: Placed, b: Placed) -> bool
 {
     let lo = trapezoids_code::common_left(a, b);
     let hi = trapezoids_code::common_right(a, b);
-    if geometry_code::is_before(lo, hi) {
+    if geometry_code::is_left(geometry_code::compare(lo, hi)) {
         let s = a.shape;
         let t = b.shape;
         if overlap_right(s, t, lo) {
@@ -151,7 +151,7 @@ fn eligible(started: bool, g: Position, p: Position) -> bool
     ensures { λ r. ⌜ r ≡ rightOrAny started (fractionOf g) (fractionOf p) ⌝ }
 {
     if started {
-        return geometry_code::is_before(g, p);
+        return geometry_code::is_left(geometry_code::compare(g, p));
     }
     true
 }
@@ -194,7 +194,7 @@ pub fn next_event(at: [Position; 8], n: usize, started: bool, g: Position) -> us
                 best = i;
             } else {
                 let b = at[best];
-                if geometry_code::is_before(p, b) {
+                if geometry_code::is_left(geometry_code::compare(p, b)) {
                     best = i;
                 }
             }

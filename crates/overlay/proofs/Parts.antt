@@ -18,7 +18,8 @@ use Rattle.geometry.specs.Positions.{position}
 use Rattle.geometry.specs.Trapezoids.{linesOf}
 use Rattle.geometry.specs.Fitness.{FitFor}
 use Rattle.geometry.proofs.Meet.{proper-crosses}
-use Rattle.geometry.proofs.Fitness.{base-exact, bases-exact}
+use Rattle.geometry.proofs.Fitness.{base-exact}
+use Rattle.geometry.proofs.Standing.{left-of-exact}
 use Rattle.sweep.specs.Segments.{Segment, spans}
 use Rattle.sweep.specs.Columns.{Below}
 use Rattle.sweep.proofs.Column.{groups-below}
@@ -104,7 +105,7 @@ module _ {L : ℕ} {A B : Trapezoid} (ha : FitFor L A) (hb : FitFor L B) where
         lines = lines;
         left = base-exact (p .first) (p .second) (lines .0) (lines .1 .0) .0 cp;
         right = base-exact (q .first) (q .second) (lines .1 .1 .0) (lines .1 .1 .1 .0) .0 cq;
-        bases = bases-exact p q cp cq .0 (c .wide);
+        bases = left-of-exact p q cp cq .0 (c .wide);
         sides = b .between;
       }
 

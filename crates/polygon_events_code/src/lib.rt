@@ -93,8 +93,8 @@ fn is_inside(p: Position, l: Line) -> bool
     ensures { λ r. ⌜ r ≡ inside (fractionOf p) (lineSegment l) ⌝ }
 {
     let s = span_of(l);
-    if geometry_code::is_before(s.from, p) {
-        return geometry_code::is_before(p, s.to);
+    if geometry_code::is_left(geometry_code::compare(s.from, p)) {
+        return geometry_code::is_left(geometry_code::compare(p, s.to));
     }
     false
 }
@@ -105,10 +105,10 @@ pub fn is_spanning(p: Position, l: Line) -> bool
     ensures { λ r. ⌜ r ≡ spans (fractionOf p) (lineSegment l) ⌝ }
 {
     let s = span_of(l);
-    if geometry_code::is_before(p, s.from) {
+    if geometry_code::is_left(geometry_code::compare(p, s.from)) {
         return false;
     }
-    geometry_code::is_before(p, s.to)
+    geometry_code::is_left(geometry_code::compare(p, s.to))
 }
 
 // Where two lines cross strictly inside both spans; `Nowhere` if they do not.

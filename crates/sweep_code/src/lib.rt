@@ -1,5 +1,6 @@
 // Events, and the next one in the order of positions.
 use geometry::Base;
+use geometry::Horizontal;
 use geometry::Position;
 use sweep::Event;
 use sweep::Next;
@@ -18,10 +19,16 @@ pub fn better(best: Next, started: bool, g: Event, e: Event) -> Next
     ensures { λ r. ⌜ Better best (after started g) e r ⌝ }
 {
     if started {
-        if geometry_code::is_before(g.at, e.at) {
-            return sooner(best, e);
+        let h = geometry_code::compare(g.at, e.at);
+        match h {
+            Horizontal::Left => {}
+            Horizontal::Level => {
+                return best;
+            }
+            Horizontal::Right => {
+                return best;
+            }
         }
-        return best;
     }
     sooner(best, e)
 }
@@ -33,8 +40,10 @@ fn sooner(best: Next, e: Event) -> Next
     let Next::Found(b) = best else {
         return Next::Found(e);
     };
-    if geometry_code::is_before(e.at, b.at) {
-        return Next::Found(e);
+    let h = geometry_code::compare(e.at, b.at);
+    match h {
+        Horizontal::Left => Next::Found(e),
+        Horizontal::Level => best,
+        Horizontal::Right => best,
     }
-    best
 }

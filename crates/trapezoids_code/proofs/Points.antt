@@ -1,37 +1,19 @@
 -- The point test, branch by branch as the function takes it.
-use mathlib.Core.Path.{_≡_, refl}
-use mathlib.Core.Bool.{Bool, true, false, not}
-use lib.Dec.{T}
-use lib.Signed.{ltZ}
-use Rattle.integer.specs.Integer.{_⊗_}
-use Rattle.integer.specs.Compare.{orderBy, orderOf}
-use Rattle.integer.specs.Fraction.{Fraction, before, order}
-use Rattle.integer.proofs.Fraction.{before→at-most}
+use mathlib.Core.Path.{_≡_}
+use mathlib.Core.Bool.{true, false}
+use native.Mathlib.Omega.{arith}
+use Rattle.integer.specs.declared.Int.{Int}
+use Rattle.integer.specs.Fraction.{before}
 use Rattle.geometry.specs.declared.Trapezoid.{Trapezoid}
 use Rattle.geometry.specs.Positions.{crosses, position}
 use Rattle.geometry.specs.Points.{Point, at, under}
 use Rattle.geometry.specs.Trapezoids.{liesIn}
-use Rattle.geometry_code.specs.Code.{precedesBy}
+use Rattle.geometry_code.specs.Code.{SmallPosition, SmallPoint}
+use Rattle.geometry_code.proofs.Branches.{small-position}
 
--- and the answers of `precedes`
-pub strictly : (p q : Fraction) → precedesBy false (order p q) ≡ before p q
-unfolding order before orderOf
-strictly p q = go (ltZ (p .num ⊗ q .den) (q .num ⊗ p .den)) (ltZ (q .num ⊗ p .den) (p .num ⊗ q .den))
-  where
-    go : (s t : Bool) → precedesBy false (orderBy s t) ≡ s
-    go true t = refl
-    go false true = refl
-    go false false = refl
-
-pub weakly : (p q : Fraction) → precedesBy true (order p q) ≡ not (before q p)
-unfolding order before orderOf
-weakly p q = go (before p q) (before q p) (before→at-most p q)
-  where
-    go : (s t : Bool) → (T s → T (not t)) → precedesBy true (orderBy s t) ≡ not t
-    go true true h = absurd (h tt)
-    go true false h = refl
-    go false true h = refl
-    go false false h = refl
+-- the position of a point
+pub point-small : {x y d : Int} → SmallPoint x y d → SmallPosition (record { num = x; den = d })
+point-small h = small-position (omega (arith, h .x-small)) (omega (arith, h .d-small)) (h .d-positive)
 
 -- ---- the point test
 module _ (P : Point) (t : Trapezoid) where
@@ -45,11 +27,11 @@ module _ (P : Point) (t : Trapezoid) where
     point-right h = rw (hl, h)
 
     module _ (hr : crosses (t .right .first) (t .right .second) ≡ true) where
-      pub point-before : not (before (at P) (position (t .left))) ≡ false → false ≡ liesIn P t
+      pub point-before : before (at P) (position (t .left)) ≡ true → false ≡ liesIn P t
       unfolding liesIn
       point-before h = rw (hl, hr, h)
 
-      module _ (from : not (before (at P) (position (t .left))) ≡ true) where
+      module _ (from : before (at P) (position (t .left)) ≡ false) where
         pub point-after : before (at P) (position (t .right)) ≡ false → false ≡ liesIn P t
         unfolding liesIn
         point-after h = rw (hl, hr, from, h)

@@ -3,12 +3,12 @@
 use geometry::Base;
 use geometry::Crossing;
 use geometry::Fill;
+use geometry::Horizontal;
 use geometry::Line;
 use geometry::Placed;
 use geometry::Position;
 use geometry::Trapezoid;
 use integer::Int;
-use integer::Ordering;
 ghost use mathlib.Core.Path.{_≡_};
 ghost use mathlib.Core.List.{_++_, [], _∷_};
 ghost use Prim.Native.Nat.{_<_, _+_, _*_, _≤_};
@@ -20,7 +20,7 @@ ghost use Rattle.records.specs.Records.{recordAt, count};
 ghost use Rattle.geometry.specs.Limit.{coordinateLimit, OnGrid};
 ghost use Rattle.geometry.specs.Fitness.{FitFor};
 ghost use Rattle.geometry.specs.Trapezoids.{trapezoidCodec, layerOf, linesOf, lineAt, lineWords, trapezoidWords, liesIn};
-ghost use Rattle.geometry_code.specs.Code.{precedesBy, pointOf, SmallPoint};
+ghost use Rattle.geometry_code.specs.Code.{pointOf, SmallPoint};
 ghost use Rattle.trapezoids_code.specs.Placed.{PlacedAs, CommonLeft, CommonRight, Pair};
 ghost use Rattle.trapezoids_code.specs.Tails.{inFront, Borrowed, FilledAs};
 
@@ -127,7 +127,12 @@ pub fn common_left(a: Placed, b: Placed) -> Position
 {
     let p = a.left;
     let q = b.left;
-    if geometry_code::is_before(p, q) { q } else { p }
+    let h = geometry_code::compare(p, q);
+    match h {
+        Horizontal::Left => q,
+        Horizontal::Level => p,
+        Horizontal::Right => p,
+    }
 }
 
 // The lefter of the right bases.
@@ -137,7 +142,12 @@ pub fn common_right(a: Placed, b: Placed) -> Position
 {
     let p = a.right;
     let q = b.right;
-    if geometry_code::is_before(p, q) { p } else { q }
+    let h = geometry_code::compare(p, q);
+    match h {
+        Horizontal::Left => p,
+        Horizontal::Level => q,
+        Horizontal::Right => q,
+    }
 }
 
 pub fn put(t: Trapezoid, out: &mut [i32], room: usize) -> Fill
@@ -161,17 +171,6 @@ pub fn put_if(yes: bool, t: Trapezoid, out: &mut [i32], room: usize) -> Fill
     Fill::Written(0)
 }
 
-// Whether the first of two compared is less, or less or equal.
-fn precedes(o: Ordering, level: bool) -> bool
-    ensures { λ r. ⌜ r ≡ precedesBy level o ⌝ }
-{
-    match o {
-        Ordering::Less => true,
-        Ordering::Equal => level,
-        Ordering::Greater => false,
-    }
-}
-
 // Whether the point (x/d, y/d) lies in a trapezoid.
 pub fn contains(t: Trapezoid, x: Int, y: Int, d: Int) -> bool
     requires { ⌜ All (OnGrid coordinateLimit) (linesOf t) × SmallPoint x y d ⌝ }
@@ -181,23 +180,24 @@ pub fn contains(t: Trapezoid, x: Int, y: Int, d: Int) -> bool
     let right = t.right;
     let bottom = t.bottom;
     let top = t.top;
-    let a = geometry_code::crossing_of(left.first, left.second);
+    let a = geometry_code::ratio_of(left.first, left.second);
     let Crossing::At(p) = a else {
         return false;
     };
-    let b = geometry_code::crossing_of(right.first, right.second);
+    let b = geometry_code::ratio_of(right.first, right.second);
     let Crossing::At(q) = b else {
         return false;
     };
     let here = Position { num: x, den: d };
-    if precedes(geometry_code::compare(p, here), true) {
-        if precedes(geometry_code::compare(here, q), false) {
-            if geometry_code::under(bottom, x, y, d) {
-                if geometry_code::under(top, x, y, d) {
-                    return false;
-                }
-                return true;
+    if geometry_code::is_left(geometry_code::compare(here, p)) {
+        return false;
+    }
+    if geometry_code::is_left(geometry_code::compare(here, q)) {
+        if geometry_code::under(bottom, x, y, d) {
+            if geometry_code::under(top, x, y, d) {
+                return false;
             }
+            return true;
         }
     }
     false

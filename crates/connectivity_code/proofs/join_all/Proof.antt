@@ -64,6 +64,11 @@ join-earlier-requires c κs =
     let h = at-loop .before .before .pre .0 in
     ((record { fit = h .fit; one-each = at-loop .loop .inv .0 .long ∙ h .one-each }, fewer-boxes (filled at-set-box .first)), (at-loop-test .loop-test .taken, at-placed-at .placed-at .ensures, box-is at-box-of))
 
+add-i : tie.Need-add-i Inv-loop μ-loop
+add-i c =
+    let at-loop-test = c .before .before .before .before .before .before .before .before .before .before in
+    omega (arith, at-loop-test .loop-test .taken, at-loop-test .before .before .before .good .0)
+
 loop-again : tie.Need-loop-again Inv-loop μ-loop
 loop-again c =
     let at-join-earlier = c .before .before in
@@ -93,7 +98,7 @@ join-all-spec =
     box-of-requires
     set-box-requires
     join-earlier-requires
-    (λ c. search needs)
+    add-i
     (λ c. search needs)
     loop-again
     same-length

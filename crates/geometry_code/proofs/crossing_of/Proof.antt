@@ -1,15 +1,16 @@
-use mathlib.Core.Path.{sym, _∙_, ap}
+use mathlib.Core.Path.{sym, _∙_, ap, subst}
 use native.Mathlib.Omega.{arith}
 use lib.Dec.{not-T}
-use lib.IntN.{pos}
+use lib.IntN.{ℤ, pos}
 use lib.Signed.{_<ℤ_}
 use Rattle.integer.specs.Integer.{⊝_}
-use Rattle.integer.proofs.Linear.{zarith}
+use Rattle.integer.proofs.Linear.{zarith, neg-gt}
 use Rattle.integer.proofs.Tests.{lt-yes, lt-no}
 use Rattle.integer.proofs.Order.{antisymm}
 use Rattle.geometry.specs.Lines.{det}
 use Rattle.geometry.specs.Positions.{crosses}
 use Rattle.geometry.proofs.Meet.{crosses→det, det→crosses, meet-rising, meet-falling}
+use Rattle.geometry_code.proofs.Branches.{small-position}
 use Rattle.geometry_code.proofs.crossing_of.Statement.{statement}
 use Rattle.geometry_code.proofs.crossing_of.Tie as tie
 
@@ -31,7 +32,7 @@ returns c =
     let h : pos 0 <ℤ det (s .l) (s .m) = lt-yes (pos 0) (det (s .l) (s .m)) (cc) in (
       det→crosses (s .l) (s .m) (λ e. omega (zarith, e)),
       (λ j. record { num = k .numer j; den = k .det j }) ∙ sym (meet-rising (s .l) (s .m) h),
-      record { num-small = k .small .numer-small; den-small = k .small .det-small },
+      small-position (k .small .numer-small) (k .small .det-small) (subst (λ (z : ℤ). pos 0 <ℤ z) (sym (k .det)) h),
     )
 
 less-requires-2 : tie.Need-less-requires-2
@@ -56,7 +57,7 @@ returns-2 c =
     let d = c .neg2 .ensures .0 ∙ ap ⊝_ (k .det) in (
       det→crosses (s .l) (s .m) (λ e. omega (zarith, e)),
       (λ j. record { num = n j; den = d j }) ∙ sym (meet-falling (s .l) (s .m) h),
-      record { num-small = omega (arith, c .before .neg .ensures .1, k .small .numer-small); den-small = omega (arith, c .neg2 .ensures .1, k .small .det-small) },
+      small-position (omega (arith, c .before .neg .ensures .1, k .small .numer-small)) (omega (arith, c .neg2 .ensures .1, k .small .det-small)) (neg-gt d h),
     )
 
 returns-3 : tie.Need-returns-3

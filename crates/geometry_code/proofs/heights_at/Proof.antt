@@ -10,7 +10,7 @@ compare-products-requires : tie.Need-compare-products-requires
 compare-products-requires c κs =
     let k = c .meeting-of .ensures .small in
     let x = c .before .pre .2 in
-    ((x .num-small, k .det-small), (k .numer-small, x .den-small))
+    ((x .comparable .num-small, k .det-small), (k .numer-small, x .comparable .den-small))
 
 returns : tie.Need-returns
 unfolding heights

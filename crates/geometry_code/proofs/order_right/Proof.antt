@@ -11,7 +11,7 @@ compare-products-requires : tie.Need-compare-products-requires
 compare-products-requires c κs =
     let k = c .pre .0 in
     let x = c .pre .1 in
-    ((x .num-small, k .det-small), (k .numer-small, x .den-small))
+    ((x .comparable .num-small, k .det-small), (k .numer-small, x .comparable .den-small))
 
 of-requires : tie.Need-of-requires
 of-requires c κs = tt

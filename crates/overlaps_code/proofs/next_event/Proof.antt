@@ -7,6 +7,7 @@ use borrow.Author.Needs.{needs}
 use Rattle.sweep.specs.declared.Event.{Event}
 use Rattle.overlay.specs.declared.EventList.{EventList}
 use Rattle.geometry_code.specs.Code.{SmallPosition}
+use Rattle.geometry_code.proofs.Branches.{answers-left}
 use Rattle.sweep_code.specs.Events.{after}
 use Rattle.overlaps_code.specs.Code.{StandAt}
 use Rattle.overlaps_code.proofs.NextEvent.{Looking, look-first, small-here, small-best, look-on, look-new, look-better, look-same, look-stop}
@@ -50,8 +51,8 @@ array-copy-out-b c =
     let at-loop = c .before .before .before .before .before in
     omega (arith, at-loop .loop .inv _ _ (at-loop .before .pre .stand) .upto, c .if2 .left)
 
-is-before-requires : tie.Need-is-before-requires Inv-loop μ-loop
-is-before-requires c κs =
+compare-requires : tie.Need-compare-requires Inv-loop μ-loop
+compare-requires c κs =
     let at-if2 = c .before in
     let at-loop-test = at-if2 .before .before .before .before in
     let at-loop = at-loop-test .before in
@@ -59,7 +60,7 @@ is-before-requires c κs =
     let s = at-start .pre .stand in
     let b = at-start .args .started in
     let h = at-loop .loop .inv _ _ s in
-    (small-here s b h _ (at-loop-test .loop-test .taken), small-best s b h _ (omega (arith, h .upto, at-if2 .if2 .left)))
+    (small-here s b h _ (at-loop-test .loop-test .taken) .comparable, small-best s b h _ (omega (arith, h .upto, at-if2 .if2 .left)) .comparable)
 
 loop-again : tie.Need-loop-again Inv-loop μ-loop
 loop-again c v e s =
@@ -73,9 +74,11 @@ loop-again c v e s =
     ⊎-elim
     (λ w. rw (w .2) (look-new s b h _ l (t ∙ w .0 .taken) (w .1 .taken)))
     (⊎-elim
-    (λ w. rw (w .5) (look-better s b h _ l (t ∙ w .0 .taken) _ (omega (arith, h .upto, w .1 .left)) (sym (w .3 .ensures) ∙ w .4 .taken)))
+    (λ w.
+    rw (w .6) (look-better s b h _ l (t ∙ w .0 .taken) _ (omega (arith, h .upto, w .1 .left)) (answers-left (small-here s b h _ l) (small-best s b h _ (omega (arith, h .upto, w .1 .left))) (w .3 .ensures) ∙ sym (w .4 .ensures) ∙ w .5 .taken)))
     (⊎-elim
-    (λ w. rw (w .5) (look-same s b h _ l (t ∙ w .0 .taken) _ (omega (arith, h .upto, w .1 .left)) (sym (w .3 .ensures) ∙ w .4 .left)))
+    (λ w.
+    rw (w .6) (look-same s b h _ l (t ∙ w .0 .taken) _ (omega (arith, h .upto, w .1 .left)) (answers-left (small-here s b h _ l) (small-best s b h _ (omega (arith, h .upto, w .1 .left))) (w .3 .ensures) ∙ sym (w .4 .ensures) ∙ w .5 .left)))
     (λ w. rw (w .1) (look-on s b h _ l (t ∙ w .0 .left)))))
     (c .if1 .came)
 
@@ -98,7 +101,8 @@ next-event-spec =
     eligible-requires
     mul-b
     array-copy-out-b
-    is-before-requires
+    compare-requires
+    (λ c κs. search needs)
     (λ c. search needs)
     (λ c. search needs)
     loop-again
