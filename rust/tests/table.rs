@@ -4,9 +4,12 @@
 mod reference;
 mod support;
 
-use loxurfa::{combine, contains, deoverlap, equal, Code, Done, Equality, Refusal};
+use loxurfa::{
+    combine, contains, contains_by_number, deoverlap, equal, Code, Done, Equality, Refusal,
+};
 use reference::{read_layer, WORDS};
 use support::outputs::combined;
+use support::programs::file;
 use support::rectangle;
 
 const NO_SPACE: Refusal = Refusal {
@@ -97,6 +100,35 @@ fn f_points_of_q() {
     // The right base is left out, the left one and the bottom are not.
     assert_eq!(contains(4, 0, 1, &q(), &[], Code::Union), Ok(false));
     assert_eq!(contains(0, 0, 1, &q(), &[], Code::Union), Ok(true));
+}
+
+/// The table of the point question reads, with the names that stand beside it, as `contains` answers.
+#[test]
+fn f_printed_answers() {
+    let text = String::from_utf8(file("crates/point_code/src/lib.rt")).expect("text");
+    let (_, rest) = text.split_once("const ANSWERS: ").expect("the table");
+    let (printed, _) = rest.split_once("\n];\n").expect("its end");
+    let mut read = vec![
+        "[[bool; 4]; 5] = [".to_string(),
+        "// in neither, in A only, in B only, in both".to_string(),
+    ];
+    let points = [(7, 7), (1, 1), (5, 5), (3, 3)];
+    let names = [
+        "union",
+        "intersection",
+        "A - B",
+        "B - A",
+        "symmetric difference",
+    ];
+    for (code, name) in (0..).zip(names) {
+        let answers = points.map(|(x, y)| {
+            let answer = contains_by_number(x, y, 1, &q(), &r(), code);
+            answer.expect("no refusal").to_string()
+        });
+        read.push(format!("[{}], // code {code}, {name}", answers.join(", ")));
+    }
+    let printed: Vec<&str> = printed.lines().map(str::trim).collect();
+    assert_eq!(printed, read);
 }
 
 #[test]

@@ -9,4 +9,5 @@ pub mod Merged
 pub mod Contracts
 pub mod Same
 pub mod Chains
+pub mod Memberships
 mod Examples

@@ -1,44 +1,32 @@
 // The point question: whether a point lies in the result of a set operation on two layers, by the layers alone.
 use integer::Int;
 ghost use mathlib.Core.Path.{_≡_};
-ghost use mathlib.Core.Bool.{not, _&&_, _||_};
 ghost use Prim.Native.Nat.{_<_};
+ghost use lib.ListN.{length};
 ghost use Rattle.lists.specs.Lists.{All};
 ghost use Rattle.geometry.specs.Limit.{coordinateLimit};
 ghost use Rattle.geometry.specs.Points.{IsPoint};
 ghost use Rattle.geometry.specs.Fitness.{FitFor, FitLayer};
 ghost use Rattle.geometry.specs.Trapezoids.{layerOf, liesInLayer};
 ghost use Rattle.boolean.specs.Operations.{codeAt, result, says as saysOf};
+ghost use Rattle.chains.specs.Memberships.{memberships, membershipAt, IsTable};
 ghost use Rattle.geometry_code.specs.Code.{pointOf, SmallPoint};
 
-fn either(a: bool, b: bool) -> bool
-    ensures { λ r. ⌜ r ≡ a || b ⌝ }
-{
-    if a {
-        return true;
-    }
-    b
-}
+// Whether a point lies in the result of a set operation on the layers A and B: a row for each code, a column for each membership of the point.
+const ANSWERS: [[bool; 4]; 5] = [
+    // in neither, in A only, in B only, in both
+    [false, true, true, true], // code 0, union
+    [false, false, false, true], // code 1, intersection
+    [false, true, false, false], // code 2, A - B
+    [false, false, true, false], // code 3, B - A
+    [false, true, true, false], // code 4, symmetric difference
+];
 
-fn both(a: bool, b: bool) -> bool
-    ensures { λ r. ⌜ r ≡ a && b ⌝ }
+// The table, and what holds of it: a contract cannot name a constant.
+fn answers() -> [[bool; 4]; 5]
+    ensures { λ r. ⌜ IsTable r ⌝ }
 {
-    if a {
-        return b;
-    }
-    false
-}
-
-fn but_not(a: bool, b: bool) -> bool
-    ensures { λ r. ⌜ r ≡ a && not b ⌝ }
-{
-    if a {
-        if b {
-            return false;
-        }
-        return true;
-    }
-    false
+    ANSWERS
 }
 
 // Whether the point (x/d, y/d) lies in a layer.
@@ -58,26 +46,31 @@ fn lies_in(layer: &[i32], x: Int, y: Int, d: Int) -> bool
     false
 }
 
+// The column of the table for a point, by whether it lies in the first layer and in the second.
+fn column_of(first: bool, second: bool) -> usize
+    ensures { λ r. ⌜ (r < length memberships) × (membershipAt r ≡ record { first = first; second = second }) ⌝ }
+{
+    if first {
+        if second {
+            return 3;
+        }
+        return 1;
+    }
+    if second {
+        return 2;
+    }
+    0
+}
+
 // Whether a point lies in the result with this code, by whether it lies in the first layer and in the second.
 fn says(code: u32, first: bool, second: bool) -> bool
     requires { ⌜ code < 5 ⌝ }
     ensures { λ r. ⌜ r ≡ saysOf (codeAt code) first second ⌝ }
 {
-    if code == 0 {
-        return either(first, second);
-    }
-    if code == 1 {
-        return both(first, second);
-    }
-    if code == 2 {
-        return but_not(first, second);
-    }
-    if code == 3 {
-        return but_not(second, first);
-    }
-    let a = but_not(first, second);
-    let b = but_not(second, first);
-    either(a, b)
+    let answers = answers();
+    let row = code as usize;
+    let column = column_of(first, second);
+    answers[row][column]
 }
 
 // Whether the point (x/d, y/d) lies in the result of the set operation with this code on two layers.
