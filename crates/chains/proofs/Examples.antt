@@ -2,7 +2,7 @@
 use mathlib.Core.Path.{_≡_, refl}
 use mathlib.Core.Bool.{Bool, true, false}
 use mathlib.Core.List.{List, [], _∷_, _++_, map}
-use Prim.Native.Nat.{ℕ, _<_}
+use Prim.Native.Nat.{ℕ, _*_, _<_}
 use native.Mathlib.Omega.{arith}
 use lib.ListN.{length}
 use lib.IntN.{ℤ}
@@ -26,7 +26,7 @@ use Rattle.sweep.specs.Segments.{spans}
 use Rattle.sweep.specs.Sweep.{columns, sweep}
 use Rattle.overlay.specs.Overlaps.{crossesInCommon, overlapRight, overlapFrom, overlaps}
 use Rattle.overlay.specs.Overlay.{sides, sideCrossings, overlayEvents, fills, tagAbove, stack, parts, subdivision, overlay, tagged}
-use Rattle.boolean.specs.Operations.{minus, minusAll, difference, common, intersection}
+use Rattle.boolean.specs.Operations.{minus, minusAll, difference, common, intersection, codes}
 use Rattle.boolean.specs.Space.{minusStages, minusAllStages, differenceStages, commonStages, intersectionStages, space}
 use Rattle.calls.specs.declared.Combined.{Combined}
 use Rattle.calls.specs.declared.Combined.the-variants.{Refused, Done}
@@ -34,6 +34,7 @@ use Rattle.calls.specs.Rows.{plateLimit, combineChecked}
 use Rattle.calls.specs.Outcomes.{combined}
 use Rattle.calls.specs.Table.{line, baseAt, layer, q, r, lent, cleared}
 use Rattle.chains.specs.Chains.{Layer, Step, outcomeOf, called, run, limits, Call, stepsOf, held, Contracts, Told, told, evaluate, merged}
+use Rattle.chains.specs.Memberships.{Membership, memberships, membershipAt}
 
 -- layers 0 and 1 are Q and R
 abbrev start : List Layer
@@ -148,3 +149,11 @@ numbered = refl
 evaluated : evaluate (true ∷ false ∷ []) tells ≡ true ∷ false ∷ true ∷ false ∷ true ∷ []
 unfolding evaluate
 evaluated = refl
+
+-- ---- the table of the point question
+abbrev lying : Bool → Bool → Membership
+lying a b = record { first = a; second = b }
+
+-- in neither, in A only, in B only, in both; "five codes by four memberships", "twenty entries"
+columns-in-order : (map membershipAt (0 ∷ 1 ∷ 2 ∷ 3 ∷ []) ≡ lying false false ∷ lying true false ∷ lying false true ∷ lying true true ∷ []) × (length codes * length memberships ≡ 20)
+columns-in-order = (refl, refl)
