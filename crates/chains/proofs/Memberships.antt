@@ -12,7 +12,7 @@ use lib.ListN.{length, getD}
 use Rattle.lists.proofs.Tests.{true-is}
 use Rattle.boolean.specs.Operations.{codes}
 use Rattle.chains.specs.Chains.{Told, evaluate}
-use Rattle.chains.specs.Memberships.{memberships, membershipAt, tableEntry, Adds, saysFor, allBelow, isEntry, AddsExact, TableExact}
+use Rattle.chains.specs.Memberships.{memberships, membershipAt, tableEntry, Adds, saysFor, allBelow, isEntry, AddsExact, AnswerTableExact}
 
 -- ---- what the evaluation adds
 -- the evaluation of one success with this code, of the numbers 0 and 1
@@ -27,11 +27,11 @@ adds-exact code m entry = (
 )
 
 -- ---- the test
-same-exact : (a b : Bool) → T (Bool·beq a b) ↔ (a ≡ b)
-same-exact true true = ((λ t. refl), (λ e. tt))
-same-exact false false = ((λ t. refl), (λ e. tt))
-same-exact true false = ((λ t. absurd t), (λ e. subst T e tt))
-same-exact false true = ((λ t. absurd t), (λ e. subst T (sym e) tt))
+beq-exact : (a b : Bool) → T (Bool·beq a b) ↔ (a ≡ b)
+beq-exact true true = ((λ t. refl), (λ e. tt))
+beq-exact false false = ((λ t. refl), (λ e. tt))
+beq-exact true false = ((λ t. absurd t), (λ e. subst T e tt))
+beq-exact false true = ((λ t. absurd t), (λ e. subst T (sym e) tt))
 
 below-exact : (n : ℕ) (f : ℕ → Bool) → T (allBelow n f) ↔ ((i : ℕ) → i < n → T (f i))
 below-exact zero f = ((λ t i l. absurd (not-suc-le-zero l)), (λ h. tt))
@@ -46,12 +46,12 @@ below-exact (suc n) f = (
 
 entry-exact : (rows : List (List Bool)) (code column : ℕ) → T (isEntry rows code column) ↔ Adds code (membershipAt column) (tableEntry rows code column)
 entry-exact rows code column =
-    let s = same-exact (tableEntry rows code column) (saysFor code (membershipAt column)) in
+    let s = beq-exact (tableEntry rows code column) (saysFor code (membershipAt column)) in
     let a = adds-exact code (membershipAt column) (tableEntry rows code column) in
     ((λ t. a .1 (s .0 t)), (λ h. s .1 (a .0 h)))
 
-pub table-exact : TableExact
-table-exact rows =
+pub answer-table-exact : AnswerTableExact
+answer-table-exact rows =
     let h = below-exact (length codes) (λ code. allBelow (length memberships) (isEntry rows code)) in (
       (λ t. record { adds = λ code column l k. entry-exact rows code column .0 (below-exact (length memberships) (isEntry rows code) .0 (h .0 t code l) column k) }),
       (λ a. h .1 (λ code l. below-exact (length memberships) (isEntry rows code) .1 (λ column k. entry-exact rows code column .1 (a .adds code column l k)))),

@@ -34,7 +34,7 @@ Adds code m entry =
     → evaluate entries (t ∷ []) ≡ entries ++ (entry ∷ [])
 
 -- "each of its twenty entries is the one the tally would add"
-pub record IsTable (rows : List (List Bool)) : Type 0 where
+pub record IsAnswerTable (rows : List (List Bool)) : Type 0 where
   pub adds : (code column : ℕ) → code < length codes → column < length memberships → Adds code (membershipAt column) (tableEntry rows code column)
 
 -- ---- the test
@@ -50,8 +50,8 @@ allBelow (suc n) f = f 0 && allBelow n (λ i. f (suc i))
 abbrev pub isEntry : List (List Bool) → ℕ → ℕ → Bool
 isEntry rows code column = Bool·beq (tableEntry rows code column) (saysFor code (membershipAt column))
 
-abbrev pub isTable : List (List Bool) → Bool
-isTable rows = allBelow (length codes) (λ code. allBelow (length memberships) (isEntry rows code))
+abbrev pub isAnswerTable : List (List Bool) → Bool
+isAnswerTable rows = allBelow (length codes) (λ code. allBelow (length memberships) (isEntry rows code))
 
 -- ---- what is proved, each under its name in lower case in proofs/Memberships.antt
 -- the evaluation adds an entry exactly if the set words say it
@@ -59,5 +59,5 @@ abbrev pub AddsExact : Type 0
 AddsExact = (code : ℕ) (m : Membership) (entry : Bool) → Adds code m entry ↔ (entry ≡ saysFor code m)
 
 -- the test over the whole table tells of each entry
-abbrev pub TableExact : Type 0
-TableExact = (rows : List (List Bool)) → T (isTable rows) ↔ IsTable rows
+abbrev pub AnswerTableExact : Type 0
+AnswerTableExact = (rows : List (List Bool)) → T (isAnswerTable rows) ↔ IsAnswerTable rows

@@ -9,7 +9,7 @@ ghost use Rattle.geometry.specs.Points.{IsPoint};
 ghost use Rattle.geometry.specs.Fitness.{FitFor, FitLayer};
 ghost use Rattle.geometry.specs.Trapezoids.{layerOf, liesInLayer};
 ghost use Rattle.boolean.specs.Operations.{codeAt, result, says as saysOf};
-ghost use Rattle.chains.specs.Memberships.{memberships, membershipAt, IsTable};
+ghost use Rattle.chains.specs.Memberships.{memberships, membershipAt, IsAnswerTable};
 ghost use Rattle.geometry_code.specs.Code.{pointOf, SmallPoint};
 
 // Whether a point lies in the result of a set operation on the layers A and B: a row for each code, a column for each membership of the point.
@@ -24,7 +24,7 @@ const ANSWERS: [[bool; 4]; 5] = [
 
 // The table, and what holds of it: a contract cannot name a constant.
 fn answers() -> [[bool; 4]; 5]
-    ensures { λ r. ⌜ IsTable r ⌝ }
+    ensures { λ r. ⌜ IsAnswerTable r ⌝ }
 {
     ANSWERS
 }
