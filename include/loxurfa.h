@@ -81,9 +81,15 @@ static inline uint32_t loxurfa_value(uint64_t answer) { return (uint32_t)(answer
 static inline uint32_t loxurfa_overlays(uint64_t answer) { return (uint32_t)(answer & 0xffffffff); }
 
 /* The trapezoids of the polygons of a polygon file (docs/FORMATS.md), one polygon after the other: the points with a winding
- * number other than 0. Value: the trapezoids written. */
+ * number other than 0. The file is of the new edition, in which a polygon's length may be left out; so files of the first edition
+ * are taken too. Value: the trapezoids written. */
 uint64_t loxurfa_fracture(const uint8_t *file, size_t file_bytes, int32_t *out, size_t out_words,
                           int32_t *scratch, size_t scratch_words);
+
+/* The same by the reader of the first edition, in which every length is there: a length 0 is refused with LOXURFA_REFUSED_PAIR. Of a
+ * file with every length there both readers answer and write the same. */
+uint64_t loxurfa_fracture_first_edition(const uint8_t *file, size_t file_bytes, int32_t *out, size_t out_words,
+                                        int32_t *scratch, size_t scratch_words);
 
 /* The set operation with this code on a and b. Value: the trapezoids written. Overlays: those made. */
 uint64_t loxurfa_combine(uint32_t code, const int32_t *a, size_t a_words, const int32_t *b, size_t b_words,
@@ -134,6 +140,15 @@ static inline uint64_t loxurfa_call_fracture(const uint8_t *file, size_t file_by
     int32_t word = 0;
     return loxurfa_fracture(file_bytes ? file : &byte, file_bytes, out_words ? out : &word, out_words,
                             scratch_words ? scratch : &word, scratch_words);
+}
+
+static inline uint64_t loxurfa_call_fracture_first_edition(const uint8_t *file, size_t file_bytes, int32_t *out,
+                                                           size_t out_words, int32_t *scratch, size_t scratch_words)
+{
+    uint8_t byte = 0;
+    int32_t word = 0;
+    return loxurfa_fracture_first_edition(file_bytes ? file : &byte, file_bytes, out_words ? out : &word, out_words,
+                                          scratch_words ? scratch : &word, scratch_words);
 }
 
 static inline uint64_t loxurfa_call_combine(uint32_t code, const int32_t *a, size_t a_words, const int32_t *b, size_t b_words,
@@ -201,6 +216,7 @@ static inline uint64_t loxurfa_call_write_layers(const int32_t *words, size_t wo
 }
 
 #define loxurfa_fracture loxurfa_call_fracture
+#define loxurfa_fracture_first_edition loxurfa_call_fracture_first_edition
 #define loxurfa_combine loxurfa_call_combine
 #define loxurfa_deoverlap loxurfa_call_deoverlap
 #define loxurfa_equal loxurfa_call_equal

@@ -12,7 +12,18 @@ pub const MIN_VERTICES: usize = 3;
 pub const MAX_VERTICES: usize = 32;
 
 /// Writes the trapezoids of the polygons of a polygon file into `out`, polygon by polygon. Those of
-/// one polygon are disjoint and hold the points whose winding number isn't 0.
+/// one polygon are disjoint and hold the points whose winding number isn't 0. The file is of the new
+/// edition, in which length 0 stands for the vertices up to the next offset, or up to the end; a file of the
+/// first edition is one of the new edition too.
 pub fn fracture(file: &[u8], out: &mut [i32], scratch: &mut [i32]) -> Result<Done, Refusal> {
     done(raw::fracture(file, out, scratch))
+}
+
+/// [`fracture`] of a file of the first edition: a length 0 is refused with 6.
+pub fn fracture_first_edition(
+    file: &[u8],
+    out: &mut [i32],
+    scratch: &mut [i32],
+) -> Result<Done, Refusal> {
+    done(raw::fracture_first_edition(file, out, scratch))
 }

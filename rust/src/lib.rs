@@ -22,7 +22,8 @@ mod transistors;
 pub use components::components;
 pub use files::{decode_layers, encode_layers, read_layers, write_layers};
 pub use files::{MAX_LAYERS, MAX_LAYER_FILE_WORDS};
-pub use fracture::{fracture, MAX_POLYGONS, MAX_VERTICES, MIN_VERTICES};
+pub use fracture::{fracture, fracture_first_edition};
+pub use fracture::{MAX_POLYGONS, MAX_VERTICES, MIN_VERTICES};
 pub use transistors::{transistors, Transistors, Triple, TRIPLE_WORDS};
 
 /// Words in one trapezoid.
@@ -227,7 +228,7 @@ pub mod raw {
 
     pub use components::components;
     pub use files::{read_layers, write_layers};
-    pub use fracture::fracture;
+    pub use fracture::{fracture, fracture_first_edition};
     pub use transistors::transistors;
 
     mod c {

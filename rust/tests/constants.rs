@@ -48,13 +48,14 @@ fn defined(path: &str, name: &str) -> i64 {
 const LIMITS: &str = "crates/records/specs/Limits.antt";
 const FORMATS: &str = "crates/files/specs/Formats.antt";
 
-/// The fields of a format, by name.
+/// The numbers of a format, by name; its last field says whether lengths are left out.
 fn format(name: &str) -> BTreeMap<String, i64> {
     let text = text(FORMATS);
     let start = format!("\n{name} = record {{ ");
     let (_, rest) = text.split_once(&start).expect("the format");
     let (fields, _) = rest.split_once(" }").expect("its end");
-    fields
+    let (numbers, _) = fields.rsplit_once("; found = ").expect("the last field");
+    numbers
         .split("; ")
         .map(|field| {
             let (name, value) = field.split_once(" = ").expect("a field");
@@ -70,7 +71,7 @@ fn constants() -> Vec<(&'static str, i64, i64)> {
     let most = defined(LIMITS, "maxRecords");
     let limit = defined("crates/calls/specs/Rows.antt", "plateLimit");
     let denominator = defined("crates/geometry/specs/Limit.antt", "maxDenominator");
-    let (polygons, layers) = (format("polygonFile"), format("layerFile"));
+    let (polygons, layers) = (format("polygonFile edition"), format("layerFile"));
     let bytes = between(FORMATS, "leb n ", ")");
     let words = 1 + 2 * layers["count"] + layers["unit"] * layers["total"];
     let extraction = "crates/extraction/specs/Extraction.antt";
@@ -325,7 +326,7 @@ fn sentences() {
     let width = &named["TRAPEZOID_WORDS"];
     let most = &named["MAX_TRAPEZOIDS"];
     let limit = &named["PLATE_LIMIT"];
-    let (polygons, layers) = (format("polygonFile"), format("layerFile"));
+    let (polygons, layers) = (format("polygonFile edition"), format("layerFile"));
     let (count, layer_count) = (polygons["count"], layers["count"]);
     let (least, largest) = (polygons["least"], polygons["most"]);
     let words = said(defined(LIMITS, "memoryWidth") * defined(LIMITS, "maxRecords"));
@@ -397,6 +398,7 @@ fn rows_of_each_call() {
     let page = rows(&text("docs/CALLS.md"));
     let names = [
         "fracture",
+        "fracture_first_edition",
         "combine",
         "deoverlap",
         "equal",

@@ -4,13 +4,14 @@
 mod reference;
 mod support;
 
+use loxurfa::fracture_first_edition;
 use reference::listing::{list, listing};
 use reference::{read_layer, WORDS};
 use std::fs::{self, File, OpenOptions};
 use std::path::{Path, PathBuf};
 use std::process::Command;
 use std::sync::atomic::{AtomicUsize, Ordering};
-use support::files::{damage_bytes, damage_file, file_bytes, file_words};
+use support::files::{damage_bytes, damage_file, file_bytes, file_words, leave_out};
 use support::polygons::{any_polygons, polygon_words};
 use support::programs::{example, file, root, run, written};
 use support::{rectangle, Random};
@@ -53,7 +54,7 @@ fn words_in_readme(name: &str) -> Vec<i32> {
 
 #[test]
 fn files_have_the_words_of_the_readme() {
-    for name in ["plate.polygons", "two.layers"] {
+    for name in ["plate.polygons", "plate-new.polygons", "two.layers"] {
         let bytes = file_bytes(&words_in_readme(name));
         assert!(bytes == file(&format!("examples/{name}")), "{name}");
     }
@@ -66,6 +67,16 @@ fn list_plate() {
     assert_eq!(text, list(&plate));
     assert_eq!(text.as_bytes(), file("examples/plate.listing"));
     assert!(text.starts_with("pieces 13\n"));
+}
+
+/// The same polygons in a file of the new edition, which the first edition's reader refuses.
+#[test]
+fn list_plate_of_the_new_edition() {
+    let plate = file("examples/plate-new.polygons");
+    assert_eq!(listed(&plate).as_bytes(), file("examples/plate.listing"));
+    let (mut out, mut scratch) = (vec![0; 512 * WORDS], vec![0; 512 * WORDS]);
+    let refused = fracture_first_edition(&plate, &mut out, &mut scratch).map_err(|r| r.to_string());
+    assert_eq!(refused, Err("refused 6 place 0".to_string()));
 }
 
 /// The paper's example of a listing.
@@ -115,6 +126,9 @@ fn list_random_files() {
     let random = &mut Random(71);
     for _ in 0..60 {
         let mut words = polygon_words(&any_polygons(random));
+        if random.once_in(2) {
+            leave_out(random, &mut words);
+        }
         if random.once_in(4) {
             damage_file(random, &mut words, 2);
         }

@@ -3,9 +3,10 @@
 mod reference;
 mod support;
 
-use loxurfa::{decode_layers, deoverlap, fracture};
+use loxurfa::{decode_layers, deoverlap, fracture, fracture_first_edition};
 use loxurfa::{Refusal, MAX_TRAPEZOIDS, TRAPEZOID_WORDS};
 use reference::listing::{list, listing};
+use support::files::file_bytes;
 use support::programs::file;
 
 /// The bytes of each dump: indented lines that begin with the number of their first byte in hex.
@@ -48,8 +49,8 @@ fn trapezoids(file: &[u8]) -> Result<Vec<i32>, Refusal> {
 #[test]
 fn polygon_file_and_listing() {
     let text = text();
-    let [polygons, listed, _] = &dumps(&text)[..] else {
-        panic!("three dumps");
+    let [polygons, listed, _, _] = &dumps(&text)[..] else {
+        panic!("four dumps");
     };
     let words = trapezoids(polygons).expect("not refused");
     assert_eq!(listing(&words).as_bytes(), listed);
@@ -66,10 +67,52 @@ fn polygon_file_and_listing() {
 }
 
 #[test]
+fn polygon_file_of_the_new_edition() {
+    let dumps = dumps(&text());
+    let [polygons, _, left_out, _] = &dumps[..] else {
+        panic!("four dumps");
+    };
+    let refused = |number, place| Err(Refusal { number, place });
+    let by_first_edition = |file: &[u8]| {
+        let room = || vec![0; MAX_TRAPEZOIDS * TRAPEZOID_WORDS];
+        fracture_first_edition(file, &mut room(), &mut room()).map(|done| done.pieces)
+    };
+    let both = trapezoids(left_out).expect("not refused");
+    let triangle = file_bytes(&[1, 0, 3, 4, 0, 6, 0, 4, 2]);
+    let each = [&polygons[..], &triangle].map(|file| trapezoids(file).expect("not refused"));
+    assert_eq!(both, each.concat());
+    assert_eq!(by_first_edition(left_out), refused(6, 0));
+    // Lengths written in: one, the other, both.
+    for places in [&[0x08][..], &[0x10], &[0x08, 0x10]] {
+        let mut written = left_out.clone();
+        places.iter().for_each(|&place| written[place] = 3);
+        assert_eq!(trapezoids(&written), Ok(both.clone()));
+        let first = by_first_edition(&written);
+        match places {
+            [0x08] => assert_eq!(first, refused(6, 1)),
+            [_] => assert_eq!(first, refused(6, 0)),
+            _ => assert_eq!(first, Ok(2)),
+        }
+    }
+    let longer = [&left_out[..], &[0; 4]].concat();
+    assert_eq!(trapezoids(&longer).map(|_| 0), refused(6, 2));
+    let shorter = &left_out[..left_out.len() - 4];
+    assert_eq!(trapezoids(shorter).map(|_| 0), refused(6, 1));
+    let mut offset = left_out.clone();
+    for word in [2, -1, i32::MAX] {
+        offset[0x0c..0x10].copy_from_slice(&word.to_le_bytes());
+        assert_eq!(trapezoids(&offset).map(|_| 0), refused(6, 0));
+    }
+    offset[0x0c..0x10].copy_from_slice(&2i32.to_le_bytes());
+    offset[0x08] = 3;
+    assert_eq!(trapezoids(&offset).map(|_| 0), refused(6, 1));
+}
+
+#[test]
 fn layer_file() {
     let dumps = dumps(&text());
-    let [polygons, _, layers] = &dumps[..] else {
-        panic!("three dumps");
+    let [polygons, _, _, layers] = &dumps[..] else {
+        panic!("four dumps");
     };
     let first = trapezoids(polygons).expect("not refused");
     assert_eq!(decode_layers(layers), Ok(vec![first, vec![]]));

@@ -5,14 +5,14 @@ mod reference;
 mod support;
 
 use loxurfa::{raw, Done, Refusal};
-use reference::files::Polygon;
+use reference::files::{Edition, Polygon};
 use reference::fracture::{edges, events, fracture_polygon, winding};
 use reference::listing::{list, list_answer};
 use reference::{read_layer, Fraction, Line, Point, WORDS};
 use std::cmp::Ordering;
-use support::files::{about, damage_bytes, damage_file, file_bytes};
+use support::files::{about, damage_bytes, damage_file, file_bytes, leave_out};
 use support::outcomes::{refusal, Outcomes};
-use support::outputs::fracture;
+use support::outputs::{fracture, fracture_by};
 use support::polygons::{any_polygons, point_near_polygon, polygon_file, polygon_words, Window};
 use support::{assert_met, rounds, Random};
 
@@ -237,11 +237,22 @@ fn many_vertices() {
     assert_met("many done", met.done(), rounds, 10);
 }
 
-/// Files and lengths with one to three things wrong.
+/// Files and lengths with one to three things wrong, for the reader of the new edition, with and without
+/// lengths left out, and for that of the first.
 #[test]
 fn refusals() {
-    let random = &mut Random(33);
-    let rounds = rounds(60);
+    for (edition, seed, left_out) in [
+        (Edition::New, 33, 0),
+        (Edition::New, 37, 1),
+        (Edition::First, 38, 4),
+    ] {
+        refusals_by(edition, seed, left_out, rounds(60) / 2);
+    }
+}
+
+/// Lengths are left out in one of `left_out` files, or in none.
+fn refusals_by(edition: Edition, seed: u64, left_out: usize, rounds: usize) {
+    let random = &mut Random(seed);
     let mut met = Outcomes::default();
     let (mut at_the_end, mut at_a_pair) = (0, 0);
     for _ in 0..rounds {
@@ -249,6 +260,9 @@ fn refusals() {
         let count = random.below(6);
         let polygons: Vec<Polygon> = (0..count).map(|_| window.polygon(random, 8)).collect();
         let mut words = polygon_words(&polygons);
+        if left_out > 0 && random.once_in(left_out) {
+            leave_out(random, &mut words);
+        }
         let records = match random.below(3) {
             0 => random.below(3),
             _ => random.below(40),
@@ -287,7 +301,7 @@ fn refusals() {
         if cut {
             damage_bytes(random, &mut file);
         }
-        let (answer, _) = fracture(&file, &out, &scratch);
+        let (answer, _) = fracture_by(edition, &file, &out, &scratch);
         met.note(answer);
         if answer >> 32 == refusal(6, 0) >> 32 {
             let end = (answer as u32).to_le_bytes() == file[..4];
@@ -302,9 +316,19 @@ fn refusals() {
     assert_met("6 at the end", at_the_end, rounds, 50);
 }
 
-/// Small files, cut off after each byte, lengthened, and with each word changed.
+/// Small files, cut off after each byte, lengthened, and with each word changed: by both readers, as they are
+/// and with all lengths left out.
 #[test]
 fn every_place_of_small_files() {
+    for edition in [Edition::First, Edition::New] {
+        every_place(edition, false);
+        every_place(edition, true);
+    }
+}
+
+fn every_place(edition: Edition, left_out: bool) {
+    let fracture =
+        |file: &[u8], out: &[i32], scratch: &[i32]| fracture_by(edition, file, out, scratch);
     let triangle = || vec![[0, 0], [4, 1], [1, 3]];
     let square = || vec![[0, 0], [2, 0], [2, 2], [0, 2]];
     let room = vec![3; 40 * WORDS];
@@ -315,8 +339,11 @@ fn every_place_of_small_files() {
         vec![square(), triangle()],
         vec![triangle(), square(), triangle()],
     ] {
-        let words = polygon_words(&polygons);
-        let file = polygon_file(&polygons);
+        let mut words = polygon_words(&polygons);
+        for pair in 0..polygons.len() {
+            words[2 + 2 * pair] *= !left_out as i32;
+        }
+        let file = file_bytes(&words);
         for bytes in 0..=file.len() {
             met.note(fracture(&file[..bytes], &room, &room).0);
         }
@@ -351,6 +378,11 @@ fn every_place_of_small_files() {
                 met.note(fracture(&file_bytes(&changed), &room, &room).0);
             }
         }
+    }
+    // With its lengths left out no file gets past the older reader's row 6, but for the empty one.
+    if edition == Edition::First && left_out {
+        met.assert_refusals("fracture", &[4, 5, 6], 1, 1);
+        return;
     }
     met.assert_refusals("fracture", &[4, 5, 6, 7], 1, 1);
     met.assert_later("fracture", &[6, 7], 1, 1);
@@ -492,6 +524,9 @@ fn lister_texts() {
             continue;
         }
         let mut words = polygon_words(&polygons);
+        if random.once_in(4) {
+            leave_out(random, &mut words);
+        }
         if random.once_in(10) {
             damage_file(random, &mut words, 2);
         }
@@ -511,7 +546,7 @@ fn lister_texts() {
     assert_met("refused", refused, rounds, 50);
 }
 
-/// The safe wrapper reads the answer as it is meant.
+/// The safe wrappers read the answer as it is meant.
 #[test]
 fn wrapper() {
     let random = &mut Random(35);
@@ -523,14 +558,21 @@ fn wrapper() {
         let polygons: Vec<Polygon> = (0..count).map(|_| window.polygon(random, 8)).collect();
         let mut words = polygon_words(&polygons);
         if random.once_in(2) {
+            leave_out(random, &mut words);
+        }
+        if random.once_in(2) {
             damage_file(random, &mut words, 2);
         }
         let file = file_bytes(&words);
         let records = random.below(30);
         let before = random.garbage(records * WORDS);
-        let (answer, expected) = fracture(&file, &before, &before);
+        let edition = *random.pick(&[Edition::First, Edition::New]);
+        let (answer, expected) = fracture_by(edition, &file, &before, &before);
         let (mut out, mut scratch) = (before.clone(), before);
-        let typed = loxurfa::fracture(&file, &mut out, &mut scratch);
+        let typed = match edition {
+            Edition::First => loxurfa::fracture_first_edition(&file, &mut out, &mut scratch),
+            Edition::New => loxurfa::fracture(&file, &mut out, &mut scratch),
+        };
         let low = (answer & 0xffff_ffff) as u32;
         let meant = if answer >> 63 == 1 {
             Err(Refusal {

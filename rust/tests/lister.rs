@@ -19,7 +19,7 @@ use std::path::{Path, PathBuf};
 use std::process::{Command, Output, Stdio};
 use std::thread;
 use std::time::Duration;
-use support::files::{damage_bytes, damage_file, file_bytes};
+use support::files::{damage_bytes, damage_file, file_bytes, leave_out};
 use support::polygons::{any_polygons, polygon_file, polygon_words};
 use support::programs::{file, root, run};
 use support::{assert_met, rounds, Random};
@@ -282,6 +282,9 @@ fn random_files() {
         let polygons = polygons(random);
         let mut words = polygon_words(&polygons);
         let body = 1 + 2 * polygons.len();
+        if random.once_in(3) {
+            leave_out(random, &mut words);
+        }
         let kind = random.below(12);
         match kind {
             0 | 1 => damage_file(random, &mut words, 2),

@@ -35,7 +35,9 @@ use Rattle.fracture.specs.Polygons.{edge, edgesFrom, edges}
 use Rattle.fracture.specs.Fracture as fractures
 use Rattle.files.specs.declared.LayersRead.the-variants as read
 use Rattle.files.specs.declared.LayersWritten.the-variants as written
+use Rattle.files.specs.declared.Edition.the-variants.{New}
 use Rattle.files.specs.Formats.{fileSized}
+use Rattle.files.specs.Pairs.{nextOffset, lengthRead}
 use Rattle.files.specs.Directory.{numberFrom, countOf, pairLength, endOf, pairsFrom, directoryOf}
 use Rattle.files.specs.Contents.{lengthsFrom, vertexOf, vertexWords, pairsOf, layerFileWords}
 use Rattle.files.specs.Rows.{firstOffGrid, polygonFileChecked, layersChecked, layerFileChecked}
@@ -59,6 +61,7 @@ triangle = map pos (0 ∷ 0 ∷ 1 ∷ 0 ∷ 0 ∷ 0 ∷ 1 ∷ 1 ∷ 0 ∷ 0 ∷ 
 abbrev fracturing : FractureCall
 fracturing =
     record {
+      edition = New;
       limit = plateLimit;
       file = fileOf (vertex 0 0 ∷ vertex 2 0 ∷ vertex 0 2 ∷ []);
       out = lent 1;
@@ -106,7 +109,7 @@ unfolding _⊕_ _⊖_ _⊗_ ⊝_ orderOf before sized recordAt recordsFrom words
     commonLeft commonRight crossesInCommon overlapRight overlapFrom overlaps overlays.sides overlays.sideCrossings overlays.overlayEvents overlays.fills
     overlays.tagAbove overlays.stack overlays.parts overlays.subdivision overlays.overlay overlays.tagged
     minus minusAll difference deoverlappedFrom minusStages minusAllStages differenceStages deoverlappedStages space
-    fileSized numberFrom countOf pairLength endOf pairsFrom directoryOf lengthsFrom cut vertexOf vertexWords pairsOf layerFileWords
+    fileSized nextOffset lengthRead numberFrom countOf pairLength endOf pairsFrom directoryOf lengthsFrom cut vertexOf vertexWords pairsOf layerFileWords
     vertexOnGrid firstOffGrid polygonFileChecked layersChecked layerFileChecked readLayers writeLayers
     edge edgesFrom edges fractures.mark fractures.marks fractures.edgeCrossingsWith fractures.edgeCrossings fractures.polygonEvents
     fractures.trapezoids fractures.fracture fractures.fractureAll

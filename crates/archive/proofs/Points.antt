@@ -31,5 +31,5 @@ any-wound-exact P (polygon ∷ ps) =
     or-exact (not (isZero (windingNumber P polygon))) (anyWound P ps) (Wound P polygon) (Any (Wound P) ps) (not-zero (windingNumber P polygon)) (any-wound-exact P ps)
 
 pub sent-exact : SentExact
-sent-exact P (polygons f d) = any-wound-exact P (polygonsOf (fileWords (f .file)))
+sent-exact P (polygons f d) = any-wound-exact P (polygonsOf (f .edition) (fileWords (f .file)))
 sent-exact P (archived r n) = lies-in-layer-exact P (fileLayerAt (r .file) n)

@@ -15,8 +15,9 @@ use Rattle.geometry.specs.Trapezoids.{trapezoidCodec, layerOf, LiesInLayer, lie
 use Rattle.geometry.proofs.Layers.{lies-in-layer-exact}
 use Rattle.boolean.specs.Statements.{SamePoints}
 use Rattle.fracture.specs.Statements.{Wound}
-use Rattle.files.specs.Formats.{fileWords}
-use Rattle.files.specs.Contents.{countIn, polygonsOf, layersOf, fileLayersOf, layerWordsAt}
+use Rattle.files.specs.Formats.{fileWords, layerWords}
+use Rattle.files.specs.Pairs.{countIn}
+use Rattle.files.specs.Contents.{polygonsOf, layersOf, fileLayersOf, layerWordsAt}
 use Rattle.files.specs.Outcomes as files
 use Rattle.files.specs.Statements.{wordsRead}
 use Rattle.files.proofs.Pairs.{lists-length}
@@ -39,17 +40,17 @@ by-definition R seen defined e t f =
     subst (λ (o : Outcome Answer). T (isDone (o .answer)) → R (recordsOf (o .answer) (o .out))) (sym e) f t
 
 module _ (f : FractureCall) (d : DeoverlapCall) (h : BothAccepted f d) where
-  fractured-points : (P : Point) → IsPoint P → LiesInLayer P (layerOf (fracturedBy f)) ↔ Any (Wound P) (polygonsOf (fileWords (f .file)))
+  fractured-points : (P : Point) → IsPoint P → LiesInLayer P (layerOf (fracturedBy f)) ↔ Any (Wound P) (polygonsOf (f .edition) (fileWords (f .file)))
   fractured-points P hP =
-      by-definition (λ (A : Layer). LiesInLayer P (layerOf A) ↔ Any (Wound P) (polygonsOf (fileWords (f .file)))) _ _ (h .fractured .kept) (h .fractured .accepted)
-      (λ t. fracture-file-exact (f .limit) (f .file) (f .out) (f .scratch) t .1 P hP)
+      by-definition (λ (A : Layer). LiesInLayer P (layerOf A) ↔ Any (Wound P) (polygonsOf (f .edition) (fileWords (f .file)))) _ _ (h .fractured .kept) (h .fractured .accepted)
+      (λ t. fracture-file-exact (f .edition) (f .limit) (f .file) (f .out) (f .scratch) t .1 P hP)
 
   deoverlapped-right : DisjointLayer (deoverlappedBy d) × SamePoints (layerOf (deoverlappedBy d)) (layerOf (d .layer))
   deoverlapped-right =
       by-definition (λ (A : Layer). DisjointLayer A × SamePoints (layerOf A) (layerOf (d .layer))) _ _ (h .deoverlapped .kept) (h .deoverlapped .accepted)
       (λ t. let k = deoverlap-exact (d .limit) (d .layer) (d .out) (d .scratch) t in (k .1, k .2))
 
-  polygons-points : (P : Point) → IsPoint P → LiesInLayer P (layerOf (deoverlappedBy d)) ↔ Any (Wound P) (polygonsOf (fileWords (f .file)))
+  polygons-points : (P : Point) → IsPoint P → LiesInLayer P (layerOf (deoverlappedBy d)) ↔ Any (Wound P) (polygonsOf (f .edition) (fileWords (f .file)))
   polygons-points P hP =
       let k = deoverlapped-right .1 P hP in
       let g = fractured-points P hP in (
@@ -69,7 +70,7 @@ module _ (r : ReadCall) (n : ℕ) (h : LayerAccepted r n) where
   layers-are = let p = read-passed (r .limit) (r .file) (r .out) read-done in ap layersOf (read-words (r .limit) (r .file) (r .out) (p .0) (p .1))
 
   counted : n < countIn (wordsRead (r .limit) (r .file) (r .out))
-  counted = omega (arith, h .within, ap length layers-are, lists-length trapezoidCodec (wordsRead (r .limit) (r .file) (r .out)))
+  counted = omega (arith, h .within, ap length layers-are, lists-length layerWords trapezoidCodec (wordsRead (r .limit) (r .file) (r .out)))
 
   layer-is : layerOf (layerWordsAt (wordsBy r) n) ≡ fileLayerAt (r .file) n
   layer-is =

@@ -54,7 +54,7 @@ Accepted (archived r n) = LayerAccepted r n
 -- ---- the points that were sent
 -- some polygon of the polygon file has a winding number other than zero at P; or P lies in that layer of the layer file
 abbrev pub Sent : Point → Source → Type 0
-Sent P (polygons f d) = Any (Wound P) (polygonsOf (fileWords (f .file)))
+Sent P (polygons f d) = Any (Wound P) (polygonsOf (f .edition) (fileWords (f .file)))
 Sent P (archived r n) = LiesInLayer P (fileLayerAt (r .file) n)
 
 -- the same as a yes or no
@@ -63,7 +63,7 @@ anyWound P [] = false
 anyWound P (polygon ∷ rest) = not (isZero (windingNumber P polygon)) || anyWound P rest
 
 abbrev pub sent : Point → Source → Bool
-sent P (polygons f d) = anyWound P (polygonsOf (fileWords (f .file)))
+sent P (polygons f d) = anyWound P (polygonsOf (f .edition) (fileWords (f .file)))
 sent P (archived r n) = liesInLayer P (fileLayerAt (r .file) n)
 
 -- the test says yes exactly if the point was sent (proofs/Points.antt: `sent-exact`)

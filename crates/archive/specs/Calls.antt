@@ -5,6 +5,7 @@ use Prim.Native.Nat.{ℕ, _*_, _/_}
 use lib.Dec.{T}
 use lib.IntN.{ℤ}
 use lib.ListN.{length, take}
+use Rattle.files.specs.declared.Edition.{Edition}
 use Rattle.files.specs.declared.LayersRead.{LayersRead}
 use Rattle.files.specs.declared.LayersWritten.{LayersWritten}
 use Rattle.files.specs.Outcomes as files
@@ -16,8 +17,9 @@ use Rattle.calls.specs.Outcomes.{recordsOf}
 use Rattle.calls.specs.Contracts.{FractureKept, DeoverlapKept, ReadKept, WriteKept}
 use Rattle.chains.specs.Chains.{Layer}
 
--- ---- `fracture` of a polygon file's bytes
+-- ---- `fracture` of a polygon file's bytes, which reads the new edition, or `fracture_first_edition`
 pub record FractureCall : Type 0 where
+  pub edition : Edition
   pub limit : ℕ
   pub file : List ℕ
   pub out : List ℤ
@@ -27,7 +29,7 @@ pub record FractureCall : Type 0 where
   pub scratch-then : List ℤ
 
 pub record FractureAccepted (c : FractureCall) : Type 0 where
-  pub kept : FractureKept (c .limit) (c .file) (c .out) (c .scratch) (c .answer) (c .out-then) (c .scratch-then)
+  pub kept : FractureKept (c .edition) (c .limit) (c .file) (c .out) (c .scratch) (c .answer) (c .out-then) (c .scratch-then)
   pub accepted : T (isDone (fracturedAnswer (c .answer)))
 
 -- what it wrote

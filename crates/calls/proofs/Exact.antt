@@ -30,9 +30,9 @@ use Rattle.calls.proofs.Same.{equal-exactly}
 use Rattle.calls.proofs.Fracturing.{fracture-accepted}
 
 pub fracture-file-exact : FractureFileExact
-fracture-file-exact L file out scratch h =
-    let k = fracture-accepted L file out scratch h in
-    let ps = polygonsOf (fileWords file) in (
+fracture-file-exact edition L file out scratch h =
+    let k = fracture-accepted edition L file out scratch h in
+    let ps = polygonsOf edition (fileWords file) in (
       k .fit,
       (λ P hP. subst (λ (ts : List Trapezoid). LiesInLayer P ts ↔ Any (Wound P) ps) (sym (k .is)) (fracture-exact L ps P hP)),
       subst (λ (ts : List Trapezoid). All (SidesOfOne ps) ts) (sym (k .is)) (fracture-all-sides L ps),

@@ -35,7 +35,9 @@ use Rattle.extraction.specs.Shapes.{havingNumber, shapeOf, shapeNumbers}
 use Rattle.extraction.specs.Extraction.{shapeEncloses, triples, enclosingStages}
 use Rattle.fracture.specs.Polygons.{edge, edgesFrom, edges}
 use Rattle.fracture.specs.Fracture as fractures
+use Rattle.files.specs.declared.Edition.the-variants.{First, New}
 use Rattle.files.specs.Formats.{fileSized}
+use Rattle.files.specs.Pairs.{nextOffset, lengthRead}
 use Rattle.files.specs.Directory.{numberFrom, countOf, pairLength, endOf, pairsFrom, directoryOf}
 use Rattle.files.specs.Contents.{lengthsFrom, vertexOf, vertexWords}
 use Rattle.files.specs.Rows.{firstOffGrid, polygonFileChecked, layersChecked, layerFileChecked}
@@ -103,12 +105,18 @@ bytes ws = wordsOf wordCodec ws
 -- three bytes; 65 polygons; a length of 2; a vertex beyond the grid
 abbrev Polygons : Type 0
 Polygons =
-    (fractureOutcome plateLimit (1 ∷ 2 ∷ 3 ∷ []) odd odd .answer ≡ refused 1 0)
-    × (fractureOutcome plateLimit (1 ∷ 2 ∷ 3 ∷ []) [] [] .answer ≡ refused 4 0)
-    × (fractureOutcome plateLimit (bytes (pos 65 ∷ pos 1 ∷ [])) [] [] .answer ≡ refused 5 0)
-    × (fractureOutcome plateLimit (bytes (pos 1 ∷ pos 0 ∷ pos 2 ∷ pos 2049 ∷ pos 0 ∷ [])) [] [] .answer ≡ refused 6 0)
-    × (fractureOutcome plateLimit (fileOf (vertex 2049 0 ∷ vertex 2 0 ∷ vertex 0 2 ∷ [])) [] [] .answer ≡ refused 7 0)
-    × (fractureOutcome plateLimit (fileOf (vertex 0 0 ∷ vertex 2 0 ∷ vertex 0 2 ∷ [])) [] [] .answer ≡ refused 12 0)
+    (fractureOutcome New plateLimit (1 ∷ 2 ∷ 3 ∷ []) odd odd .answer ≡ refused 1 0)
+    × (fractureOutcome New plateLimit (1 ∷ 2 ∷ 3 ∷ []) [] [] .answer ≡ refused 4 0)
+    × (fractureOutcome New plateLimit (bytes (pos 65 ∷ pos 1 ∷ [])) [] [] .answer ≡ refused 5 0)
+    × (fractureOutcome New plateLimit (bytes (pos 1 ∷ pos 0 ∷ pos 2 ∷ pos 2049 ∷ pos 0 ∷ [])) [] [] .answer ≡ refused 6 0)
+    × (fractureOutcome New plateLimit (fileOf (vertex 2049 0 ∷ vertex 2 0 ∷ vertex 0 2 ∷ [])) [] [] .answer ≡ refused 7 0)
+    × (fractureOutcome New plateLimit (fileOf (vertex 0 0 ∷ vertex 2 0 ∷ vertex 0 2 ∷ [])) [] [] .answer ≡ refused 12 0)
+
+-- a length left out, before an output that is too short: the older reader, with the first rule, and the new one
+abbrev LeftOut : Type 0
+LeftOut =
+    (fractureOutcome First plateLimit (bytes (pos 1 ∷ pos 0 ∷ pos 0 ∷ pos 0 ∷ pos 0 ∷ pos 2 ∷ pos 0 ∷ pos 0 ∷ pos 2 ∷ [])) [] [] .answer ≡ refused 6 0)
+    × (fractureOutcome New plateLimit (bytes (pos 1 ∷ pos 0 ∷ pos 0 ∷ pos 0 ∷ pos 0 ∷ pos 2 ∷ pos 0 ∷ pos 0 ∷ pos 2 ∷ [])) [] [] .answer ≡ refused 12 0)
 
 -- 17 layers; an offset of 1; a trapezoid beyond the grid; and an output that is too short for any of them. "in a book they are numbered through all
 -- layers": the second layer's first trapezoid is number 1.
@@ -131,11 +139,11 @@ Bytes =
     × (wordOf (2 ∷ 1 ∷ 0 ∷ 0 ∷ []) ≡ pos 258)
     × (wordOf (0 ∷ 248 ∷ 255 ∷ 255 ∷ []) ≡ negsuc 2047)
 
-examples : Written × Combined × Places × Asked × Others × Polygons × Layers × Bytes
+examples : Written × Combined × Places × Asked × Others × Polygons × LeftOut × Layers × Bytes
 unfolding _⊕_ _⊖_ _⊗_ ⊝_ orderOf before sized recordAt recordsFrom wordsOf unsigned signed wordOf bytesOf insert levels
     onGrid dx dy offset det numer crosses ratio meet heights rightOf below trapezoidOf trapezoidWords
     order oneSign horizontal lineOnGrid isLine belowBetween shapeVerdict verdict firstRefusal keep sum spans inside crossInside slabs upTo column columns sweep space difference differenceStages
-    fileSized numberFrom countOf pairLength endOf pairsFrom directoryOf lengthsFrom cut vertexOf vertexWords vertexOnGrid firstOffGrid polygonFileChecked
+    fileSized nextOffset lengthRead numberFrom countOf pairLength endOf pairsFrom directoryOf lengthsFrom cut vertexOf vertexWords vertexOnGrid firstOffGrid polygonFileChecked
     layersChecked layerFileChecked files.readLayers files.writeLayers
     edge edgesFrom edges fractures.mark fractures.marks fractures.edgeCrossingsWith fractures.edgeCrossings fractures.polygonEvents
     fractures.trapezoids fractures.fracture fractures.fractureAll
@@ -148,6 +156,7 @@ examples = (
   (refl, refl, refl, refl),
   (refl, refl, refl, refl, refl),
   (refl, refl, refl, refl, refl, refl),
+  (refl, refl),
   (refl, refl, refl, refl, refl, refl, refl, refl),
   (refl, refl, refl, refl),
 )

@@ -13,6 +13,7 @@ use Rattle.geometry.specs.Trapezoids.{layerOf}
 use Rattle.geometry.proofs.Refusals.{SmallChecked}
 use Rattle.boolean.specs.Space.{addition}
 use Rattle.fracture.proofs.Fitness.{fracture-fit}
+use Rattle.files.specs.declared.Edition.{Edition}
 use Rattle.files.specs.Formats.{fileWords}
 use Rattle.files.specs.Contents.{polygonsOf}
 use Rattle.files.specs.Rows.{polygonFileChecked}
@@ -26,33 +27,33 @@ use Rattle.calls.proofs.Checks.{Buffers, row-passed, buffers-ready, sma
 use Rattle.calls.proofs.Room.{addition-room}
 use Rattle.calls.proofs.Success.{passed, outcome-wrote, layer-words, words-fit}
 
-pub record FractureReady (L : ℕ) (file : List ℕ) (out scratch : ℕ) : Type 0 where
-  pub rows : polygonFileChecked L file ≡ Passed
+pub record FractureReady (edition : Edition) (L : ℕ) (file : List ℕ) (out scratch : ℕ) : Type 0 where
+  pub rows : polygonFileChecked edition L file ≡ Passed
   pub buffers : Buffers out scratch
 
-pub fracture-ready : (L : ℕ) (file : List ℕ) (out scratch : ℕ) → fractureChecked L file out scratch ≡ Passed → FractureReady L file out scratch
+pub fracture-ready : (edition : Edition) (L : ℕ) (file : List ℕ) (out scratch : ℕ) → fractureChecked edition L file out scratch ≡ Passed → FractureReady edition L file out scratch
 unfolding fractureChecked
-fracture-ready L file out scratch e =
-    let h = row-passed 1 (buffersSized out scratch) (polygonFileChecked L file) e in
+fracture-ready edition L file out scratch e =
+    let h = row-passed 1 (buffersSized out scratch) (polygonFileChecked edition L file) e in
     record { rows = h .1; buffers = buffers-ready out scratch (h .0) }
 
-pub fracture-refused : (L : ℕ) (file : List ℕ) (out scratch : ℕ) → SmallChecked (fractureChecked L file out scratch)
+pub fracture-refused : (edition : Edition) (L : ℕ) (file : List ℕ) (out scratch : ℕ) → SmallChecked (fractureChecked edition L file out scratch)
 unfolding fractureChecked
-fracture-refused L file out scratch = small-row 1 (omega arith) (buffersSized out scratch) (polygonFileChecked L file) (λ s. polygon-file-small L file)
+fracture-refused edition L file out scratch = small-row 1 (omega arith) (buffersSized out scratch) (polygonFileChecked edition L file) (λ s. polygon-file-small edition L file)
 
 -- ---- a success, with the records R
-pub record Fractures (L : ℕ) (file : List ℕ) (R : List ℤ) : Type 0 where
-  pub is : layerOf R ≡ fracturedOf L file
+pub record Fractures (edition : Edition) (L : ℕ) (file : List ℕ) (R : List ℤ) : Type 0 where
+  pub is : layerOf R ≡ fracturedOf edition L file
   pub fit : 0 < L → FitAsInput L R
 
-pub fracture-accepted : (L : ℕ) (file : List ℕ) (out scratch : List ℤ) → T (isDone (fractureOutcome L file out scratch .answer))
-    → Fractures L file (recordsOf (fractureOutcome L file out scratch .answer) (fractureOutcome L file out scratch .out))
+pub fracture-accepted : (edition : Edition) (L : ℕ) (file : List ℕ) (out scratch : List ℤ) → T (isDone (fractureOutcome edition L file out scratch .answer))
+    → Fractures edition L file (recordsOf (fractureOutcome edition L file out scratch .answer) (fractureOutcome edition L file out scratch .out))
 unfolding fractureOutcome
-fracture-accepted L file out scratch h =
-    let ts = fracturedOf L file in
+fracture-accepted edition L file out scratch h =
+    let ts = fracturedOf edition L file in
     let ms = addition (length ts) ∷ [] in
-    let checked = fractureChecked L file (length out) (length scratch) in
-    let r = fracture-ready L file (length out) (length scratch) (passed checked out scratch ts ms h) in
+    let checked = fractureChecked edition L file (length out) (length scratch) in
+    let r = fracture-ready edition L file (length out) (length scratch) (passed checked out scratch ts ms h) in
     let w = outcome-wrote checked out scratch ts ms h in
     let l : length ts ≤ maxRecords = omega (arith, addition-room (roomOf out) (length ts) (w .room), r .buffers .few) in
-    record { is = ap layerOf (w .is) ∙ layer-words ts; fit = λ p. subst (FitAsInput L) (sym (w .is)) (words-fit L ts (fracture-fit L (polygonsOf (fileWords file)) p (checked-grid L file (r .rows))) l) }
+    record { is = ap layerOf (w .is) ∙ layer-words ts; fit = λ p. subst (FitAsInput L) (sym (w .is)) (words-fit L ts (fracture-fit L (polygonsOf edition (fileWords file)) p (checked-grid edition L file (r .rows))) l) }

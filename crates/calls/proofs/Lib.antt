@@ -9,6 +9,7 @@ pub mod Components
 pub mod Transistors
 pub mod Fracturing
 pub mod Exact
+pub mod Editions
 pub mod Table
 mod Examples
 pub mod Seen

@@ -31,6 +31,7 @@ use Rattle.connectivity.specs.Components.{ownNumbers, relabelled, joinedNumbers
 use Rattle.fracture.specs.Polygons.{edge, edgesFrom, edges}
 use Rattle.fracture.specs.Fracture as fractures
 use Rattle.files.specs.Formats.{fileSized}
+use Rattle.files.specs.Pairs.{nextOffset, lengthRead}
 use Rattle.files.specs.Directory.{numberFrom, countOf, pairLength, endOf, pairsFrom, directoryOf}
 use Rattle.files.specs.Contents.{lengthsFrom, vertexOf, vertexWords}
 use Rattle.files.specs.Rows.{firstOffGrid, polygonFileChecked}
@@ -48,7 +49,7 @@ unfolding _⊕_ _⊖_ _⊗_ ⊝_ orderOf before sized recordAt recordsFrom words
     notAbove touchesAt crossesWithin touchesFrom touchesBetween touches ownNumbers relabelled joinedNumbers joinedFirst joinedAll owners
     touchingAt componentNumbers componentCount listsSized componentsChecked componentsOutcome
     minus minusAll difference minusStages minusAllStages differenceStages space
-    fileSized numberFrom countOf pairLength endOf pairsFrom directoryOf lengthsFrom cut vertexOf vertexWords vertexOnGrid firstOffGrid polygonFileChecked
+    fileSized nextOffset lengthRead numberFrom countOf pairLength endOf pairsFrom directoryOf lengthsFrom cut vertexOf vertexWords vertexOnGrid firstOffGrid polygonFileChecked
     edge edgesFrom edges fractures.mark fractures.marks fractures.edgeCrossingsWith fractures.edgeCrossings fractures.polygonEvents
     fractures.trapezoids fractures.fracture fractures.fractureAll
     pointPasses fractureChecked combineChecked equalChecked containsChecked fractureOutcome combined equalOutcome containsAnswer

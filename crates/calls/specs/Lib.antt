@@ -7,5 +7,6 @@ pub mod Transistors
 pub mod Packed
 pub mod Contracts
 pub mod Statements
+pub mod Editions
 pub mod PackedApart
 pub mod Table

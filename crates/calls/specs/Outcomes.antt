@@ -14,6 +14,7 @@ use Rattle.geometry.specs.Trapezoids.{trapezoidCodec, layerOf, liesInLayer}
 use Rattle.boolean.specs.Operations.{codeAt, result, difference, deoverlapped}
 use Rattle.boolean.specs.Space.{Stage, addition, Space, enough, no-room, space, stages, deoverlappedStages, equalityStages}
 use Rattle.fracture.specs.Fracture.{fractureAll}
+use Rattle.files.specs.declared.Edition.{Edition}
 use Rattle.files.specs.Formats.{fileWords}
 use Rattle.files.specs.Contents.{polygonsOf}
 use Rattle.files.specs.Outcomes.{Answer, refused, done}
@@ -53,12 +54,13 @@ abbrev pub outcome : Checked → List ℤ → List ℤ → List Trapezoid → Li
 outcome (Refused number place) out scratch ts ms = record { answer = refused number place; out = out; scratch = scratch }
 outcome Passed out scratch ts ms = written (length out) ts (space (roomOf out) ms)
 
--- fracturing the polygons of a polygon file: "Cutting reports 0 cuts."
-abbrev pub fracturedOf : ℕ → List ℕ → List Trapezoid
-fracturedOf L file = fractureAll L (polygonsOf (fileWords file))
+-- fracturing the polygons of a polygon file of an edition: "Cutting reports 0 cuts."
+abbrev pub fracturedOf : Edition → ℕ → List ℕ → List Trapezoid
+fracturedOf edition L file = fractureAll L (polygonsOf edition (fileWords file))
 
-unfoldable pub fractureOutcome : ℕ → List ℕ → List ℤ → List ℤ → Outcome Answer
-fractureOutcome L file out scratch = outcome (fractureChecked L file (length out) (length scratch)) out scratch (fracturedOf L file) (addition (length (fracturedOf L file)) ∷ [])
+unfoldable pub fractureOutcome : Edition → ℕ → List ℕ → List ℤ → List ℤ → Outcome Answer
+fractureOutcome edition L file out scratch =
+    outcome (fractureChecked edition L file (length out) (length scratch)) out scratch (fracturedOf edition L file) (addition (length (fracturedOf edition L file)) ∷ [])
 
 -- the five set operations, by the code's number
 unfoldable pub combined : ℕ → ℕ → List ℤ → List ℤ → List ℤ → List ℤ → Outcome Answer

@@ -15,6 +15,7 @@ use Rattle.geometry.specs.Points.{Point}
 use Rattle.geometry.specs.Trapezoids.{layerOf}
 use Rattle.geometry.specs.Fitness.{firstRefusal}
 use Rattle.boolean.specs.Operations.{isCode}
+use Rattle.files.specs.declared.Edition.{Edition}
 use Rattle.files.specs.Rows.{polygonFileChecked}
 
 -- "A grid coordinate is a whole number from −2,048 to 2,048": the coordinate limit of the plates that the public functions take. Rows 3 and 7 and the mark
@@ -48,8 +49,8 @@ abbrev pub bothChecked : ℕ → List ℤ → List ℤ → Checked
 bothChecked L a b = firstRefusal L 0 (layerOf a ++ layerOf b)
 
 -- ---- the rows of each call, under a coordinate limit, with an output and a scratch area of so many words
-unfoldable pub fractureChecked : ℕ → List ℕ → ℕ → ℕ → Checked
-fractureChecked L file out scratch = row 1 (buffersSized out scratch) (polygonFileChecked L file)
+unfoldable pub fractureChecked : Edition → ℕ → List ℕ → ℕ → ℕ → Checked
+fractureChecked edition L file out scratch = row 1 (buffersSized out scratch) (polygonFileChecked edition L file)
 
 unfoldable pub combineChecked : ℕ → ℕ → List ℤ → List ℤ → ℕ → ℕ → Checked
 combineChecked L code a b out scratch = row 1 (sized (length a) && (sized (length b) && buffersSized out scratch)) (row 2 (isCode code) (bothChecked L a b))

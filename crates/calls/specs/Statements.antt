@@ -18,6 +18,7 @@ use Rattle.geometry.specs.Fitness.{firstRefusal}
 use Rattle.boolean.specs.Operations.{codeAt, says}
 use Rattle.boolean.specs.Statements.{IsYes, SamePoints, Beyond}
 use Rattle.fracture.specs.Statements.{Wound, SidesOfOne}
+use Rattle.files.specs.declared.Edition.{Edition}
 use Rattle.files.specs.Formats.{fileWords}
 use Rattle.files.specs.Contents.{polygonsOf}
 use Rattle.files.specs.Outcomes.{isDone}
@@ -29,18 +30,18 @@ pub record FitAsInput (L : ℕ) (a : List ℤ) : Type 0 where
   pub size : T (sized (length a))
   pub rows : firstRefusal L 0 (layerOf a) ≡ Passed
 
--- the words that a success of `fracture` wrote
-abbrev pub fracturedLayer : ℕ → List ℕ → List ℤ → List ℤ → List ℤ
-fracturedLayer L file out scratch = recordsOf (fractureOutcome L file out scratch .answer) (fractureOutcome L file out scratch .out)
+-- the words that a success of `fracture`, or of `fracture_first_edition`, wrote
+abbrev pub fracturedLayer : Edition → ℕ → List ℕ → List ℤ → List ℤ → List ℤ
+fracturedLayer edition L file out scratch = recordsOf (fractureOutcome edition L file out scratch .answer) (fractureOutcome edition L file out scratch .out)
 
 -- they are fit, a rational point lies in them exactly if the winding number of some polygon of the file is not zero there, and every side is a line of an
 -- edge of a polygon of the file
 abbrev pub FractureFileExact : Type 0
 FractureFileExact =
-    (L : ℕ) (file : List ℕ) (out scratch : List ℤ) → T (isDone (fractureOutcome L file out scratch .answer))
-    → (0 < L → FitAsInput L (fracturedLayer L file out scratch))
-    × ((P : Point) → IsPoint P → LiesInLayer P (layerOf (fracturedLayer L file out scratch)) ↔ Any (Wound P) (polygonsOf (fileWords file)))
-    × All (SidesOfOne (polygonsOf (fileWords file))) (layerOf (fracturedLayer L file out scratch))
+    (edition : Edition) (L : ℕ) (file : List ℕ) (out scratch : List ℤ) → T (isDone (fractureOutcome edition L file out scratch .answer))
+    → (0 < L → FitAsInput L (fracturedLayer edition L file out scratch))
+    × ((P : Point) → IsPoint P → LiesInLayer P (layerOf (fracturedLayer edition L file out scratch)) ↔ Any (Wound P) (polygonsOf edition (fileWords file)))
+    × All (SidesOfOne (polygonsOf edition (fileWords file))) (layerOf (fracturedLayer edition L file out scratch))
 
 -- the words that a success of `combine` wrote
 abbrev pub combinedLayer : ℕ → ℕ → List ℤ → List ℤ → List ℤ → List ℤ → List ℤ

@@ -9,6 +9,7 @@ use Rattle.files.specs.declared.Format.{Format}
 use Rattle.files.specs.declared.Number.the-variants.{Of, Outside}
 use Rattle.files.specs.declared.Directory.the-variants.{Wrong}
 use Rattle.files.specs.Formats.{wordAt}
+use Rattle.files.specs.Pairs.{lengthRead}
 use Rattle.files.specs.Directory.{pairLength, endOf, pairsFrom}
 use Rattle.files.proofs.Walk.{pair}
 
@@ -25,9 +26,9 @@ module _ {f : Format} {ws : List ℤ} {n i total : ℕ} (h : Walking f ws n i to
   opened : i < n → pairsFrom f ws n 0 0 ≡ pairsFrom f ws (suc (n - (i + 1))) i total
   opened l = let e : n - i ≡ suc (n - (i + 1)) = omega arith in h .same ∙ ap (λ (k : ℕ). pairsFrom f ws k i total) e
 
-  -- the words of pair i, as they were read
-  module _ (l : i < n) {offset len : ℤ} (p : offset ≡ wordAt ws (2 * i + 1)) (q : len ≡ wordAt ws (2 * i + 2)) where
-    pub pair-read : pairLength f total (wordAt ws (2 * i + 1)) (wordAt ws (2 * i + 2)) ≡ pairLength f total offset len
+  -- the offset and the length of pair i, as they were read
+  module _ (l : i < n) {offset len : ℤ} (p : offset ≡ wordAt ws (2 * i + 1)) (q : len ≡ lengthRead f ws i) where
+    pub pair-read : pairLength f total (wordAt ws (2 * i + 1)) (lengthRead f ws i) ≡ pairLength f total offset len
     pair-read = λ j. pairLength f total (sym p j) (sym q j)
 
     pub walk-turn : {k : ℕ} → pairLength f total offset len ≡ Of k → Walking f ws n (i + 1) (total + k)

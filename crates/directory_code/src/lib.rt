@@ -1,24 +1,40 @@
 // Numbers in files, and rows 4 to 6: the size of a file, the count and the pairs of its directory.
 use files::Directory;
+use files::Edition;
 use files::Format;
 use files::Number;
 use integer::Int;
 ghost use mathlib.Core.Path.{_≡_};
+ghost use mathlib.Core.Bool.{false};
 ghost use Prim.Native.Nat.{_+_, _*_, _≤_, _<_, _/_};
+ghost use lib.IntN.{natAbs};
 ghost use lib.ListN.{length};
-ghost use Rattle.files.specs.Formats.{fileSized, fileWords, wordAt, polygonFile, layerFile, layerWords, Modest};
-ghost use Rattle.files.specs.Directory.{naturalOf, numberFrom, complete, pairLength, endOf, pairsFrom, directoryOf};
-ghost use Rattle.files.specs.Contents.{amountOf};
+ghost use Rattle.integer.specs.Integer.{limit32};
+ghost use Rattle.files.specs.Formats.{fileSized, fileWords, wordAt, leavesOut, polygonFile, layerFile, layerWords, Modest};
+ghost use Rattle.files.specs.Pairs.{naturalOf, amountOf, countIn, nextOffset, lengthRead};
+ghost use Rattle.files.specs.Directory.{numberFrom, complete, pairLength, endOf, pairsFrom, directoryOf};
+ghost use Rattle.directory_code.specs.Code.{Paired};
 
-pub fn polygon_format() -> Format
-    ensures { λ r. ⌜ r ≡ polygonFile ⌝ }
+fn leaves_out(edition: Edition) -> bool
+    ensures { λ r. ⌜ r ≡ leavesOut edition ⌝ }
 {
+    match edition {
+        Edition::First => false,
+        Edition::New => true,
+    }
+}
+
+pub fn polygon_format(edition: Edition) -> Format
+    ensures { λ r. ⌜ r ≡ polygonFile edition ⌝ }
+{
+    let found = leaves_out(edition);
     Format {
         unit: 2,
         count: 64,
         least: 3,
         most: 32,
         total: 2048,
+        found,
     }
 }
 
@@ -31,6 +47,7 @@ pub fn layer_format() -> Format
         least: 0,
         most: records::MAX_RECORDS,
         total: records::MAX_RECORDS,
+        found: false,
     }
 }
 
@@ -44,6 +61,7 @@ pub fn memory_format() -> Format
         least: f.least,
         most: f.most,
         total: f.total,
+        found: f.found,
     }
 }
 
@@ -98,6 +116,7 @@ pub fn load_file_word(file: &[u8], i: usize) -> i32
 pub fn word_at(file: &[u8], i: usize) -> Int
     requires { ⌜ i < length (now file) / 4 ⌝ }
     ensures { λ r. ⌜ r .v ≡ wordAt (fileWords (now (file .entry))) i ⌝ }
+    ensures magnitude { λ r. ⌜ natAbs (r .v) ≤ limit32 ⌝ }
 {
     integer_code::widen(load_file_word(file, i))
 }
@@ -155,16 +174,47 @@ fn end_of(f: Format, n: usize, total: usize, words: usize) -> Directory
     }
 }
 
+// Where pair number i of n ends if its length is left out: the next offset, or the units of the body.
+fn next_offset(file: &[u8], f: Format, n: usize, i: usize) -> Int
+    requires { ⌜ Modest f × Paired (now file) n × (i < n) ⌝ }
+    ensures { λ r. ⌜ r .v ≡ nextOffset f (fileWords (now (file .entry))) i ⌝ }
+    ensures magnitude { λ r. ⌜ natAbs (r .v) ≤ limit32 + length (now (file .entry)) / 4 ⌝ }
+{
+    if i + 1 < n {
+        return word_at(file, 2 * (i + 1) + 1);
+    }
+    let start = 2 * n + 1;
+    let body = file.len() / 4 - start;
+    integer_code::of((body / f.unit) as i64)
+}
+
+// The length of pair number i of n: as it is written, or found where it is left out.
+pub fn length_read(file: &[u8], f: Format, n: usize, i: usize) -> Int
+    requires { ⌜ Modest f × Paired (now file) n × (i < n) ⌝ }
+    ensures { λ r. ⌜ r .v ≡ lengthRead f (fileWords (now (file .entry))) i ⌝ }
+{
+    let len = word_at(file, 2 * i + 2);
+    if !f.found {
+        return len;
+    }
+    let zero = number_from(len, 0, 0);
+    let Number::Of(_) = zero else {
+        return len;
+    };
+    let from = word_at(file, 2 * i + 1);
+    integer_code::sub(next_offset(file, f, n, i), from)
+}
+
 // Row 6 of a file with n pairs.
 fn file_pairs(file: &[u8], f: Format, n: usize) -> Directory
-    requires { ⌜ Modest f × (n ≤ 64) × (2 * n + 1 ≤ length (now file) / 4) ⌝ }
+    requires { ⌜ Modest f × Paired (now file) n ⌝ }
     ensures { λ r. ⌜ r ≡ pairsFrom f (fileWords (now (file .entry))) n 0 0 ⌝ }
 {
     let mut i = 0;
     let mut total = 0;
     while i < n {
         let offset = word_at(file, 2 * i + 1);
-        let len = word_at(file, 2 * i + 2);
+        let len = length_read(file, f, n, i);
         let p = pair_length(f, total, offset, len);
         let Number::Of(k) = p else {
             return Directory::Wrong {
@@ -200,9 +250,9 @@ pub fn file_directory(file: &[u8], f: Format) -> Directory
     file_pairs(file, f, n)
 }
 
-// Row 6 of words with n pairs.
+// Row 6 of words with n pairs, of a format that leaves no length out.
 fn words_pairs(words: &[i32], f: Format, n: usize) -> Directory
-    requires { ⌜ Modest f × (n ≤ 64) × (2 * n + 1 ≤ length (now words)) ⌝ }
+    requires { ⌜ Modest f × (f .found ≡ false) × (n ≤ 64) × (2 * n + 1 ≤ length (now words)) ⌝ }
     ensures { λ r. ⌜ r ≡ pairsFrom f (now (words .entry)) n 0 0 ⌝ }
 {
     let mut i = 0;
@@ -223,9 +273,9 @@ fn words_pairs(words: &[i32], f: Format, n: usize) -> Directory
     end_of(f, n, total, words.len())
 }
 
-// Rows 5 and 6 of words.
+// Rows 5 and 6 of words, of such a format.
 pub fn words_directory(words: &[i32], f: Format) -> Directory
-    requires { ⌜ Modest f ⌝ }
+    requires { ⌜ Modest f × (f .found ≡ false) ⌝ }
     ensures { λ r. ⌜ r ≡ directoryOf f (now (words .entry)) ⌝ }
 {
     if words.len() == 0 {

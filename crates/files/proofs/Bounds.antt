@@ -22,7 +22,8 @@ use Rattle.files.specs.declared.Directory.{Directory}
 use Rattle.files.specs.declared.Directory.the-variants.{Wrong, Right}
 use Rattle.files.specs.Formats.{wordAt}
 use Rattle.files.specs.Directory.{countOf, pairLength, atEnd, afterPair, endOf, pairsFrom, directoryBy, directoryOf}
-use Rattle.files.specs.Contents.{countIn, bodyOf, unitsOf}
+use Rattle.files.specs.Pairs.{countIn, bodyOf, lengthRead}
+use Rattle.files.specs.Contents.{unitsOf}
 use Rattle.files.specs.Rows.{directoryRows, layersChecked}
 use Rattle.files.proofs.Walk.{count-is}
 use Rattle.files.proofs.Right.{IsRight, right, count-in}
@@ -36,7 +37,7 @@ module _ (f : Format) (ws : List ℤ) where
   pairs-bound : (m i before : ℕ) {number place : ℕ} → pairsFrom f ws m i before ≡ Wrong number place → (number < 256) × (place ≤ i + m)
   unfolding pairsFrom endOf
   pairs-bound zero i before e = let h = end-bound (eqb (2 * i + 1 + f .unit * before) (length ws)) i before e in (h .0, omega (arith, h .1))
-  pairs-bound (suc m) i before {number} {place} e = go (λ s r. pairs-bound m (i + 1) (before + s) r) (pairLength f before (wordAt ws (2 * i + 1)) (wordAt ws (2 * i + 2))) e
+  pairs-bound (suc m) i before {number} {place} e = go (λ s r. pairs-bound m (i + 1) (before + s) r) (pairLength f before (wordAt ws (2 * i + 1)) (lengthRead f ws i)) e
     where
       go : ((s : ℕ) → pairsFrom f ws m (i + 1) (before + s) ≡ Wrong number place → (number < 256) × (place ≤ i + 1 + m)) → (k : Number) → afterPair k i (λ (s : ℕ). pairsFrom f ws m (i + 1) (before + s)) ≡ Wrong number place → (number < 256) × (place ≤ i + suc m)
       go rest (Of s) e = let h = rest s e in (h .0, omega (arith, h .1))

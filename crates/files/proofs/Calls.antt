@@ -13,7 +13,8 @@ use Rattle.records.proofs.Words.{words-faithful}
 use Rattle.geometry.specs.declared.Checked.the-variants.{Passed}
 use Rattle.geometry.specs.Trapezoids.{trapezoidCodec}
 use Rattle.files.specs.Formats.{fileSized, fileWords, layerFile, layerWords}
-use Rattle.files.specs.Contents.{countIn, fileCodec}
+use Rattle.files.specs.Pairs.{countIn}
+use Rattle.files.specs.Contents.{fileCodec}
 use Rattle.files.specs.Rows.{sizeRow, layersChecked, layerFileChecked, layerWordsChecked}
 use Rattle.files.proofs.Reading.{length-file}
 use Rattle.files.proofs.Right.{right, count-in}

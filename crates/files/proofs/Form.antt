@@ -17,8 +17,8 @@ use Rattle.files.specs.declared.Number.the-variants.{Of, Outside}
 use Rattle.files.specs.declared.Directory.{Directory}
 use Rattle.files.specs.declared.Directory.the-variants.{Wrong, Right}
 use Rattle.files.specs.Formats.{wordAt}
-use Rattle.files.specs.Directory.{naturalOf, countOf, pairLength, atEnd, afterPair, endOf, pairsFrom, directoryBy, directoryOf, HasPairs}
-use Rattle.files.specs.Contents.{amountOf, offsetAt, lengthAt}
+use Rattle.files.specs.Pairs.{naturalOf, amountOf, offsetAt, lengthRead, lengthAt}
+use Rattle.files.specs.Directory.{countOf, pairLength, atEnd, afterPair, endOf, pairsFrom, directoryBy, directoryOf, HasPairs}
 use Rattle.files.specs.Form.{CountRight, endBefore, PairRight, EndMet, HasForm, WrongAt, DirectoryExact, CountRefused, PairPlaceExact, OnlyFiveAndSix}
 use Rattle.files.proofs.Numbers.{in-range, completed, right-pair}
 use Rattle.files.proofs.Walk.{IsPair, pair, count-read, count-is}
@@ -33,16 +33,16 @@ module _ (f : Format) (ws : List ℤ) where
       let n = in-range 0 (f .count) (wordAt ws 0) (ap naturalOf (h .is)) (omega arith) (h .most) in
       count-read f ws refl refl ∙ sym (completed (length ws) (sym n) (h .complete))
 
-  abbrev lengthOf : ℕ → Number
-  lengthOf i = pairLength f (endBefore ws i) (wordAt ws (2 * i + 1)) (wordAt ws (2 * i + 2))
+  abbrev pairAt : ℕ → Number
+  pairAt i = pairLength f (endBefore f ws i) (wordAt ws (2 * i + 1)) (lengthRead f ws i)
 
-  pair-of : (i : ℕ) {k : ℕ} → lengthOf i ≡ Of k → IsPair f (endBefore ws i) (wordAt ws (2 * i + 1)) (wordAt ws (2 * i + 2)) k
-  pair-of i e = pair f (endBefore ws i) (wordAt ws (2 * i + 1)) (wordAt ws (2 * i + 2)) e
+  pair-of : (i : ℕ) {k : ℕ} → pairAt i ≡ Of k → IsPair f (endBefore f ws i) (wordAt ws (2 * i + 1)) (lengthRead f ws i) k
+  pair-of i e = pair f (endBefore f ws i) (wordAt ws (2 * i + 1)) (lengthRead f ws i) e
 
-  pair-right : (i : ℕ) {k : ℕ} → lengthOf i ≡ Of k → PairRight f ws i
+  pair-right : (i : ℕ) {k : ℕ} → pairAt i ≡ Of k → PairRight f ws i
   pair-right i {k} e =
       let p = pair-of i e in
-      let l : lengthAt ws i ≡ k = ap amountOf (p .is) in
+      let l : lengthAt f ws i ≡ k = ap amountOf (p .is) in
       record {
         offset = p .start;
         size = p .is ∙ ap pos (sym l);
@@ -51,18 +51,18 @@ module _ (f : Format) (ws : List ℤ) where
         total = omega (arith, p .total, l);
       }
 
-  right-length : (i : ℕ) → PairRight f ws i → lengthOf i ≡ Of (lengthAt ws i)
+  right-length : (i : ℕ) → PairRight f ws i → pairAt i ≡ Of (lengthAt f ws i)
   right-length i h =
-      let a = in-range (endBefore ws i) (endBefore ws i) (wordAt ws (2 * i + 1)) (ap naturalOf (h .offset)) (omega arith) (omega arith) in
-      let b = in-range (f .least) (f .most) (wordAt ws (2 * i + 2)) (ap naturalOf (h .size)) (h .least) (h .most) in
-      sym (right-pair f (endBefore ws i) (wordAt ws (2 * i + 1)) (wordAt ws (2 * i + 2)) (sym a) (sym b) (h .total))
+      let a = in-range (endBefore f ws i) (endBefore f ws i) (wordAt ws (2 * i + 1)) (ap naturalOf (h .offset)) (omega arith) (omega arith) in
+      let b = in-range (f .least) (f .most) (lengthRead f ws i) (ap naturalOf (h .size)) (h .least) (h .most) in
+      sym (right-pair f (endBefore f ws i) (wordAt ws (2 * i + 1)) (lengthRead f ws i) (sym a) (sym b) (h .total))
 
-  end-next : (i : ℕ) {k : ℕ} → lengthOf i ≡ Of k → endBefore ws (i + 1) ≡ endBefore ws i + k
+  end-next : (i : ℕ) {k : ℕ} → pairAt i ≡ Of k → endBefore f ws (i + 1) ≡ endBefore f ws i + k
   end-next i {k} e =
       let p = pair-of i e in
-      let o : offsetAt ws i ≡ endBefore ws i = ap amountOf (p .start) in
-      let l : lengthAt ws i ≡ k = ap amountOf (p .is) in
-      ap (endBefore ws) (add-one i) ∙ (λ j. o j + l j)
+      let o : offsetAt ws i ≡ endBefore f ws i = ap amountOf (p .start) in
+      let l : lengthAt f ws i ≡ k = ap amountOf (p .is) in
+      ap (endBefore f ws) (add-one i) ∙ (λ j. o j + l j)
 
   -- pairs right up to number i, and that one too
   one-more : (i : ℕ) → ((j : ℕ) → j < i → PairRight f ws j) → PairRight f ws i → (j : ℕ) → j < i + 1 → PairRight f ws j
@@ -72,22 +72,22 @@ module _ (f : Format) (ws : List ℤ) where
 data Answered (f : Format) (ws : List ℤ) (d : Directory) : Type 0 where
   no-count : d ≡ Wrong 5 0 → ((n : ℕ) → CountRight f ws n → ⊥) → Answered f ws d
   wrong : (i : ℕ) → d ≡ Wrong 6 i → WrongAt f ws i → Answered f ws d
-  formed : (n : ℕ) → d ≡ Right n (endBefore ws n) → HasForm f ws n → Answered f ws d
+  formed : (n : ℕ) → d ≡ Right n (endBefore f ws n) → HasForm f ws n → Answered f ws d
 
 module _ (f : Format) (ws : List ℤ) where
   -- past the last pair
-  ended : (n : ℕ) → CountRight f ws n → ((j : ℕ) → j < n → PairRight f ws j) → (t : Bool) → eqb (2 * n + 1 + f .unit * endBefore ws n) (length ws) ≡ t
-      → Answered f ws (atEnd t n (endBefore ws n))
-  ended n c h true p = formed n refl (record { count = c; pairs = h; end = eqb-true (2 * n + 1 + f .unit * endBefore ws n) (length ws) p })
-  ended n c h false p = wrong n refl (record { pairs = n; count = c; earlier = h; here = inr (refl, eqb-false (2 * n + 1 + f .unit * endBefore ws n) (length ws) p) })
+  ended : (n : ℕ) → CountRight f ws n → ((j : ℕ) → j < n → PairRight f ws j) → (t : Bool) → eqb (2 * n + 1 + f .unit * endBefore f ws n) (length ws) ≡ t
+      → Answered f ws (atEnd t n (endBefore f ws n))
+  ended n c h true p = formed n refl (record { count = c; pairs = h; end = eqb-true (2 * n + 1 + f .unit * endBefore f ws n) (length ws) p })
+  ended n c h false p = wrong n refl (record { pairs = n; count = c; earlier = h; here = inr (refl, eqb-false (2 * n + 1 + f .unit * endBefore f ws n) (length ws) p) })
 
-  walked : {n : ℕ} → CountRight f ws n → (m i : ℕ) → i + m ≡ n → ((j : ℕ) → j < i → PairRight f ws j) → Answered f ws (pairsFrom f ws m i (endBefore ws i))
+  walked : {n : ℕ} → CountRight f ws n → (m i : ℕ) → i + m ≡ n → ((j : ℕ) → j < i → PairRight f ws j) → Answered f ws (pairsFrom f ws m i (endBefore f ws i))
   unfolding pairsFrom endOf
-  walked {n} c zero i e h = let z : n ≡ i = omega arith in ended i (subst (CountRight f ws) z c) h (eqb (2 * i + 1 + f .unit * endBefore ws i) (length ws)) refl
-  walked {n} c (suc m) i e h = go (λ r. walked c m (i + 1) (omega arith) (one-more f ws i h r)) (lengthOf f ws i) refl
+  walked {n} c zero i e h = let z : n ≡ i = omega arith in ended i (subst (CountRight f ws) z c) h (eqb (2 * i + 1 + f .unit * endBefore f ws i) (length ws)) refl
+  walked {n} c (suc m) i e h = go (λ r. walked c m (i + 1) (omega arith) (one-more f ws i h r)) (pairAt f ws i) refl
     where
-      go : (PairRight f ws i → Answered f ws (pairsFrom f ws m (i + 1) (endBefore ws (i + 1)))) → (k : Number) → lengthOf f ws i ≡ k
-          → Answered f ws (afterPair k i (λ (s : ℕ). pairsFrom f ws m (i + 1) (endBefore ws i + s)))
+      go : (PairRight f ws i → Answered f ws (pairsFrom f ws m (i + 1) (endBefore f ws (i + 1)))) → (k : Number) → pairAt f ws i ≡ k
+          → Answered f ws (afterPair k i (λ (s : ℕ). pairsFrom f ws m (i + 1) (endBefore f ws i + s)))
       go rest (Of s) p = subst (λ (b : ℕ). Answered f ws (pairsFrom f ws m (i + 1) b)) (end-next f ws i p) (rest (pair-right f ws i p))
       go rest Outside p =
           wrong i refl (record {
@@ -139,7 +139,7 @@ directory-exact f ws n = (there (answered f ws), back (answered f ws))
     back : Answered f ws (directoryOf f ws) → HasForm f ws n → HasPairs f ws n
     back (no-count e g) h = absurd (g n (h .count))
     back (wrong i e w) h = absurd (form-wrong h w)
-    back (formed m e g) h = record { total = endBefore ws m; is = e ∙ ap (λ (k : ℕ). Right k (endBefore ws m)) (same-count (g .count) (h .count)) }
+    back (formed m e g) h = record { total = endBefore f ws m; is = e ∙ ap (λ (k : ℕ). Right k (endBefore f ws m)) (same-count (g .count) (h .count)) }
 
 pub count-refused : CountRefused
 count-refused f ws = (there (answered f ws), back (answered f ws))

@@ -2,23 +2,23 @@
 use mathlib.Core.Path.{_≡_, refl, sym, subst}
 use mathlib.Core.Bool.{Bool, true, false}
 use mathlib.Core.List.{List, [], _∷_}
+use mathlib.Core.Logic.{_↔_}
 use Prim.Native.Nat.{ℕ, _+_}
 use native.Mathlib.Omega.{arith}
 use lib.Dec.{T}
-use lib.ListN.{length}
 use Rattle.lists.specs.Lists.{All}
 use Rattle.lists.specs.Tests.{all}
+use Rattle.lists.proofs.Tests.{true-is}
 use Rattle.geometry.specs.declared.Checked.the-variants.{Passed}
 use Rattle.geometry.specs.Polygons.{vertexOnGrid, Polygon, PolygonOnGrid, polygonOnGrid}
 use Rattle.geometry.proofs.Polygons.{polygon-grid-exact}
-use Rattle.files.specs.declared.Directory.{Directory}
-use Rattle.files.specs.declared.Directory.the-variants.{Wrong, Right}
-use Rattle.files.specs.Formats.{fileSized, fileWords, polygonFile}
-use Rattle.files.specs.Directory.{directoryOf}
+use Rattle.files.specs.declared.Edition.{Edition}
+use Rattle.files.specs.Formats.{fileWords}
 use Rattle.files.specs.Contents.{polygonsOf}
-use Rattle.files.specs.Rows.{sizeRow, directoryRows, gridRow, firstOffGrid, polygonFileChecked}
+use Rattle.files.specs.Rows.{gridRow, firstOffGrid, polygonFileChecked}
+use Rattle.files.proofs.Polygons.{polygon-file-passes}
 
--- ---- the polygons of a file that passes are on the grid
+-- ---- row 7 finds nothing exactly if all polygons are on the grid
 grid-passes : (L i : ℕ) (ps : List Polygon) → firstOffGrid L i ps ≡ Passed → All (PolygonOnGrid L) ps
 unfolding firstOffGrid polygonOnGrid
 grid-passes L i [] e = tt
@@ -28,14 +28,13 @@ grid-passes L i (p ∷ ps) e = by (all (vertexOnGrid L) p) refl (grid-passes L (
     by true k rest e = (polygon-grid-exact L p .0 (subst T (sym k) tt), rest e)
     by false k rest e = let z : _≡_ {A = ℕ} 0 1 = cc in absurd (omega arith)
 
-pub checked-grid : (L : ℕ) (bytes : List ℕ) → polygonFileChecked L bytes ≡ Passed → All (PolygonOnGrid L) (polygonsOf (fileWords bytes))
-unfolding polygonFileChecked
-checked-grid L bytes e = sized (fileSized (length bytes)) e
-  where
-    found : (d : Directory) → directoryRows d (firstOffGrid L 0 (polygonsOf (fileWords bytes))) ≡ Passed → All (PolygonOnGrid L) (polygonsOf (fileWords bytes))
-    found (Wrong number place) e = let z : _≡_ {A = ℕ} 0 1 = cc in absurd (omega arith)
-    found (Right n total) e = grid-passes L 0 (polygonsOf (fileWords bytes)) e
+grid-all : (L i : ℕ) (ps : List Polygon) → All (PolygonOnGrid L) ps → firstOffGrid L i ps ≡ Passed
+unfolding firstOffGrid polygonOnGrid
+grid-all L i [] h = refl
+grid-all L i (p ∷ ps) h = let t : all (vertexOnGrid L) p ≡ true = true-is (polygon-grid-exact L p .1 (h .0)) in rw t (grid-all L (i + 1) ps (h .1))
 
-    sized : (t : Bool) → sizeRow t (directoryRows (directoryOf polygonFile (fileWords bytes)) (firstOffGrid L 0 (polygonsOf (fileWords bytes)))) ≡ Passed → All (PolygonOnGrid L) (polygonsOf (fileWords bytes))
-    sized true e = found (directoryOf polygonFile (fileWords bytes)) e
-    sized false e = let z : _≡_ {A = ℕ} 0 1 = cc in absurd (omega arith)
+pub grid-exact : (L i : ℕ) (ps : List Polygon) → (firstOffGrid L i ps ≡ Passed) ↔ All (PolygonOnGrid L) ps
+grid-exact L i ps = (grid-passes L i ps, grid-all L i ps)
+
+pub checked-grid : (edition : Edition) (L : ℕ) (bytes : List ℕ) → polygonFileChecked edition L bytes ≡ Passed → All (PolygonOnGrid L) (polygonsOf edition (fileWords bytes))
+checked-grid edition L bytes e = grid-passes L 0 (polygonsOf edition (fileWords bytes)) (polygon-file-passes edition L bytes e .grid)

@@ -10,6 +10,7 @@ use Rattle.geometry.specs.declared.Trapezoid.{Trapezoid}
 use Rattle.geometry.specs.declared.Checked.the-variants.{Refused}
 use Rattle.geometry.specs.Fitness.{firstRefusal}
 use Rattle.files.specs.declared.Format.{Format}
+use Rattle.files.specs.declared.Edition.{Edition}
 use Rattle.files.specs.declared.Directory.the-variants.{Wrong, Right}
 use Rattle.files.specs.Formats.{polygonFile, layerFile, layerWords, Modest}
 use Rattle.files.specs.Directory.{directoryOf}
@@ -17,14 +18,14 @@ use Rattle.files.specs.Rows.{layersChecked}
 use Rattle.files.proofs.Right.{right, count-in}
 
 -- ---- the three formats are small
-pub polygon-modest : Modest polygonFile
-polygon-modest = record { unit = omega arith; count = omega arith; total = omega arith }
+pub polygon-modest : (edition : Edition) → Modest (polygonFile edition)
+polygon-modest edition = record { some = omega arith; unit = omega arith; count = omega arith; total = omega arith }
 
 pub layer-modest : Modest layerFile
-layer-modest = record { unit = omega arith; count = omega arith; total = omega arith }
+layer-modest = record { some = omega arith; unit = omega arith; count = omega arith; total = omega arith }
 
 pub memory-modest : Modest layerWords
-memory-modest = record { unit = omega arith; count = omega arith; total = omega arith }
+memory-modest = record { some = omega arith; unit = omega arith; count = omega arith; total = omega arith }
 
 module _ (L : ℕ) (f : Format) (C : Codec ℤ Trapezoid) (ws : List ℤ) where
   pub layers-wrong : {number place : ℕ} → directoryOf f ws ≡ Wrong number place → Refused number place ≡ layersChecked L f C ws

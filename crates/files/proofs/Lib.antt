@@ -1,4 +1,5 @@
 pub mod Numbers
+pub mod Lengths
 pub mod Reading
 pub mod Walk
 pub mod Right
@@ -14,3 +15,5 @@ pub mod Form
 pub mod Answers
 pub mod Grid
 pub mod Small
+pub mod Editions
+mod Examples

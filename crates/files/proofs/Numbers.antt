@@ -13,7 +13,8 @@ use borrow.Author.Tests.{le-leb, lt-leb, leb-true, ltb-true}
 use Rattle.files.specs.declared.Format.{Format}
 use Rattle.files.specs.declared.Number.{Number}
 use Rattle.files.specs.declared.Number.the-variants.{Of, Outside}
-use Rattle.files.specs.Directory.{naturalOf, only, numberFrom, complete, pairLength}
+use Rattle.files.specs.Pairs.{naturalOf}
+use Rattle.files.specs.Directory.{only, numberFrom, complete, pairLength}
 
 -- ---- a number that is not negative, in the machine's bits
 pub negative : (z : ℤ) → ltZ z (pos 0) ≡ true → Outside ≡ naturalOf z

@@ -1,6 +1,5 @@
 -- The pairs of a directory that is right, one by one, and the lists that they stand for.
 use mathlib.Core.Path.{_≡_, refl, sym, ap, _∙_, subst}
-use mathlib.Core.Bool.{Bool, true, false}
 use mathlib.Core.List.{List}
 use Prim.Native.Nat.{ℕ, zero, suc, _+_, _*_, _-_, _/_, _<_, _≤_}
 use native.Mathlib.Nat.{mul-le-mul-left, not-suc-le-zero, le-of-suc-le-suc}
@@ -12,48 +11,46 @@ use Rattle.lists.specs.Lists.{cut, joined}
 use Rattle.lists.proofs.Parts.{cut-length}
 use Rattle.records.specs.Records.{Codec, recordAt, recordsFrom, count}
 use Rattle.records.proofs.Records.{length-from}
-use Rattle.geometry.specs.declared.Checked.the-variants.{Passed}
 use Rattle.files.specs.declared.Format.{Format}
-use Rattle.files.specs.declared.Directory.{Directory}
-use Rattle.files.specs.declared.Directory.the-variants.{Wrong, Right}
-use Rattle.files.specs.Formats.{wordAt, fileSized, fileWords, polygonFile}
-use Rattle.files.specs.Directory.{pairsFrom, directoryOf, HasPairs}
-use Rattle.files.specs.Contents.{amountOf, countIn, offsetAt, lengthAt, lengthsFrom, lengthsOf, bodyOf, unitsOf, listsOf, listsFrom, vertexCodec, polygonsOf}
-use Rattle.files.specs.Rows.{sizeRow, directoryRows, firstOffGrid, polygonFileChecked}
+use Rattle.files.specs.declared.Directory.the-variants.{Right}
+use Rattle.files.specs.Formats.{wordAt, fileWords, polygonFile}
+use Rattle.files.specs.Directory.{pairsFrom, HasPairs}
+use Rattle.files.specs.Pairs.{amountOf, countIn, bodyOf, offsetAt, lengthRead, lengthAt}
+use Rattle.files.specs.Contents.{lengthsFrom, lengthsOf, unitsOf, listsOf, listsFrom, vertexCodec}
 use Rattle.files.specs.Statements.{ListsByOffset, ListsJoined, PairsFit, CheckedPairs}
 use Rattle.files.proofs.Reading.{drop-from, take-from, length-file}
 use Rattle.files.proofs.Walk.{pair}
-use Rattle.files.proofs.Right.{next, stops, ends, right, count-in, in-file}
+use Rattle.files.proofs.Right.{next, stops, ends, right, count-in}
 use Rattle.files.proofs.Bounds.{units-are}
-use Rattle.files.proofs.Polygons.{vertex-at}
+use Rattle.files.proofs.Polygons.{polygon-file-passes, vertex-at}
 
 -- ---- there are as many lists as word 0 counts
-lengths-length : (ws : List ℤ) (n i : ℕ) → length (lengthsFrom ws n i) ≡ n
+lengths-length : (f : Format) (ws : List ℤ) (n i : ℕ) → length (lengthsFrom f ws n i) ≡ n
 unfolding lengthsFrom
-lengths-length ws zero i = refl
-lengths-length ws (suc n) i = ap suc (lengths-length ws n (i + 1))
+lengths-length f ws zero i = refl
+lengths-length f ws (suc n) i = ap suc (lengths-length f ws n (i + 1))
 
-pub lists-length : {A : Type 0} (C : Codec ℤ A) (ws : List ℤ) → length (listsOf C ws) ≡ countIn ws
-lists-length C ws = cut-length (lengthsOf ws) (unitsOf C ws) ∙ lengths-length ws (countIn ws) 0
+pub lists-length : {A : Type 0} (f : Format) (C : Codec ℤ A) (ws : List ℤ) → length (listsOf f C ws) ≡ countIn ws
+lists-length f C ws = cut-length (lengthsOf f ws) (unitsOf C ws) ∙ lengths-length f ws (countIn ws) 0
 
 -- ---- the pairs
 -- pair number j lies within so many units
 record Fits (f : Format) (ws : List ℤ) (total j : ℕ) : Type 0 where
-  least : f .least ≤ lengthAt ws j
-  most : lengthAt ws j ≤ f .most
-  inside : offsetAt ws j + lengthAt ws j ≤ total
+  least : f .least ≤ lengthAt f ws j
+  most : lengthAt f ws j ≤ f .most
+  inside : offsetAt ws j + lengthAt f ws j ≤ total
 
 module _ (f : Format) (ws : List ℤ) {n total : ℕ} where
   -- ---- the lists by offset
   module _ {A : Type 0} (C : Codec ℤ A) (enough : length (unitsOf C ws) ≡ total) where
-    lists : (m i before : ℕ) → before ≤ f .total → pairsFrom f ws m i before ≡ Right n total → cut (lengthsFrom ws m i) (drop before (unitsOf C ws)) ≡ listsFrom C ws m i
+    lists : (m i before : ℕ) → before ≤ f .total → pairsFrom f ws m i before ≡ Right n total → cut (lengthsFrom f ws m i) (drop before (unitsOf C ws)) ≡ listsFrom f C ws m i
     unfolding lengthsFrom cut listsFrom
     lists zero i before h e = refl
     lists (suc m) i before h e =
         let k = next f ws m i before e in
-        let p = pair f before (wordAt ws (2 * i + 1)) (wordAt ws (2 * i + 2)) (k .found) in
+        let p = pair f before (wordAt ws (2 * i + 1)) (lengthRead f ws i) (k .found) in
         let o : offsetAt ws i ≡ before = ap amountOf (p .start) in
-        let l : lengthAt ws i ≡ k .size = ap amountOf (p .is) in
+        let l : lengthAt f ws i ≡ k .size = ap amountOf (p .is) in
         let r = ends f ws m (i + 1) (before + k .size) (p .total) (k .rest) in
         let u = sym (length-from C (count C (bodyOf ws)) (bodyOf ws) 0) ∙ enough in
         let g : k .size ≤ count C (bodyOf ws) - before = omega (arith, u, r .more) in
@@ -64,13 +61,13 @@ module _ (f : Format) (ws : List ℤ) {n total : ℕ} where
         ∙ ap (recordsFrom C (k .size) (bodyOf ws)) z in
         rw (l, o, t, drop-drop (k .size) before (unitsOf C ws), lists m (i + 1) (before + k .size) (p .total) (k .rest))
 
-    join : (m i before : ℕ) → before ≤ f .total → pairsFrom f ws m i before ≡ Right n total → joined (cut (lengthsFrom ws m i) (drop before (unitsOf C ws))) ≡ drop before (unitsOf C ws)
+    join : (m i before : ℕ) → before ≤ f .total → pairsFrom f ws m i before ≡ Right n total → joined (cut (lengthsFrom f ws m i) (drop before (unitsOf C ws))) ≡ drop before (unitsOf C ws)
     unfolding lengthsFrom cut
     join zero i before h e = let r = stops f ws i before e in sym (drop-of-length-le (unitsOf C ws) {i = before} (omega (arith, enough, r)))
     join (suc m) i before h e =
         let k = next f ws m i before e in
-        let p = pair f before (wordAt ws (2 * i + 1)) (wordAt ws (2 * i + 2)) (k .found) in
-        let l : lengthAt ws i ≡ k .size = ap amountOf (p .is) in
+        let p = pair f before (wordAt ws (2 * i + 1)) (lengthRead f ws i) (k .found) in
+        let l : lengthAt f ws i ≡ k .size = ap amountOf (p .is) in
         rw (l, drop-drop (k .size) before (unitsOf C ws), join m (i + 1) (before + k .size) (p .total) (k .rest), ← drop-drop (k .size) before (unitsOf C ws))
         (take-append-drop (k .size) (drop before (unitsOf C ws)))
 
@@ -79,27 +76,27 @@ module _ (f : Format) (ws : List ℤ) {n total : ℕ} where
   fits zero i before h e d l = absurd (not-suc-le-zero l)
   fits (suc m) i before h e zero l =
       let k = next f ws m i before e in
-      let p = pair f before (wordAt ws (2 * i + 1)) (wordAt ws (2 * i + 2)) (k .found) in
+      let p = pair f before (wordAt ws (2 * i + 1)) (lengthRead f ws i) (k .found) in
       let r = ends f ws m (i + 1) (before + k .size) (p .total) (k .rest) in
       let o : offsetAt ws i ≡ before = ap amountOf (p .start) in
-      let s : lengthAt ws i ≡ k .size = ap amountOf (p .is) in
+      let s : lengthAt f ws i ≡ k .size = ap amountOf (p .is) in
       let z : i ≡ i + 0 = omega arith in
       subst (Fits f ws total) z (record { least = omega (arith, s, p .low); most = omega (arith, s, p .high); inside = omega (arith, s, o, r .more) })
   fits (suc m) i before h e (suc d) l =
       let k = next f ws m i before e in
-      let p = pair f before (wordAt ws (2 * i + 1)) (wordAt ws (2 * i + 2)) (k .found) in
+      let p = pair f before (wordAt ws (2 * i + 1)) (lengthRead f ws i) (k .found) in
       let z : i + 1 + d ≡ i + suc d = omega arith in
       subst (Fits f ws total) z (fits m (i + 1) (before + k .size) (p .total) (k .rest) d (le-of-suc-le-suc l))
 
 pub lists-by-offset : ListsByOffset
 lists-by-offset A f C ws n w p h =
     let r = right f ws (h .is) in
-    ap (λ (k : ℕ). cut (lengthsFrom ws k 0) (unitsOf C ws)) (count-in r) ∙ lists f ws C (units-are f C ws w p r) n 0 0 (omega arith) (r .walk)
+    ap (λ (k : ℕ). cut (lengthsFrom f ws k 0) (unitsOf C ws)) (count-in r) ∙ lists f ws C (units-are f C ws w p r) n 0 0 (omega arith) (r .walk)
 
 pub lists-joined : ListsJoined
 lists-joined A f C ws n w p h =
     let r = right f ws (h .is) in
-    ap (λ (k : ℕ). joined (cut (lengthsFrom ws k 0) (unitsOf C ws))) (count-in r) ∙ join f ws C (units-are f C ws w p r) n 0 0 (omega arith) (r .walk)
+    ap (λ (k : ℕ). joined (cut (lengthsFrom f ws k 0) (unitsOf C ws))) (count-in r) ∙ join f ws C (units-are f C ws w p r) n 0 0 (omega arith) (r .walk)
 
 pub pairs-fit : PairsFit
 pairs-fit f ws n h i l =
@@ -116,24 +113,9 @@ pairs-fit f ws n h i l =
 
 -- ---- a polygon file that passes
 pub checked-pairs : CheckedPairs
-unfolding polygonFileChecked
-checked-pairs L bs e = sized (fileSized (length bs)) e
-  where
-    found : (d : Directory) → directoryOf polygonFile (fileWords bs) ≡ d → directoryRows d (firstOffGrid L 0 (polygonsOf (fileWords bs))) ≡ Passed
-        → HasPairs polygonFile (fileWords bs) (countIn (fileWords bs))
-    found (Wrong number place) p e = let z : _≡_ {A = ℕ} 0 1 = cc in absurd (omega arith)
-    found (Right n total) p e = subst (HasPairs polygonFile (fileWords bs)) (sym (count-in (right polygonFile (fileWords bs) p))) (record { total = total; is = p })
-
-    sized : (t : Bool) → sizeRow t (directoryRows (directoryOf polygonFile (fileWords bs)) (firstOffGrid L 0 (polygonsOf (fileWords bs)))) ≡ Passed → HasPairs polygonFile (fileWords bs) (countIn (fileWords bs))
-    sized true e = found (directoryOf polygonFile (fileWords bs)) refl e
-    sized false e = let z : _≡_ {A = ℕ} 0 1 = cc in absurd (omega arith)
-
-module _ (bs : List ℕ) (h : HasPairs polygonFile (fileWords bs) (countIn (fileWords bs))) where
-  pub few : countIn (fileWords bs) ≤ 64
-  few = right polygonFile (fileWords bs) (h .is) .most
-
-  pub in-directory : 2 * countIn (fileWords bs) + 1 ≤ length bs / 4
-  in-directory = in-file bs (right polygonFile (fileWords bs) (h .is))
+checked-pairs edition L bs e =
+    let h = polygon-file-passes edition L bs e in
+    subst (HasPairs (polygonFile edition) (fileWords bs)) (sym (count-in (right (polygonFile edition) (fileWords bs) (h .found)))) (record { total = h .total; is = h .found })
 
 -- a vertex of the body
 pub body-length : (bs : List ℕ) → length (bodyOf (fileWords bs)) ≡ length bs / 4 - (2 * countIn (fileWords bs) + 1)

@@ -1,16 +1,19 @@
 -- The words of a file's bytes, one by one.
 use mathlib.Core.Path.{_≡_, refl, sym, ap, _∙_}
-use mathlib.Core.List.{List, _∷_}
+use mathlib.Core.List.{List, [], _∷_}
 use Prim.Native.Nat.{ℕ, zero, suc, _+_, _*_, _-_, _/_, _<_, _≤_}
 use native.Mathlib.Nat.{not-suc-le-zero, le-of-suc-le-suc, zero-add, mul-add}
 use native.Mathlib.Omega.{arith}
 use lib.ListN.{length, getD, take, drop, length-drop}
 use lib.Seq.{drop-drop}
 use lib.IntN.{pos}
+use Rattle.lists.specs.Lists.{All}
+use Rattle.lists.proofs.Lists.{all-take, all-drop}
 use Rattle.records.specs.Limits.{fileWidth}
 use Rattle.records.specs.Records.{Codec, recordAt, recordsFrom}
-use Rattle.records.specs.Words.{wordCodec}
+use Rattle.records.specs.Words.{Byte, Word, unsigned, wordOf, wordCodec}
 use Rattle.records.proofs.Records.{length-from}
+use Rattle.records.proofs.Words.{signed-word, unsigned-range}
 use Rattle.files.specs.Formats.{fileWords, wordAt}
 
 module _ {W A : Type 0} (C : Codec W A) where
@@ -25,6 +28,25 @@ length-file bs = length-from wordCodec (length bs / 4) bs 0
 
 pub word-is : (bs : List ℕ) (i : ℕ) → i < length bs / 4 → wordAt (fileWords bs) i ≡ recordAt wordCodec bs i
 word-is bs i h = at-from wordCodec (length bs / 4) bs 0 i (pos 0) h ∙ ap (recordAt wordCodec bs) (zero-add i)
+
+-- ---- the words of bytes are 32-bit words
+byte-at : (r : List ℕ) (k : ℕ) → All Byte r → Byte (getD r k 0)
+byte-at [] k h = omega arith
+byte-at (b ∷ r) zero h = h .0
+byte-at (b ∷ r) (suc k) h = byte-at r k (h .1)
+
+words-legal : (n : ℕ) (bs : List ℕ) (i : ℕ) → All Byte bs → All Word (recordsFrom wordCodec n bs i)
+unfolding recordsFrom recordAt wordOf
+words-legal zero bs i h = tt
+words-legal (suc n) bs i h =
+    let r = take 4 (drop (4 * i) bs) in
+    let g : All Byte r = all-take Byte 4 (drop (4 * i) bs) (all-drop Byte (4 * i) bs h) in (
+      signed-word (unsigned (getD r 0 0) (getD r 1 0) (getD r 2 0) (getD r 3 0)) (unsigned-range (getD r 0 0) (getD r 1 0) (getD r 2 0) (getD r 3 0) (byte-at r 0 g) (byte-at r 1 g) (byte-at r 2 g) (byte-at r 3 g)),
+      words-legal n bs (i + 1) h,
+    )
+
+pub file-words-legal : (bs : List ℕ) → All Byte bs → All Word (fileWords bs)
+file-words-legal bs h = words-legal (length bs / 4) bs 0 h
 
 -- ---- the trapezoids of a body, counted in bytes
 pub below-count : (bs : List ℕ) {i : ℕ} → i < length bs / 4 / fileWidth → i < length (fileWords bs) / fileWidth

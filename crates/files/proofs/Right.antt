@@ -16,7 +16,7 @@ use Rattle.files.specs.declared.Number.the-variants.{Of, Outside}
 use Rattle.files.specs.declared.Directory.the-variants.{Right}
 use Rattle.files.specs.Formats.{wordAt, fileWords}
 use Rattle.files.specs.Directory.{countOf, pairLength, atEnd, afterPair, endOf, pairsFrom, directoryBy, directoryOf}
-use Rattle.files.specs.Contents.{amountOf, countIn, bodyOf}
+use Rattle.files.specs.Pairs.{amountOf, countIn, bodyOf, lengthRead}
 use Rattle.files.proofs.Reading.{length-file, body-words}
 use Rattle.files.proofs.Walk.{pair, count-is}
 
@@ -30,7 +30,7 @@ pub record Ends (f : Format) (ws : List ℤ) (m i before n total : ℕ) : Type 0
 -- the next pair, and the pairs past it
 pub record Next (f : Format) (ws : List ℤ) (m i before n total : ℕ) : Type 0 where
   pub size : ℕ
-  pub found : pairLength f before (wordAt ws (2 * i + 1)) (wordAt ws (2 * i + 2)) ≡ Of size
+  pub found : pairLength f before (wordAt ws (2 * i + 1)) (lengthRead f ws i) ≡ Of size
   pub rest : pairsFrom f ws m (i + 1) (before + size) ≡ Right n total
 
 module _ (f : Format) (ws : List ℤ) where
@@ -45,9 +45,9 @@ module _ (f : Format) (ws : List ℤ) where
 
   pub next : (m i before : ℕ) {n total : ℕ} → pairsFrom f ws (suc m) i before ≡ Right n total → Next f ws m i before n total
   unfolding pairsFrom
-  next m i before {n} {total} e = go (pairLength f before (wordAt ws (2 * i + 1)) (wordAt ws (2 * i + 2))) refl e
+  next m i before {n} {total} e = go (pairLength f before (wordAt ws (2 * i + 1)) (lengthRead f ws i)) refl e
     where
-      go : (k : Number) → pairLength f before (wordAt ws (2 * i + 1)) (wordAt ws (2 * i + 2)) ≡ k
+      go : (k : Number) → pairLength f before (wordAt ws (2 * i + 1)) (lengthRead f ws i) ≡ k
           → afterPair k i (λ (s : ℕ). pairsFrom f ws m (i + 1) (before + s)) ≡ Right n total → Next f ws m i before n total
       go (Of s) p e = record { size = s; found = p; rest = e }
       go Outside p e = let z : _≡_ {A = ℕ} 0 1 = cc in absurd (omega arith)
@@ -60,7 +60,7 @@ module _ (f : Format) (ws : List ℤ) where
       record { pairs = omega (arith, u .1); more = omega (arith, u .2); units = omega (arith, u .2); end = rw (← u .1, ← u .2) v }
   ends (suc m) i before h e =
       let k = next m i before e in
-      let p = pair f before (wordAt ws (2 * i + 1)) (wordAt ws (2 * i + 2)) (k .found) in
+      let p = pair f before (wordAt ws (2 * i + 1)) (lengthRead f ws i) (k .found) in
       let r = ends m (i + 1) (before + k .size) (p .total) (k .rest) in
       record { pairs = omega (arith, r .pairs); more = omega (arith, r .more); units = r .units; end = r .end }
 

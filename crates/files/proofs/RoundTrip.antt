@@ -103,7 +103,7 @@ written-reads L M hold m ws out into d l =
     )
 
 -- ---- a file that passes is words that pass
-whole : (bs : List ℕ) → fileSized (length bs) ≡ true → length bs ≡ 4 * (length bs / 4)
+pub whole : (bs : List ℕ) → fileSized (length bs) ≡ true → length bs ≡ 4 * (length bs / 4)
 unfolding fileSized
 whole bs e = go (eqb (length bs % 4) 0) refl e
   where

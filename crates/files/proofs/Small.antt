@@ -16,6 +16,7 @@ use Rattle.geometry.specs.Fitness.{firstRefusal}
 use Rattle.geometry.specs.Trapezoids.{trapezoidCodec}
 use Rattle.geometry.proofs.Refusals.{SmallChecked, small-first}
 use Rattle.files.specs.declared.Format.{Format}
+use Rattle.files.specs.declared.Edition.{Edition}
 use Rattle.files.specs.declared.Directory.{Directory}
 use Rattle.files.specs.declared.Directory.the-variants.{Wrong, Right}
 use Rattle.files.specs.Formats.{fileSized, fileWords, polygonFile, layerFile, layerWords}
@@ -41,15 +42,15 @@ unfolding firstOffGrid
 off-grid-small L i [] l = tt
 off-grid-small L i (p ∷ ps) l = grid-small (all (vertexOnGrid L) p) i (firstOffGrid L (i + 1) ps) (omega arith) (off-grid-small L (i + 1) ps (omega arith))
 
-polygons-small : (L : ℕ) (ws : List ℤ) (d : Directory) → directoryOf polygonFile ws ≡ d → SmallChecked (directoryRows d (firstOffGrid L 0 (polygonsOf ws)))
-polygons-small L ws (Wrong number place) e = let h = directory-bound polygonFile ws e in (h .0, omega (arith, h .1))
-polygons-small L ws (Right n total) e =
-    let r = right polygonFile ws e in
-    off-grid-small L 0 (polygonsOf ws) (omega (arith, lists-length vertexCodec ws, count-in r, r .most))
+polygons-small : (edition : Edition) (L : ℕ) (ws : List ℤ) (d : Directory) → directoryOf (polygonFile edition) ws ≡ d → SmallChecked (directoryRows d (firstOffGrid L 0 (polygonsOf edition ws)))
+polygons-small edition L ws (Wrong number place) e = let h = directory-bound (polygonFile edition) ws e in (h .0, omega (arith, h .1))
+polygons-small edition L ws (Right n total) e =
+    let r = right (polygonFile edition) ws e in
+    off-grid-small L 0 (polygonsOf edition ws) (omega (arith, lists-length (polygonFile edition) vertexCodec ws, count-in r, r .most))
 
-pub polygon-file-small : (L : ℕ) (bytes : List ℕ) → SmallChecked (polygonFileChecked L bytes)
+pub polygon-file-small : (edition : Edition) (L : ℕ) (bytes : List ℕ) → SmallChecked (polygonFileChecked edition L bytes)
 unfolding polygonFileChecked
-polygon-file-small L bytes = size-small (fileSized (length bytes)) _ (polygons-small L (fileWords bytes) (directoryOf polygonFile (fileWords bytes)) refl)
+polygon-file-small edition L bytes = size-small (fileSized (length bytes)) _ (polygons-small edition L (fileWords bytes) (directoryOf (polygonFile edition) (fileWords bytes)) refl)
 
 -- ---- layers
 module _ (L : ℕ) (f : Format) (C : Codec ℤ Trapezoid) (ws : List ℤ) (w : C .width ≡ f .unit) (p : 0 < f .unit) (a : f .count < 4294967296) (b : f .total ≤ 4294967296) where

@@ -1,5 +1,6 @@
 -- The words of layers that rows 5 to 11 let pass are 32-bit words: the count, the pairs and every coordinate are small, and there are no others.
-use mathlib.Core.Path.{_≡_, subst}
+use mathlib.Core.Path.{_≡_, refl, sym, _∙_, subst}
+use mathlib.Core.Bool.{false}
 use mathlib.Core.List.{List, [], _∷_, _++_}
 use Prim.Native.Nat.{ℕ, zero, suc, _+_, _*_, _<_, _≤_}
 use native.Mathlib.Omega.{arith}
@@ -23,9 +24,11 @@ use Rattle.files.specs.declared.Format.{Format}
 use Rattle.files.specs.declared.Directory.the-variants.{Right}
 use Rattle.files.specs.Formats.{wordAt, layerWords}
 use Rattle.files.specs.Directory.{pairsFrom}
-use Rattle.files.specs.Contents.{countIn, bodyOf, unitsOf}
+use Rattle.files.specs.Pairs.{countIn, bodyOf, lengthRead}
+use Rattle.files.specs.Contents.{unitsOf}
 use Rattle.files.specs.Rows.{layerWordsChecked}
 use Rattle.files.specs.Statements.{WordsHold}
+use Rattle.files.proofs.Lengths.{length-written}
 use Rattle.files.proofs.Walk.{pair}
 use Rattle.files.proofs.Right.{next, right, count-in}
 use Rattle.files.proofs.Bounds.{passes}
@@ -66,16 +69,16 @@ one-more zero (x ∷ ws) w h = (w, h)
 one-more (suc k) (x ∷ ws) w h = one-more k ws w h
 
 -- ---- the pairs
-pairs-words : (f : Format) (ws : List ℤ) {n total : ℕ} → f .total < 2147483648 → (m i before : ℕ) → before ≤ f .total → pairsFrom f ws m i before ≡ Right n total → All Word (drop (2 * (i + m) + 1) ws) → All Word (drop (2 * i + 1) ws)
-pairs-words f ws l zero i before h e g = let z : i + 0 ≡ i = omega arith in rw z at g
-pairs-words f ws l (suc m) i before h e g =
+pairs-words : (f : Format) (ws : List ℤ) {n total : ℕ} → f .found ≡ false → f .total < 2147483648 → (m i before : ℕ) → before ≤ f .total → pairsFrom f ws m i before ≡ Right n total → All Word (drop (2 * (i + m) + 1) ws) → All Word (drop (2 * i + 1) ws)
+pairs-words f ws w l zero i before h e g = let z : i + 0 ≡ i = omega arith in rw z at g
+pairs-words f ws w l (suc m) i before h e g =
     let k = next f ws m i before e in
-    let p = pair f before (wordAt ws (2 * i + 1)) (wordAt ws (2 * i + 2)) (k .found) in
+    let p = pair f before (wordAt ws (2 * i + 1)) (lengthRead f ws i) (k .found) in
     let z : i + suc m ≡ i + 1 + m = omega arith in
     let s : 2 * (i + 1) + 1 ≡ suc (2 * i + 2) = omega arith in
     let t : 2 * i + 2 ≡ suc (2 * i + 1) = omega arith in
-    let r = pairs-words f ws l m (i + 1) (before + k .size) (p .total) (k .rest) (rw z at g) in
-    let a : Word (wordAt ws (2 * i + 2)) = rw (p .is) (omega (arith, p .total)) in
+    let r = pairs-words f ws w l m (i + 1) (before + k .size) (p .total) (k .rest) (rw z at g) in
+    let a : Word (wordAt ws (2 * i + 2)) = rw (sym (length-written f ws i w) ∙ p .is) (omega (arith, p .total)) in
     let b : Word (wordAt ws (2 * i + 1)) = rw (p .start) (omega arith) in
     one-more (2 * i + 1) ws b (subst (λ (j : ℕ). All Word (drop j ws)) t (one-more (2 * i + 2) ws a (subst (λ (j : ℕ). All Word (drop j ws)) s r)))
 
@@ -88,6 +91,6 @@ words-passed L hold ws e =
     let back = words-records trapezoidCodec trapezoid-faithful (bodyOf ws) (h .total) l (all-of (λ (z : ℤ). Unit {0}) (λ z. tt) (bodyOf ws)) in
     let body : All Word (bodyOf ws) = subst (All Word) back (fit-words L hold (unitsOf trapezoidCodec ws) (layer-exact L 0 (unitsOf trapezoidCodec ws) .0 (h .fit))) in
     let c : countIn ws ≡ 0 + h .pairs = omega (arith, count-in r) in
-    let past = pairs-words layerWords ws (omega arith) (h .pairs) 0 0 (omega arith) (r .walk) (subst (λ (k : ℕ). All Word (drop (2 * k + 1) ws)) c body) in
+    let past = pairs-words layerWords ws refl (omega arith) (h .pairs) 0 0 (omega arith) (r .walk) (subst (λ (k : ℕ). All Word (drop (2 * k + 1) ws)) c body) in
     let first : Word (wordAt ws 0) = rw (r .first) (omega (arith, r .most)) in
     one-more 0 ws first past

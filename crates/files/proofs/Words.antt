@@ -25,12 +25,14 @@ use Rattle.geometry.proofs.Fitness.{layer-exact}
 use Rattle.files.specs.declared.Number.the-variants.{Of}
 use Rattle.files.specs.declared.Directory.the-variants.{Right}
 use Rattle.files.specs.Formats.{wordAt, fileWords, layerFile, layerWords}
-use Rattle.files.specs.Directory.{naturalOf, countOf, pairLength, endOf, pairsFrom, directoryOf, HasPairs}
-use Rattle.files.specs.Contents.{amountOf, countIn, offsetAt, lengthAt, lengthsFrom, bodyOf, unitsOf, listsFrom, fileCodec, pairsOf, layerFileWords, layerWordsAt}
+use Rattle.files.specs.Pairs.{naturalOf, amountOf, countIn, bodyOf, offsetAt, lengthRead, lengthAt}
+use Rattle.files.specs.Directory.{countOf, pairLength, endOf, pairsFrom, directoryOf, HasPairs}
+use Rattle.files.specs.Contents.{lengthsFrom, unitsOf, listsFrom, fileCodec, pairsOf, layerFileWords, layerWordsAt}
 use Rattle.files.specs.Rows.{layerWordsChecked}
 use Rattle.files.specs.Outcomes.{FileOutcome, isDone, writeLayers}
 use Rattle.files.specs.Statements.{LayersBack, Writable, WriterAccepts, LayerAt, ReadPairs}
 use Rattle.files.proofs.Numbers.{in-range, completed, right-pair}
+use Rattle.files.proofs.Lengths.{length-written}
 use Rattle.files.proofs.Walk.{count-read, directory-some}
 use Rattle.files.proofs.Right.{right, count-in}
 use Rattle.files.proofs.Layers.{layers-right}
@@ -60,9 +62,9 @@ module _ {ws rest : List ℤ} {i before n : ℕ} {ns : List ℕ} (h : Listed ws 
   unfolding pairsOf
   offset-is = let e : 2 * i + 1 ≡ 2 * i + 1 + 0 = omega arith in ap (wordAt ws) e ∙ word-is 0
 
-  length-is : wordAt ws (2 * i + 2) ≡ pos n
+  length-is : lengthRead layerWords ws i ≡ pos n
   unfolding pairsOf
-  length-is = let e : 2 * i + 2 ≡ 2 * i + 1 + 1 = omega arith in ap (wordAt ws) e ∙ word-is 1
+  length-is = let e : 2 * i + 2 ≡ 2 * i + 1 + 1 = omega arith in length-written layerWords ws i refl ∙ ap (wordAt ws) e ∙ word-is 1
 
   others : Listed ws rest (i + 1) (before + n) ns
   unfolding pairsOf
@@ -70,10 +72,10 @@ module _ {ws rest : List ℤ} {i before n : ℕ} {ns : List ℕ} (h : Listed ws 
       let e : 2 * (i + 1) + 1 ≡ 2 * i + 1 + 2 = omega arith in
       record { is = ap (λ (k : ℕ). drop k ws) e ∙ sym (drop-drop 2 (2 * i + 1) ws) ∙ ap (drop 2) (h .is) }
 
-lengths-are : {ws rest : List ℤ} {i before : ℕ} (ns : List ℕ) → Listed ws rest i before ns → lengthsFrom ws (length ns) i ≡ ns
+lengths-are : {ws rest : List ℤ} {i before : ℕ} (ns : List ℕ) → Listed ws rest i before ns → lengthsFrom layerWords ws (length ns) i ≡ ns
 unfolding lengthsFrom
 lengths-are [] h = refl
-lengths-are {ws} {rest} {i} (n ∷ ns) h = let e : lengthAt ws i ≡ n = ap amountOf (length-is h) in rw (e, lengths-are ns (others h))
+lengths-are {ws} {rest} {i} (n ∷ ns) h = let e : lengthAt layerWords ws i ≡ n = ap amountOf (length-is h) in rw (e, lengths-are ns (others h))
 
 rest-is : {ws rest : List ℤ} {i before : ℕ} (ns : List ℕ) → Listed ws rest i before ns → drop (2 * (i + length ns) + 1) ws ≡ rest
 unfolding pairsOf
@@ -94,9 +96,9 @@ walk-is {ws} {rest} {i} {before} (layer ∷ layers) h t e =
     let u : before + length layer + length (joined layers) ≡ before + length (layer ++ joined layers) = omega (arith, l) in
     let v : i + 1 + length layers ≡ i + suc (length layers) = omega arith in
     let a = in-range before before (wordAt ws (2 * i + 1)) (ap naturalOf (offset-is h)) (omega arith) (omega arith) in
-    let b = in-range 0 maxRecords (wordAt ws (2 * i + 2)) (ap naturalOf (length-is h)) (omega arith) (omega (arith, l)) in
-    let p : pairLength layerWords before (wordAt ws (2 * i + 1)) (wordAt ws (2 * i + 2)) ≡ Of (length layer)
-    = sym (right-pair layerWords before (wordAt ws (2 * i + 1)) (wordAt ws (2 * i + 2)) (sym a) (sym b) (omega (arith, l))) in
+    let b = in-range 0 maxRecords (lengthRead layerWords ws i) (ap naturalOf (length-is h)) (omega arith) (omega (arith, l)) in
+    let p : pairLength layerWords before (wordAt ws (2 * i + 1)) (lengthRead layerWords ws i) ≡ Of (length layer)
+    = sym (right-pair layerWords before (wordAt ws (2 * i + 1)) (lengthRead layerWords ws i) (sym a) (sym b) (omega (arith, l))) in
     rw p (walk-is layers (others h) (omega arith) (rw (u, v) e) ∙ rw (u, v))
 
 -- ---- what the words of layers hold
@@ -133,8 +135,8 @@ module _ (layers : List (List Trapezoid)) where
 
 pub layers-back : LayersBack
 layers-back layers =
-    (λ j. cut (lengthsFrom (layerFileWords layers) (count-is layers j) 0) (units-is layers j))
-    ∙ ap (λ (k : ℕ). cut (lengthsFrom (layerFileWords layers) k 0) (joined layers)) (sym (as-many layers))
+    (λ j. cut (lengthsFrom layerWords (layerFileWords layers) (count-is layers j) 0) (units-is layers j))
+    ∙ ap (λ (k : ℕ). cut (lengthsFrom layerWords (layerFileWords layers) k 0) (joined layers)) (sym (as-many layers))
     ∙ ap (λ (ns : List ℕ). cut ns (joined layers)) (lengths-are (map length layers) (listed layers))
     ∙ cut-joined layers
 
@@ -180,9 +182,9 @@ writer-accepts L layers out = (taken-only L layers out, taken L layers out)
 
 -- ---- one layer of a layer file's words
 abbrev layerBy : List ℤ → ℕ → List Trapezoid
-layerBy ws i = recordsFrom trapezoidCodec (lengthAt ws i) (bodyOf ws) (offsetAt ws i)
+layerBy ws i = recordsFrom trapezoidCodec (lengthAt layerWords ws i) (bodyOf ws) (offsetAt ws i)
 
-at-lists : (ws : List ℤ) (n i j : ℕ) → j < n → getD (listsFrom trapezoidCodec ws n i) j [] ≡ layerBy ws (i + j)
+at-lists : (ws : List ℤ) (n i j : ℕ) → j < n → getD (listsFrom layerWords trapezoidCodec ws n i) j [] ≡ layerBy ws (i + j)
 unfolding listsFrom
 at-lists ws zero i j h = absurd (not-suc-le-zero h)
 at-lists ws (suc n) i zero h = let e : i ≡ i + 0 = omega arith in ap (layerBy ws) e
@@ -192,7 +194,7 @@ pub layer-at : LayerAt
 unfolding layerWordsAt
 layer-at ws n i h l =
     let p = pairs-fit layerWords ws n h i l in
-    let w = words-from trapezoidCodec trapezoid-faithful (lengthAt ws i) (bodyOf ws) (offsetAt ws i) (p .inside) (all-of (λ (z : ℤ). Unit {0}) (λ z. tt) (bodyOf ws)) in
+    let w = words-from trapezoidCodec trapezoid-faithful (lengthAt layerWords ws i) (bodyOf ws) (offsetAt ws i) (p .inside) (all-of (λ (z : ℤ). Unit {0}) (λ z. tt) (bodyOf ws)) in
     let z : i ≡ 0 + i = omega arith in
     ap layerOf (sym w) ∙ trapezoids-back (layerBy ws i) ∙ ap (layerBy ws) z ∙ sym (at-lists ws n 0 i l)
     ∙ sym (ap (λ (ls : List (List Trapezoid)). getD ls i []) (lists-by-offset Trapezoid layerWords trapezoidCodec ws n refl (omega arith) h))

@@ -1,10 +1,10 @@
--- "Word 0 is the count N. N pairs of offset and length follow, sorted by offset, then the body."
+-- Rows 5 and 6: the count and the pairs of a directory.
 use mathlib.Core.Path.{_≡_}
 use mathlib.Core.Bool.{Bool, true, false, _&&_}
 use mathlib.Core.List.{List}
 use Prim.Native.Nat.{ℕ, zero, suc, _+_, _*_}
 use lib.Dec.{leb, eqb}
-use lib.IntN.{ℤ, pos, negsuc}
+use lib.IntN.{ℤ}
 use lib.ListN.{length}
 use Rattle.files.specs.declared.Format.{Format}
 use Rattle.files.specs.declared.Number.{Number}
@@ -12,12 +12,9 @@ use Rattle.files.specs.declared.Number.the-variants.{Of, Outside}
 use Rattle.files.specs.declared.Directory.{Directory}
 use Rattle.files.specs.declared.Directory.the-variants.{Wrong, Right}
 use Rattle.files.specs.Formats.{wordAt}
+use Rattle.files.specs.Pairs.{naturalOf, lengthRead}
 
--- ---- the number of a word
-abbrev pub naturalOf : ℤ → Number
-naturalOf (pos n) = Of n
-naturalOf (negsuc n) = Outside
-
+-- ---- the number of a word in a range
 abbrev pub only : Bool → ℕ → Number
 only true n = Of n
 only false n = Outside
@@ -64,7 +61,7 @@ afterPair Outside i rest = Wrong 6 i
 -- n pairs from number i on, with so many units before them: the lowest place that is wrong, or the pairs and the units in all
 unfoldable pub pairsFrom : Format → List ℤ → ℕ → ℕ → ℕ → Directory
 pairsFrom f ws zero i before = endOf f i before (length ws)
-pairsFrom f ws (suc n) i before = afterPair (pairLength f before (wordAt ws (2 * i + 1)) (wordAt ws (2 * i + 2))) i (λ (k : ℕ). pairsFrom f ws n (i + 1) (before + k))
+pairsFrom f ws (suc n) i before = afterPair (pairLength f before (wordAt ws (2 * i + 1)) (lengthRead f ws i)) i (λ (k : ℕ). pairsFrom f ws n (i + 1) (before + k))
 
 -- ---- the rows 5 and 6
 abbrev pub directoryBy : Format → List ℤ → Number → Directory

@@ -11,7 +11,7 @@ use Rattle.files.specs.declared.Format.{Format}
 use Rattle.files.specs.declared.Directory.the-variants.{Wrong}
 use Rattle.files.specs.Formats.{wordAt}
 use Rattle.files.specs.Directory.{directoryOf, HasPairs}
-use Rattle.files.specs.Contents.{offsetAt, lengthAt}
+use Rattle.files.specs.Pairs.{offsetAt, lengthRead, lengthAt}
 
 -- ---- the meanings
 -- row 5 finds nothing, and the count is n: "N missing or out of range, or pairs incomplete"
@@ -24,24 +24,24 @@ pub record CountRight (f : Format) (ws : List ℤ) (n : ℕ) : Type 0 where
   pub complete : 2 * n + 1 ≤ length ws
 
 -- where the pairs before number i end: 0 before the first, else the previous offset plus length
-abbrev pub endBefore : List ℤ → ℕ → ℕ
-endBefore ws zero = 0
-endBefore ws (suc i) = offsetAt ws i + lengthAt ws i
+abbrev pub endBefore : Format → List ℤ → ℕ → ℕ
+endBefore f ws zero = 0
+endBefore f ws (suc i) = offsetAt ws i + lengthAt f ws i
 
 -- row 6 finds nothing in pair number i: "wrong offset or length, or book total so far above 512"
 pub record PairRight (f : Format) (ws : List ℤ) (i : ℕ) : Type 0 where
   -- "The first offset is 0, each next offset is the previous offset plus length"
-  pub offset : wordAt ws (2 * i + 1) ≡ pos (endBefore ws i)
-  -- its length is not negative, and in range
-  pub size : wordAt ws (2 * i + 2) ≡ pos (lengthAt ws i)
-  pub least : f .least ≤ lengthAt ws i
-  pub most : lengthAt ws i ≤ f .most
+  pub offset : wordAt ws (2 * i + 1) ≡ pos (endBefore f ws i)
+  -- its length, found where it is left out, is not negative, and in range
+  pub size : lengthRead f ws i ≡ pos (lengthAt f ws i)
+  pub least : f .least ≤ lengthAt f ws i
+  pub most : lengthAt f ws i ≤ f .most
   -- the "total so far" is not above the format's
-  pub total : endBefore ws i + lengthAt ws i ≤ f .total
+  pub total : endBefore f ws i + lengthAt f ws i ≤ f .total
 
 -- "the last pair ends at the end of the file", which with no pair is past the count
 abbrev pub EndMet : Format → List ℤ → ℕ → Type 0
-EndMet f ws n = 2 * n + 1 + f .unit * endBefore ws n ≡ length ws
+EndMet f ws n = 2 * n + 1 + f .unit * endBefore f ws n ≡ length ws
 
 -- the whole directory is right, with n pairs
 pub record HasForm (f : Format) (ws : List ℤ) (n : ℕ) : Type 0 where

@@ -1,7 +1,7 @@
 -- The sizes of files, and the two formats: how a directory and the body past it may be.
-use mathlib.Core.Bool.{Bool, _&&_}
+use mathlib.Core.Bool.{Bool, true, false, _&&_}
 use mathlib.Core.List.{List}
-use Prim.Native.Nat.{ℕ, _%_, _≤_}
+use Prim.Native.Nat.{ℕ, _%_, _<_, _≤_}
 use lib.Dec.{leb, eqb}
 use lib.IntN.{ℤ, pos}
 use lib.ListN.{getD}
@@ -9,6 +9,8 @@ use Rattle.records.specs.Limits.{memoryWidth, fileWidth, maxRecords}
 use Rattle.records.specs.Records.{records}
 use Rattle.records.specs.Words.{wordCodec}
 use Rattle.files.specs.declared.Format.{Format}
+use Rattle.files.specs.declared.Edition.{Edition}
+use Rattle.files.specs.declared.Edition.the-variants.{First, New}
 
 -- row 4 lets a file of n bytes pass: "bytes not a multiple of 4, under 4 or over 65,532"
 unfoldable pub fileSized : ℕ → Bool
@@ -22,21 +24,27 @@ fileWords bytes = records wordCodec bytes
 abbrev pub wordAt : List ℤ → ℕ → ℤ
 wordAt ws i = getD ws i (pos 0)
 
--- A format: the words of a unit, the most pairs, the least and the most units of a pair, and the most units in all.
--- "A sheet has 0 to 64 polygons of 3 to 32 vertices." Its unit is "a vertex (x, y)", and the total excludes nothing.
-abbrev pub polygonFile : Format
-polygonFile = record { unit = 2; count = 64; least = 3; most = 32; total = 2048 }
+-- "Sheets of the new exchange edition may carry length 0"
+abbrev pub leavesOut : Edition → Bool
+leavesOut First = false
+leavesOut New = true
 
--- "A book has 0 to 16 layers of 0 to 512 pieces, at most 512 in all." Its unit is a trapezoid.
+-- A format: the words of a unit, the most pairs, the least and the most units of a pair, the most units in all, and whether a length 0 stands for the length found from the next offset.
+-- "A sheet has 0 to 64 polygons of 3 to 32 vertices." Its unit is "a vertex (x, y)", and the total excludes nothing.
+abbrev pub polygonFile : Edition → Format
+polygonFile edition = record { unit = 2; count = 64; least = 3; most = 32; total = 2048; found = leavesOut edition }
+
+-- "A book has 0 to 16 layers of 0 to 512 pieces, at most 512 in all." Its unit is a trapezoid, and length 0 is an empty layer's.
 abbrev pub layerFile : Format
-layerFile = record { unit = fileWidth; count = 16; least = 0; most = maxRecords; total = maxRecords }
+layerFile = record { unit = fileWidth; count = 16; least = 0; most = maxRecords; total = maxRecords; found = false }
 
 -- the same in memory: "A book reader writes the book's words (count, pairs, pieces) and a writer takes them"
 abbrev pub layerWords : Format
-layerWords = record { unit = memoryWidth; count = 16; least = 0; most = maxRecords; total = maxRecords }
+layerWords = record { unit = memoryWidth; count = 16; least = 0; most = maxRecords; total = maxRecords; found = false }
 
 -- a format whose numbers are small enough for the functions
 pub record Modest (f : Format) : Type 0 where
+  pub some : 0 < f .unit
   pub unit : f .unit ≤ 64
   pub count : f .count ≤ 64
   pub total : f .total ≤ 2048

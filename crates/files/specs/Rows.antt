@@ -14,6 +14,7 @@ use Rattle.geometry.specs.Fitness.{firstRefusal}
 use Rattle.geometry.specs.declared.Vertex.{Vertex}
 use Rattle.geometry.specs.Polygons.{vertexOnGrid}
 use Rattle.files.specs.declared.Format.{Format}
+use Rattle.files.specs.declared.Edition.{Edition}
 use Rattle.files.specs.declared.Directory.{Directory}
 use Rattle.files.specs.declared.Directory.the-variants.{Wrong, Right}
 use Rattle.files.specs.Formats.{fileSized, fileWords, polygonFile, layerFile, layerWords}
@@ -39,10 +40,10 @@ unfoldable pub firstOffGrid : ℕ → ℕ → List (List Vertex) → Checked
 firstOffGrid L i [] = Passed
 firstOffGrid L i (p ∷ ps) = gridRow (all (vertexOnGrid L) p) i (firstOffGrid L (i + 1) ps)
 
--- ---- the rows of a polygon file, under a coordinate limit
-unfoldable pub polygonFileChecked : ℕ → List ℕ → Checked
-polygonFileChecked L bytes =
-    sizeRow (fileSized (length bytes)) (directoryRows (directoryOf polygonFile (fileWords bytes)) (firstOffGrid L 0 (polygonsOf (fileWords bytes))))
+-- ---- the rows of a polygon file of an edition, under a coordinate limit
+unfoldable pub polygonFileChecked : Edition → ℕ → List ℕ → Checked
+polygonFileChecked edition L bytes =
+    sizeRow (fileSized (length bytes)) (directoryRows (directoryOf (polygonFile edition) (fileWords bytes)) (firstOffGrid L 0 (polygonsOf edition (fileWords bytes))))
 
 -- ---- rows 5 to 11 of layers, under a coordinate limit: "in a book they are numbered through all layers"
 unfoldable pub layersChecked : ℕ → Format → Codec ℤ Trapezoid → List ℤ → Checked

@@ -17,20 +17,22 @@ use Rattle.geometry.specs.declared.Checked.the-variants.{Passed}
 use Rattle.geometry.specs.Trapezoids.{layerOf}
 use Rattle.geometry.specs.Fitness.{FitFor}
 use Rattle.files.specs.declared.Format.{Format}
+use Rattle.files.specs.declared.Edition.{Edition}
 use Rattle.files.specs.Formats.{fileWords, polygonFile, layerWords}
+use Rattle.files.specs.Pairs.{countIn}
 use Rattle.files.specs.Directory.{HasPairs}
-use Rattle.files.specs.Contents.{countIn, unitsOf, listsOf, listsFrom, PairAt, layersOf, fileLayersOf, layerFileWords, layerWordsAt}
+use Rattle.files.specs.Contents.{unitsOf, listsOf, listsFrom, PairAt, layersOf, fileLayersOf, layerFileWords, layerWordsAt}
 use Rattle.files.specs.Rows.{polygonFileChecked}
 use Rattle.files.specs.Outcomes.{isDone, readLayers, writeLayers}
 
 -- ---- where rows 5 and 6 let n pairs pass
 -- the lists that the lengths cut the body into are those that the offsets and lengths give
 abbrev pub ListsByOffset : Type 1
-ListsByOffset = (A : Type 0) (f : Format) (C : Codec ℤ A) (ws : List ℤ) (n : ℕ) → C .width ≡ f .unit → 0 < f .unit → HasPairs f ws n → listsOf C ws ≡ listsFrom C ws n 0
+ListsByOffset = (A : Type 0) (f : Format) (C : Codec ℤ A) (ws : List ℤ) (n : ℕ) → C .width ≡ f .unit → 0 < f .unit → HasPairs f ws n → listsOf f C ws ≡ listsFrom f C ws n 0
 
 -- joined, they are all units of the body, as rows 7 to 11 number them
 abbrev pub ListsJoined : Type 1
-ListsJoined = (A : Type 0) (f : Format) (C : Codec ℤ A) (ws : List ℤ) (n : ℕ) → C .width ≡ f .unit → 0 < f .unit → HasPairs f ws n → joined (listsOf C ws) ≡ unitsOf C ws
+ListsJoined = (A : Type 0) (f : Format) (C : Codec ℤ A) (ws : List ℤ) (n : ℕ) → C .width ≡ f .unit → 0 < f .unit → HasPairs f ws n → joined (listsOf f C ws) ≡ unitsOf C ws
 
 -- each lies in the body
 abbrev pub PairsFit : Type 0
@@ -38,7 +40,8 @@ PairsFit = (f : Format) (ws : List ℤ) (n : ℕ) → HasPairs f ws n → (i : �
 
 -- as in a polygon file that passes
 abbrev pub CheckedPairs : Type 0
-CheckedPairs = (L : ℕ) (bytes : List ℕ) → polygonFileChecked L bytes ≡ Passed → HasPairs polygonFile (fileWords bytes) (countIn (fileWords bytes))
+CheckedPairs =
+    (edition : Edition) (L : ℕ) (bytes : List ℕ) → polygonFileChecked edition L bytes ≡ Passed → HasPairs (polygonFile edition) (fileWords bytes) (countIn (fileWords bytes))
 
 -- ---- there and back
 -- the bytes that a success of the writer wrote, and the words that a success of the reader wrote

@@ -1,13 +1,20 @@
 // Polygon files and layer files: how they are made up, and what a reader and a writer of layers answer.
 
-// How a directory and its body may be: the words of a unit of the body, the most pairs, the least and the most units of a pair, and
-// the most units in all.
+// The editions of the exchange format: a polygon file of the new one may leave lengths out.
+pub enum Edition {
+    First,
+    New,
+}
+
+// How a directory and its body may be: the words of a unit of the body, the most pairs, the least and the most units of a pair, the
+// most units in all, and whether a length 0 stands for the length found from the next offset.
 pub struct Format {
     pub unit: usize,
     pub count: usize,
     pub least: usize,
     pub most: usize,
     pub total: usize,
+    pub found: bool,
 }
 
 // A number that a word gives, or none in the range that was asked for.

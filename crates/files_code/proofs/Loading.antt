@@ -10,7 +10,11 @@ use Rattle.records.specs.Records.{recordAt, recordsFrom, wordsOf}
 use Rattle.records.proofs.Records.{from-append, words-append}
 use Rattle.geometry.specs.declared.Vertex.{Vertex}
 use Rattle.geometry.specs.Polygons.{Polygon}
-use Rattle.files.specs.Contents.{offsetAt, lengthAt, bodyOf, vertexCodec, vertexWords}
+use Rattle.files.specs.declared.Edition.{Edition}
+use Rattle.files.specs.declared.Format.{Format}
+use Rattle.files.specs.Formats.{polygonFile}
+use Rattle.files.specs.Pairs.{amountOf, bodyOf, offsetAt, lengthRead, lengthAt}
+use Rattle.files.specs.Contents.{vertexCodec, vertexWords}
 use Rattle.geometry_code.specs.Polygons.{polygonOf}
 use Rattle.files_code.specs.Code.{polygonAt}
 
@@ -64,6 +68,10 @@ module _ {body : List ℤ} {offset n W : ℕ} {ws : List ℤ} {k : ℕ} (h : Loa
       ∙ polygon-words (recordsFrom vertexCodec k body offset)
       ∙ ap (λ (m : ℕ). recordsFrom vertexCodec m body offset) e
 
+-- the length of polygon number i, as it was read
+pub length-is : (edition : Edition) {f : Format} (ws : List ℤ) (i : ℕ) → f ≡ polygonFile edition → {z : ℤ} → z ≡ lengthRead f ws i → {n : ℕ} → n ≡ amountOf z → n ≡ lengthAt (polygonFile edition) ws i
+length-is edition ws i e p q = q ∙ ap amountOf (p ∙ ap (λ (g : Format). lengthRead g ws i) e)
+
 -- polygon number i, loaded from its offset
-pub loaded-is : (ws : List ℤ) (i : ℕ) {o n : ℕ} → o ≡ offsetAt ws i → n ≡ lengthAt ws i → {p : Polygon} → p ≡ recordsFrom vertexCodec n (bodyOf ws) o → p ≡ polygonAt ws i
-loaded-is ws i e f g = g ∙ (λ t. recordsFrom vertexCodec (f t) (bodyOf ws) (e t))
+pub loaded-is : (edition : Edition) (ws : List ℤ) (i : ℕ) {o n : ℕ} → o ≡ offsetAt ws i → n ≡ lengthAt (polygonFile edition) ws i → {p : Polygon} → p ≡ recordsFrom vertexCodec n (bodyOf ws) o → p ≡ polygonAt edition ws i
+loaded-is edition ws i e f g = g ∙ (λ t. recordsFrom vertexCodec (f t) (bodyOf ws) (e t))

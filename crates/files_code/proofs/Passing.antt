@@ -15,10 +15,12 @@ use Rattle.geometry.specs.declared.Checked.the-variants.{Passed, Refused}
 use Rattle.geometry.specs.Limit.{onGrid}
 use Rattle.geometry.specs.declared.Vertex.{Vertex}
 use Rattle.geometry.specs.Polygons.{vertexOnGrid}
+use Rattle.files.specs.declared.Edition.{Edition}
 use Rattle.files.specs.declared.Directory.the-variants.{Right}
 use Rattle.files.specs.Formats.{wordAt, polygonFile}
 use Rattle.files.specs.Directory.{pairsFrom, HasPairs}
-use Rattle.files.specs.Contents.{amountOf, countIn, lengthAt, lengthsFrom, bodyOf, unitsOf, vertexCodec, polygonsOf}
+use Rattle.files.specs.Pairs.{amountOf, countIn, bodyOf, lengthRead, lengthAt}
+use Rattle.files.specs.Contents.{lengthsFrom, unitsOf, vertexCodec, polygonsOf}
 use Rattle.files.specs.Rows.{firstOffGrid}
 use Rattle.files.proofs.Reading.{drop-from, take-from}
 use Rattle.files.proofs.Walk.{pair}
@@ -46,90 +48,90 @@ module _ (t : Vertex → Bool) (ws : List ℤ) (from to : ℕ) where
     pass-stop l = sym (h .same ∙ ap (all t) (from-none vertexCodec to ws i l))
 
 -- ---- the polygons up to number i, of `from` vertices, pass, and the rest decides
-pub record Cutting (L : ℕ) (ws : List ℤ) (n i from : ℕ) : Type 0 where
+pub record Cutting (edition : Edition) (L : ℕ) (ws : List ℤ) (n i from : ℕ) : Type 0 where
   pub total : ℕ
-  pub same : firstOffGrid L 0 (polygonsOf ws) ≡ firstOffGrid L i (cut (lengthsFrom ws (n - i) i) (drop from (unitsOf vertexCodec ws)))
-  pub walk : pairsFrom polygonFile ws (n - i) i from ≡ Right n total
+  pub same : firstOffGrid L 0 (polygonsOf edition ws) ≡ firstOffGrid L i (cut (lengthsFrom (polygonFile edition) ws (n - i) i) (drop from (unitsOf vertexCodec ws)))
+  pub walk : pairsFrom (polygonFile edition) ws (n - i) i from ≡ Right n total
   pub start : countIn ws ≡ n
   pub upto : i ≤ n
   pub units : from ≤ 2048
 
-pub cut-start : (L : ℕ) (ws : List ℤ) (n : ℕ) → HasPairs polygonFile ws n → Cutting L ws n 0 0
-cut-start L ws n h =
-    let r = right polygonFile ws (h .is) in
+pub cut-start : (edition : Edition) (L : ℕ) (ws : List ℤ) (n : ℕ) → HasPairs (polygonFile edition) ws n → Cutting edition L ws n 0 0
+cut-start edition L ws n h =
+    let r = right (polygonFile edition) ws (h .is) in
     let e : n ≡ n - 0 = omega arith in
     record {
       total = h .total;
-      same = ap (λ (k : ℕ). firstOffGrid L 0 (cut (lengthsFrom ws k 0) (unitsOf vertexCodec ws))) (count-in r ∙ e);
-      walk = ap (λ (k : ℕ). pairsFrom polygonFile ws k 0 0) (sym e) ∙ r .walk;
+      same = ap (λ (k : ℕ). firstOffGrid L 0 (cut (lengthsFrom (polygonFile edition) ws k 0) (unitsOf vertexCodec ws))) (count-in r ∙ e);
+      walk = ap (λ (k : ℕ). pairsFrom (polygonFile edition) ws k 0 0) (sym e) ∙ r .walk;
       start = count-in r;
       upto = omega arith;
       units = omega arith;
     }
 
-module _ {L : ℕ} {ws : List ℤ} {n i from : ℕ} (h : Cutting L ws n i from) where
+module _ {edition : Edition} {L : ℕ} {ws : List ℤ} {n i from : ℕ} (h : Cutting edition L ws n i from) where
   module _ (l : i < n) where
     steps : n - i ≡ suc (n - (i + 1))
     steps = omega arith
 
-    following : Next polygonFile ws (n - (i + 1)) i from n (h .total)
-    following = next polygonFile ws (n - (i + 1)) i from (ap (λ (k : ℕ). pairsFrom polygonFile ws k i from) (sym steps) ∙ h .walk)
+    following : Next (polygonFile edition) ws (n - (i + 1)) i from n (h .total)
+    following = next (polygonFile edition) ws (n - (i + 1)) i from (ap (λ (k : ℕ). pairsFrom (polygonFile edition) ws k i from) (sym steps) ∙ h .walk)
 
-    is-length : lengthAt ws i ≡ following .size
-    is-length = ap amountOf (pair polygonFile from (wordAt ws (2 * i + 1)) (wordAt ws (2 * i + 2)) (following .found) .is)
+    is-length : lengthAt (polygonFile edition) ws i ≡ following .size
+    is-length = ap amountOf (pair (polygonFile edition) from (wordAt ws (2 * i + 1)) (lengthRead (polygonFile edition) ws i) (following .found) .is)
 
-    past : pairsFrom polygonFile ws (n - (i + 1)) (i + 1) (from + lengthAt ws i) ≡ Right n (h .total)
-    past = ap (λ (k : ℕ). pairsFrom polygonFile ws (n - (i + 1)) (i + 1) (from + k)) is-length ∙ following .rest
+    past : pairsFrom (polygonFile edition) ws (n - (i + 1)) (i + 1) (from + lengthAt (polygonFile edition) ws i) ≡ Right n (h .total)
+    past = ap (λ (k : ℕ). pairsFrom (polygonFile edition) ws (n - (i + 1)) (i + 1) (from + k)) is-length ∙ following .rest
 
-    within : from + lengthAt ws i ≤ 2048
-    within = omega (arith, is-length, pair polygonFile from (wordAt ws (2 * i + 1)) (wordAt ws (2 * i + 2)) (following .found) .total)
+    within : from + lengthAt (polygonFile edition) ws i ≤ 2048
+    within = omega (arith, is-length, pair (polygonFile edition) from (wordAt ws (2 * i + 1)) (lengthRead (polygonFile edition) ws i) (following .found) .total)
 
-    ending : Ends polygonFile ws (n - (i + 1)) (i + 1) (from + lengthAt ws i) n (h .total)
-    ending = ends polygonFile ws (n - (i + 1)) (i + 1) (from + lengthAt ws i) within past
+    ending : Ends (polygonFile edition) ws (n - (i + 1)) (i + 1) (from + lengthAt (polygonFile edition) ws i) n (h .total)
+    ending = ends (polygonFile edition) ws (n - (i + 1)) (i + 1) (from + lengthAt (polygonFile edition) ws i) within past
 
     -- the polygon lies in the body
-    pub in-body : 2 * (from + lengthAt ws i) ≤ length (bodyOf ws)
+    pub in-body : 2 * (from + lengthAt (polygonFile edition) ws i) ≤ length (bodyOf ws)
     in-body = omega (arith, length-drop (2 * countIn ws + 1) ws, h .start, ending .end, ending .more)
 
-    pub in-units : from + lengthAt ws i ≤ 2048
+    pub in-units : from + lengthAt (polygonFile edition) ws i ≤ 2048
     in-units = within
 
     -- and its vertices are those that were looked at
-    module _ {to : ℕ} (p : to ≡ from + lengthAt ws i) {body : List ℤ} (q : body ≡ bodyOf ws) where
-      vertices : take (lengthAt ws i) (drop from (unitsOf vertexCodec ws)) ≡ recordsFrom vertexCodec (to - from) body from
+    module _ {to : ℕ} (p : to ≡ from + lengthAt (polygonFile edition) ws i) {body : List ℤ} (q : body ≡ bodyOf ws) where
+      vertices : take (lengthAt (polygonFile edition) ws i) (drop from (unitsOf vertexCodec ws)) ≡ recordsFrom vertexCodec (to - from) body from
       vertices =
-          let e : to - from ≡ lengthAt ws i = omega arith in
+          let e : to - from ≡ lengthAt (polygonFile edition) ws i = omega arith in
           let f : 0 + from ≡ from = omega arith in
-          let g : lengthAt ws i ≤ length (bodyOf ws) / 2 - from = omega (arith, in-body) in
-          ap (take (lengthAt ws i)) (drop-from vertexCodec from (length (bodyOf ws) / 2) (bodyOf ws) 0)
-          ∙ take-from vertexCodec (lengthAt ws i) (length (bodyOf ws) / 2 - from) (bodyOf ws) (0 + from) g
+          let g : lengthAt (polygonFile edition) ws i ≤ length (bodyOf ws) / 2 - from = omega (arith, in-body) in
+          ap (take (lengthAt (polygonFile edition) ws i)) (drop-from vertexCodec from (length (bodyOf ws) / 2) (bodyOf ws) 0)
+          ∙ take-from vertexCodec (lengthAt (polygonFile edition) ws i) (length (bodyOf ws) / 2 - from) (bodyOf ws) (0 + from) g
           ∙ rw (e, f, q)
 
-      opened : firstOffGrid L 0 (polygonsOf ws) ≡ firstOffGrid L i (recordsFrom vertexCodec (to - from) body from ∷ cut (lengthsFrom ws (n - (i + 1)) (i + 1)) (drop to (unitsOf vertexCodec ws)))
+      opened : firstOffGrid L 0 (polygonsOf edition ws) ≡ firstOffGrid L i (recordsFrom vertexCodec (to - from) body from ∷ cut (lengthsFrom (polygonFile edition) ws (n - (i + 1)) (i + 1)) (drop to (unitsOf vertexCodec ws)))
       unfolding lengthsFrom cut
       opened =
-          h .same ∙ ap (λ (k : ℕ). firstOffGrid L i (cut (lengthsFrom ws k i) (drop from (unitsOf vertexCodec ws)))) steps
-          ∙ rw (vertices, drop-drop (lengthAt ws i) from (unitsOf vertexCodec ws), p)
+          h .same ∙ ap (λ (k : ℕ). firstOffGrid L i (cut (lengthsFrom (polygonFile edition) ws k i) (drop from (unitsOf vertexCodec ws)))) steps
+          ∙ rw (vertices, drop-drop (lengthAt (polygonFile edition) ws i) from (unitsOf vertexCodec ws), p)
 
-      pub cut-turn : all (vertexOnGrid L) (recordsFrom vertexCodec (to - from) body from) ≡ true → Cutting L ws n (i + 1) to
+      pub cut-turn : all (vertexOnGrid L) (recordsFrom vertexCodec (to - from) body from) ≡ true → Cutting edition L ws n (i + 1) to
       unfolding firstOffGrid
       cut-turn e =
           record {
             total = h .total;
             same = opened ∙ rw e;
-            walk = ap (pairsFrom polygonFile ws (n - (i + 1)) (i + 1)) p ∙ past;
+            walk = ap (pairsFrom (polygonFile edition) ws (n - (i + 1)) (i + 1)) p ∙ past;
             start = h .start;
             upto = omega arith;
             units = omega (arith, within);
           }
 
-      pub cut-off : all (vertexOnGrid L) (recordsFrom vertexCodec (to - from) body from) ≡ false → Refused 7 i ≡ firstOffGrid L 0 (polygonsOf ws)
+      pub cut-off : all (vertexOnGrid L) (recordsFrom vertexCodec (to - from) body from) ≡ false → Refused 7 i ≡ firstOffGrid L 0 (polygonsOf edition ws)
       unfolding firstOffGrid
       cut-off e = sym (opened ∙ rw e)
 
-  pub cut-stop : n ≤ i → Passed ≡ firstOffGrid L 0 (polygonsOf ws)
+  pub cut-stop : n ≤ i → Passed ≡ firstOffGrid L 0 (polygonsOf edition ws)
   unfolding firstOffGrid cut lengthsFrom
-  cut-stop l = let e : n - i ≡ 0 = omega arith in sym (h .same ∙ ap (λ (k : ℕ). firstOffGrid L i (cut (lengthsFrom ws k i) (drop from (unitsOf vertexCodec ws)))) e)
+  cut-stop l = let e : n - i ≡ 0 = omega arith in sym (h .same ∙ ap (λ (k : ℕ). firstOffGrid L i (cut (lengthsFrom (polygonFile edition) ws k i) (drop from (unitsOf vertexCodec ws)))) e)
 
 -- ---- one vertex, of its words as they were read
 module _ (L : ℕ) (ws : List ℤ) (i : ℕ) {x : ℤ} (p : x ≡ wordAt ws (2 * i)) where

@@ -1,5 +1,6 @@
 // Rows 4 to 11 of polygon files and layer files, the polygons of a polygon file, and the words and bytes of a layer file.
 use files::Directory;
+use files::Edition;
 use files::Extent;
 use geometry::Base;
 use geometry::Checked;
@@ -21,9 +22,11 @@ ghost use Rattle.geometry.specs.Fitness.{firstRefusal};
 ghost use Rattle.geometry.specs.Polygons.{vertexOnGrid};
 ghost use Rattle.files.specs.Formats.{fileWords, polygonFile, layerFile};
 ghost use Rattle.files.specs.Directory.{directoryOf, HasPairs};
-ghost use Rattle.files.specs.Contents.{countIn, offsetAt, lengthAt, bodyOf, PairAt, unitsOf, vertexCodec, fileCodec, polygonsOf};
+ghost use Rattle.files.specs.Pairs.{countIn, bodyOf, offsetAt, lengthAt};
+ghost use Rattle.files.specs.Contents.{PairAt, unitsOf, vertexCodec, fileCodec, polygonsOf};
 ghost use Rattle.files.specs.Rows.{directoryRows, firstOffGrid, polygonFileChecked, layersChecked, layerFileChecked, layerWordsChecked};
 ghost use Rattle.geometry_code.specs.Polygons.{polygonOf};
+ghost use Rattle.directory_code.specs.Code.{Paired};
 ghost use Rattle.files_code.specs.Code.{HasVertex, HasVertices};
 
 // The line whose words start at a place of a file.
@@ -157,15 +160,16 @@ fn polygon_on_grid(body: &[u8], from: usize, to: usize, limit: u32) -> bool
 }
 
 // Row 7 of a polygon file with n polygons.
-fn polygons_on_grid(file: &[u8], n: usize, limit: u32) -> Checked
-    requires { ⌜ HasPairs polygonFile (fileWords (now file)) n ⌝ }
-    ensures { λ r. ⌜ r ≡ firstOffGrid limit 0 (polygonsOf (fileWords (now (file .entry)))) ⌝ }
+fn polygons_on_grid(edition: Edition, file: &[u8], n: usize, limit: u32) -> Checked
+    requires { ⌜ HasPairs (polygonFile edition) (fileWords (now file)) n ⌝ }
+    ensures { λ r. ⌜ r ≡ firstOffGrid limit 0 (polygonsOf edition (fileWords (now (file .entry)))) ⌝ }
 {
     let start = 4 * (2 * n + 1);
     let mut i = 0;
     let mut from = 0;
     while i < n {
-        let to = from + directory_code::amount_of(directory_code::word_at(file, 2 * i + 2));
+        let f = directory_code::polygon_format(edition);
+        let to = from + directory_code::amount_of(directory_code::length_read(file, f, n, i));
         if !polygon_on_grid(&file[start..], from, to, limit) {
             return Checked::Refused {
                 number: 7,
@@ -179,22 +183,22 @@ fn polygons_on_grid(file: &[u8], n: usize, limit: u32) -> Checked
 }
 
 // Rows 5 to 7 of a polygon file.
-fn file_polygons(file: &[u8], limit: u32) -> Checked
-    ensures { λ r. ⌜ r ≡ directoryRows (directoryOf polygonFile (fileWords (now (file .entry)))) (firstOffGrid limit 0 (polygonsOf (fileWords (now (file .entry))))) ⌝ }
+fn file_polygons(edition: Edition, file: &[u8], limit: u32) -> Checked
+    ensures { λ r. ⌜ r ≡ directoryRows (directoryOf (polygonFile edition) (fileWords (now (file .entry)))) (firstOffGrid limit 0 (polygonsOf edition (fileWords (now (file .entry))))) ⌝ }
 {
-    let d = directory_code::file_directory(file, directory_code::polygon_format());
+    let d = directory_code::file_directory(file, directory_code::polygon_format(edition));
     match d {
         Directory::Wrong { number, place } => Checked::Refused { number, place },
-        Directory::Right { count, total: _ } => polygons_on_grid(file, count, limit),
+        Directory::Right { count, total: _ } => polygons_on_grid(edition, file, count, limit),
     }
 }
 
-// Rows 4 to 7 of a polygon file, under a coordinate limit.
-pub fn check_polygon_file(file: &[u8], limit: u32) -> Checked
-    ensures { λ r. ⌜ r ≡ polygonFileChecked limit (now (file .entry)) ⌝ }
+// Rows 4 to 7 of a polygon file of an edition, under a coordinate limit.
+pub fn check_polygon_file(edition: Edition, file: &[u8], limit: u32) -> Checked
+    ensures { λ r. ⌜ r ≡ polygonFileChecked edition limit (now (file .entry)) ⌝ }
 {
     if directory_code::file_sized(file.len()) {
-        return file_polygons(file, limit);
+        return file_polygons(edition, file, limit);
     }
     Checked::Refused {
         number: 4,
@@ -204,21 +208,22 @@ pub fn check_polygon_file(file: &[u8], limit: u32) -> Checked
 
 // The polygons of a polygon file that passes.
 pub fn polygon_count(file: &[u8]) -> usize
-    requires { ⌜ HasPairs polygonFile (fileWords (now file)) (countIn (fileWords (now file))) ⌝ }
+    requires { ⌜ Paired (now file) (countIn (fileWords (now file))) ⌝ }
     ensures { λ r. ⌜ r ≡ countIn (fileWords (now (file .entry))) ⌝ }
     ensures bound { λ r. ⌜ r ≤ 64 ⌝ }
 {
     directory_code::amount_of(directory_code::word_at(file, 0))
 }
 
-// Where polygon number i of a polygon file that passes lies.
-pub fn polygon_extent(file: &[u8], i: usize) -> Extent
-    requires { ⌜ HasPairs polygonFile (fileWords (now file)) (countIn (fileWords (now file))) × (i < countIn (fileWords (now file))) ⌝ }
-    ensures { λ r. ⌜ (r .offset ≡ offsetAt (fileWords (now (file .entry))) i) × (r .length ≡ lengthAt (fileWords (now (file .entry))) i) ⌝ }
-    ensures bound { λ r. ⌜ PairAt polygonFile (fileWords (now (file .entry))) i ⌝ }
+// Where polygon number i of a polygon file that passes and has n polygons lies.
+pub fn polygon_extent(edition: Edition, file: &[u8], n: usize, i: usize) -> Extent
+    requires { ⌜ HasPairs (polygonFile edition) (fileWords (now file)) n × (i < n) ⌝ }
+    ensures { λ r. ⌜ (r .offset ≡ offsetAt (fileWords (now (file .entry))) i) × (r .length ≡ lengthAt (polygonFile edition) (fileWords (now (file .entry))) i) ⌝ }
+    ensures bound { λ r. ⌜ PairAt (polygonFile edition) (fileWords (now (file .entry))) i ⌝ }
 {
+    let f = directory_code::polygon_format(edition);
     let offset = directory_code::amount_of(directory_code::word_at(file, 2 * i + 1));
-    let length = directory_code::amount_of(directory_code::word_at(file, 2 * i + 2));
+    let length = directory_code::amount_of(directory_code::length_read(file, f, n, i));
     Extent { offset, length }
 }
 

@@ -12,6 +12,7 @@ use Rattle.geometry.specs.declared.Checked.the-variants.{Passed, Refused}
 use Rattle.geometry.specs.Trapezoids.{layerOf}
 use Rattle.boolean.specs.Operations.{deoverlapped}
 use Rattle.boolean.specs.Space.{Stage, addition, space, deoverlappedStages}
+use Rattle.files.specs.declared.Edition.the-variants.{New}
 use Rattle.files.specs.Outcomes.{Answer}
 use Rattle.calls.specs.declared.Fractured.{Fractured}
 use Rattle.calls.specs.declared.Fractured.the-variants as fractured
@@ -21,7 +22,7 @@ use Rattle.calls.specs.Answers.{fracturedAnswer, deoverlappedAnswer}
 use Rattle.calls.specs.Rows.{plateLimit, fractureChecked, deoverlapChecked}
 use Rattle.calls.specs.Outcomes.{Outcome, observed, written, outcome, fracturedOf, fractureOutcome, deoverlapOutcome}
 use Rattle.listing.specs.Listing.{listing, refusalLine}
-use Rattle.listing.specs.Lister.{blank, printedAs, deoverlapListed, listedAs, listed}
+use Rattle.listing.specs.Lister.{blank, printedAs, deoverlapListed, listedAs, listedBy, listed}
 use Rattle.listing.proofs.Blank.{blank-length}
 use Rattle.lister.specs.Code.{Put}
 
@@ -71,19 +72,19 @@ module _ (a out scratch : List ℤ) (m : length out ≡ maxWords) (n : length sc
 
 -- ---- a polygon file fractured
 module _ (file : List ℕ) (out scratch : List ℤ) (m : length out ≡ maxWords) (n : length scratch ≡ maxWords) where
-  fracture-blank : fractureChecked plateLimit file (length out) (length scratch) ≡ fractureChecked plateLimit file (length blank) (length blank)
+  fracture-blank : fractureChecked New plateLimit file (length out) (length scratch) ≡ fractureChecked New plateLimit file (length blank) (length blank)
   fracture-blank =
-      ap (λ (k : ℕ). fractureChecked plateLimit file k (length scratch)) (m ∙ sym blank-length) ∙ ap (fractureChecked plateLimit file (length blank)) (n ∙ sym blank-length)
+      ap (λ (k : ℕ). fractureChecked New plateLimit file k (length scratch)) (m ∙ sym blank-length) ∙ ap (fractureChecked New plateLimit file (length blank)) (n ∙ sym blank-length)
 
-  fracture-listed : listedAs (fractureOutcome plateLimit file out scratch .answer) (fractureOutcome plateLimit file out scratch .out) ≡ listed file
-  unfolding fractureOutcome listed
+  fracture-listed : listedAs (fractureOutcome New plateLimit file out scratch .answer) (fractureOutcome New plateLimit file out scratch .out) ≡ listed file
+  unfolding fractureOutcome listedBy
   fracture-listed =
-      let ts = fracturedOf plateLimit file in
+      let ts = fracturedOf New plateLimit file in
       let ms = addition (length ts) ∷ [] in
-      listed-outcome ts ms (fractureChecked plateLimit file (length out) (length scratch)) out scratch m
+      listed-outcome ts ms (fractureChecked New plateLimit file (length out) (length scratch)) out scratch m
       ∙ ap (λ (c : Checked). listedAs (outcome c blank blank ts ms .answer) (outcome c blank blank ts ms .out)) fracture-blank
 
-  module _ (answer : Fractured) (o s : List ℤ) (e : observed (fracturedAnswer answer) o s ≡ fractureOutcome plateLimit file out scratch) where
+  module _ (answer : Fractured) (o s : List ℤ) (e : observed (fracturedAnswer answer) o s ≡ fractureOutcome New plateLimit file out scratch) where
     fractured-answer : listedAs (fracturedAnswer answer) o ≡ listed file
     fractured-answer = ap (λ (x : Outcome Answer). listedAs (x .answer) (x .out)) e ∙ fracture-listed
 

@@ -28,18 +28,20 @@ use Rattle.boolean.specs.Space.{Stage, Space, enough, no-room, space, addition,
 use Rattle.boolean.proofs.Deoverlapping.{deoverlapped-exact, deoverlapped-disjoint}
 use Rattle.boolean.proofs.Kept.{deoverlapped-fit}
 use Rattle.fracture.specs.Statements.{Wound}
+use Rattle.files.specs.declared.Edition.the-variants.{New}
 use Rattle.files.specs.Formats.{fileSized, fileWords, polygonFile}
 use Rattle.files.specs.Directory.{directoryOf}
 use Rattle.files.specs.Contents.{polygonsOf}
 use Rattle.files.specs.Rows.{sizeRow, directoryRows, firstOffGrid, polygonFileChecked}
 use Rattle.files.specs.Outcomes.{Answer, refused, done, isDone}
 use Rattle.calls.specs.Rows.{plateLimit, row, buffersSized, fractureChecked, deoverlapChecked}
-use Rattle.calls.specs.Outcomes.{recordsOf, roomOf, written, outcome, fracturedOf, fractureOutcome, deoverlapOutcome}
+use Rattle.calls.specs.Outcomes.{Outcome, recordsOf, roomOf, written, outcome, fracturedOf, fractureOutcome, deoverlapOutcome}
 use Rattle.calls.proofs.Success.{deoverlap-accepted}
 use Rattle.calls.proofs.Exact.{fracture-file-exact}
+use Rattle.calls.proofs.Editions.{fracture-as-before}
 use Rattle.listing.specs.Listing.{listing, layerListing, refusalLine}
-use Rattle.listing.specs.Lister.{blank, printedAs, deoverlapListed, listedAs, listed}
-use Rattle.listing.specs.Listed.{Lists, Printed, lists, refuses, ListedExact, ListedByStart}
+use Rattle.listing.specs.Lister.{blank, printedAs, deoverlapListed, listedAs, listedBy, listed}
+use Rattle.listing.specs.Listed.{Lists, Printed, lists, refuses, ListedExact, ListedByStart, ListedAsBefore}
 use Rattle.listing.proofs.Layers.{layer-listed}
 use Rattle.listing.proofs.Blank.{blank-length}
 
@@ -69,7 +71,7 @@ layer-listing a h = outcome-listed (deoverlapChecked plateLimit a (length blank)
 -- ---- the trapezoids listed
 module _ (file : List ℕ) where
   abbrev Covers : List ℤ → Type 0
-  Covers a = (P : Point) → IsPoint P → LiesInLayer P (layerOf a) ↔ Any (Wound P) (polygonsOf (fileWords file))
+  Covers a = (P : Point) → IsPoint P → LiesInLayer P (layerOf a) ↔ Any (Wound P) (polygonsOf New (fileWords file))
 
   layer-refused-text : (a : List ℤ) (number place : ℕ) → listed file ≡ deoverlapListed a → deoverlapOutcome plateLimit a blank blank .answer ≡ refused number place
       → listed file ≡ refusalLine number place
@@ -92,23 +94,23 @@ module _ (file : List ℕ) where
   layer-told a l p (done pieces cuts) e = lists (deoverlapped (layerOf a)) (layer-lists a l p (subst (λ (x : Answer). T (isDone x)) (sym e) tt))
 
   fractured : List ℤ
-  fractured = recordsOf (fractureOutcome plateLimit file blank blank .answer) (fractureOutcome plateLimit file blank blank .out)
+  fractured = recordsOf (fractureOutcome New plateLimit file blank blank .answer) (fractureOutcome New plateLimit file blank blank .out)
 
-  file-text : (x : Answer) → fractureOutcome plateLimit file blank blank .answer ≡ x → listed file ≡ listedAs x (fractureOutcome plateLimit file blank blank .out)
-  unfolding listed
-  file-text x e = ap (λ (y : Answer). listedAs y (fractureOutcome plateLimit file blank blank .out)) e
+  file-text : (x : Answer) → fractureOutcome New plateLimit file blank blank .answer ≡ x → listed file ≡ listedAs x (fractureOutcome New plateLimit file blank blank .out)
+  unfolding listedBy
+  file-text x e = ap (λ (y : Answer). listedAs y (fractureOutcome New plateLimit file blank blank .out)) e
 
-  file-told : (x : Answer) → fractureOutcome plateLimit file blank blank .answer ≡ x → Printed file
+  file-told : (x : Answer) → fractureOutcome New plateLimit file blank blank .answer ≡ x → Printed file
   file-told (refused number place) e = refuses (record { number = number; place = place; text = file-text (refused number place) e })
   file-told (done pieces cuts) e =
-      let o = fractureOutcome plateLimit file blank blank .out in
+      let o = fractureOutcome New plateLimit file blank blank .out in
       let r = recordsOf (done pieces cuts) o in
-      let h = fracture-file-exact plateLimit file blank blank (subst (λ (x : Answer). T (isDone x)) (sym e) tt) .1 in
+      let h = fracture-file-exact New plateLimit file blank blank (subst (λ (x : Answer). T (isDone x)) (sym e) tt) .1 in
       let p = subst (λ (x : Answer). Covers (recordsOf x o)) e h in
       layer-told r (file-text (done pieces cuts) e) p (deoverlapOutcome plateLimit r blank blank .answer) refl
 
 pub listed-exact : ListedExact
-listed-exact file = file-told file (fractureOutcome plateLimit file blank blank .answer) refl
+listed-exact file = file-told file (fractureOutcome New plateLimit file blank blank .answer) refl
 
 -- ---- a long file
 long-size : (n : ℕ) → 65532 < n → fileSized n ≡ false
@@ -119,16 +121,16 @@ blank-sized : buffersSized (length blank) (length blank) ≡ true
 unfolding sized
 blank-sized = ap (λ (n : ℕ). buffersSized n n) blank-length
 
-long-checked : (file : List ℕ) → 65532 < length file → fractureChecked plateLimit file (length blank) (length blank) ≡ Refused 4 0
+long-checked : (file : List ℕ) → 65532 < length file → fractureChecked New plateLimit file (length blank) (length blank) ≡ Refused 4 0
 unfolding fractureChecked polygonFileChecked
 long-checked file l =
-    let below = directoryRows (directoryOf polygonFile (fileWords file)) (firstOffGrid plateLimit 0 (polygonsOf (fileWords file))) in
-    ap (λ (b : Bool). row 1 b (polygonFileChecked plateLimit file)) blank-sized ∙ ap (λ (b : Bool). sizeRow b below) (long-size (length file) l)
+    let below = directoryRows (directoryOf (polygonFile New) (fileWords file)) (firstOffGrid plateLimit 0 (polygonsOf New (fileWords file))) in
+    ap (λ (b : Bool). row 1 b (polygonFileChecked New plateLimit file)) blank-sized ∙ ap (λ (b : Bool). sizeRow b below) (long-size (length file) l)
 
 long-listed : (file : List ℕ) → 65532 < length file → listed file ≡ refusalLine 4 0
-unfolding listed fractureOutcome
+unfolding listedBy fractureOutcome
 long-listed file l =
-    let ts = fracturedOf plateLimit file in
+    let ts = fracturedOf New plateLimit file in
     let ms = addition (length ts) ∷ [] in
     ap (λ (c : Checked). listedAs (outcome c blank blank ts ms .answer) (outcome c blank blank ts ms .out)) (long-checked file l)
 
@@ -141,3 +143,8 @@ start-listed k file l false e =
 
 pub listed-by-start : ListedByStart
 listed-by-start k file l = start-listed k file l (leb (length file) k) refl
+
+-- ---- every length present
+pub listed-as-before : ListedAsBefore
+unfolding listedBy
+listed-as-before file h = ap (λ (o : Outcome Answer). listedAs (o .answer) (o .out)) (fracture-as-before plateLimit file blank blank h)

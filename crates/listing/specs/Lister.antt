@@ -4,6 +4,8 @@ use Prim.Native.Nat.{ℕ, _*_}
 use lib.IntN.{ℤ}
 use lib.ListN.{take}
 use Rattle.records.specs.Limits.{memoryWidth, maxWords}
+use Rattle.files.specs.declared.Edition.{Edition}
+use Rattle.files.specs.declared.Edition.the-variants.{New}
 use Rattle.files.specs.Outcomes.{Answer, refused, done}
 use Rattle.calls.specs.Rows.{plateLimit}
 use Rattle.calls.specs.Outcomes.{zeros, fractureOutcome, deoverlapOutcome}
@@ -27,6 +29,10 @@ abbrev pub listedAs : Answer → List ℤ → List ℕ
 listedAs (refused number place) out = refusalLine number place
 listedAs (done pieces overlays) out = deoverlapListed (take (memoryWidth * pieces) out)
 
--- "The lister reads a sheet on standard input, cuts, disjoints, each into 512 records, and prints."
-unfoldable pub listed : List ℕ → List ℕ
-listed file = listedAs (fractureOutcome plateLimit file blank blank .answer) (fractureOutcome plateLimit file blank blank .out)
+-- "The lister reads a sheet on standard input, cuts, disjoints, each into 512 records, and prints.": of a reader of an edition
+unfoldable pub listedBy : Edition → List ℕ → List ℕ
+listedBy edition file = listedAs (fractureOutcome edition plateLimit file blank blank .answer) (fractureOutcome edition plateLimit file blank blank .out)
+
+-- "The lister takes the new edition."
+abbrev pub listed : List ℕ → List ℕ
+listed file = listedBy New file

@@ -1,12 +1,25 @@
 // The functions that C calls: each answers one 64-bit number. include/loxurfa.h says what its bits mean.
+ghost use Rattle.files.specs.declared.Edition.the-variants.{First, New};
 ghost use Rattle.calls.specs.Rows.{plateLimit};
 ghost use Rattle.calls.specs.Contracts.{FractureKeptForC, CombineKeptForC, DeoverlapKeptForC, EqualKeptForC, ContainsKeptForC, ReadKeptForC, WriteKeptForC, ComponentsKeptForC, TransistorsKeptForC};
 
 #[no_mangle]
 pub extern "C" fn loxurfa_fracture(file: &[u8], out: &mut [i32], scratch: &mut [i32]) -> u64
-    ensures { λ r. ⌜ FractureKeptForC plateLimit (now (file .entry)) (now (out .entry)) (now (scratch .entry)) r (now (out .exit)) (now (scratch .exit)) ⌝ }
+    ensures { λ r. ⌜ FractureKeptForC New plateLimit (now (file .entry)) (now (out .entry)) (now (scratch .entry)) r (now (out .exit)) (now (scratch .exit)) ⌝ }
 {
     let answer = loxurfa_files::fracture(file, out, scratch);
+    packed_code::pack_fractured(answer)
+}
+
+#[no_mangle]
+pub extern "C" fn loxurfa_fracture_first_edition(
+    file: &[u8],
+    out: &mut [i32],
+    scratch: &mut [i32],
+) -> u64
+    ensures { λ r. ⌜ FractureKeptForC First plateLimit (now (file .entry)) (now (out .entry)) (now (scratch .entry)) r (now (out .exit)) (now (scratch .exit)) ⌝ }
+{
+    let answer = loxurfa_files::fracture_first_edition(file, out, scratch);
     packed_code::pack_fractured(answer)
 }
 

@@ -1,4 +1,4 @@
--- The outcome of `fracture`, way out by way out.
+-- The outcome of `fracture` and `fracture_first_edition`, way out by way out.
 use mathlib.Core.Path.{_≡_, _∙_, subst}
 use mathlib.Core.List.{List, [], _∷_}
 use Prim.Native.Nat.{ℕ, _<_, _≤_}
@@ -11,6 +11,7 @@ use Rattle.geometry.specs.declared.Checked.the-variants.{Passed, Refused}
 use Rattle.geometry.specs.declared.Fill.{Fill}
 use Rattle.geometry.specs.declared.Fill.the-variants.{NoRoom, Written}
 use Rattle.boolean.specs.Space.{addition, enough, no-room, space}
+use Rattle.files.specs.declared.Edition.{Edition}
 use Rattle.files.specs.Outcomes.{refused, done, SmallAnswer}
 use Rattle.calls.specs.Rows.{fractureChecked}
 use Rattle.calls.specs.Outcomes.{observed, zeros, roomOf, written, fracturedOf, fractureOutcome}
@@ -25,32 +26,32 @@ space-enough : (room k : ℕ) → k ≤ room → space room (addition k ∷ []) 
 unfolding space
 space-enough room k l = rw (le-ltb room k l)
 
-module _ (L : ℕ) (file : List ℕ) (out scratch : List ℤ) where
-  pub fracture-refuses : {n p : ℕ} → fractureChecked L file (length out) (length scratch) ≡ Refused n p → observed (refused n p) out scratch ≡ fractureOutcome L file out scratch
+module _ (edition : Edition) (L : ℕ) (file : List ℕ) (out scratch : List ℤ) where
+  pub fracture-refuses : {n p : ℕ} → fractureChecked edition L file (length out) (length scratch) ≡ Refused n p → observed (refused n p) out scratch ≡ fractureOutcome edition L file out scratch
   unfolding fractureOutcome
   fracture-refuses e = rw e
 
-  fracture-written : fractureChecked L file (length out) (length scratch) ≡ Passed
-      → written (length out) (fracturedOf L file) (space (roomOf out) (addition (length (fracturedOf L file)) ∷ [])) ≡ fractureOutcome L file out scratch
+  fracture-written : fractureChecked edition L file (length out) (length scratch) ≡ Passed
+      → written (length out) (fracturedOf edition L file) (space (roomOf out) (addition (length (fracturedOf edition L file)) ∷ [])) ≡ fractureOutcome edition L file out scratch
   unfolding fractureOutcome
   fracture-written e = rw e
 
-  module _ (e : fractureChecked L file (length out) (length scratch) ≡ Passed) (f : Fill) (m : ℕ) (d s : List ℤ) (h : FilledAs m (roomOf out) (fracturedOf L file) f d) (l : m ≡ length out) (z : s ≡ zeros (length out)) where
-    filled : {g : Fill} → f ≡ g → FilledAs (length out) (roomOf out) (fracturedOf L file) g d
-    filled {g} p = subst (λ (f : Fill). FilledAs (length out) (roomOf out) (fracturedOf L file) f d) p (subst (λ (m : ℕ). FilledAs m (roomOf out) (fracturedOf L file) f d) l h)
+  module _ (e : fractureChecked edition L file (length out) (length scratch) ≡ Passed) (f : Fill) (m : ℕ) (d s : List ℤ) (h : FilledAs m (roomOf out) (fracturedOf edition L file) f d) (l : m ≡ length out) (z : s ≡ zeros (length out)) where
+    filled : {g : Fill} → f ≡ g → FilledAs (length out) (roomOf out) (fracturedOf edition L file) g d
+    filled {g} p = subst (λ (f : Fill). FilledAs (length out) (roomOf out) (fracturedOf edition L file) f d) p (subst (λ (m : ℕ). FilledAs m (roomOf out) (fracturedOf edition L file) f d) l h)
 
-    pub fracture-no-room : f ≡ NoRoom → observed (refused 12 0) d s ≡ fractureOutcome L file out scratch
+    pub fracture-no-room : f ≡ NoRoom → observed (refused 12 0) d s ≡ fractureOutcome edition L file out scratch
     fracture-no-room p =
         let k = filled p in
-        let w : observed (refused 12 0) d s ≡ written (length out) (fracturedOf L file) (space (roomOf out) (addition (length (fracturedOf L file)) ∷ []))
-        = rw (space-no-room (roomOf out) (length (fracturedOf L file)) (k .0), k .1, z) in
+        let w : observed (refused 12 0) d s ≡ written (length out) (fracturedOf edition L file) (space (roomOf out) (addition (length (fracturedOf edition L file)) ∷ []))
+        = rw (space-no-room (roomOf out) (length (fracturedOf edition L file)) (k .0), k .1, z) in
         w ∙ fracture-written e
 
-    pub fracture-done : {t : ℕ} → f ≡ Written t → observed (done t 0) d s ≡ fractureOutcome L file out scratch
+    pub fracture-done : {t : ℕ} → f ≡ Written t → observed (done t 0) d s ≡ fractureOutcome edition L file out scratch
     fracture-done {t} p =
         let k = filled p in
-        let w : observed (done t 0) d s ≡ written (length out) (fracturedOf L file) (space (roomOf out) (addition (length (fracturedOf L file)) ∷ []))
-        = rw (space-enough (roomOf out) (length (fracturedOf L file)) (k .1), k .0, k .2, z) in
+        let w : observed (done t 0) d s ≡ written (length out) (fracturedOf edition L file) (space (roomOf out) (addition (length (fracturedOf edition L file)) ∷ []))
+        = rw (space-enough (roomOf out) (length (fracturedOf edition L file)) (k .1), k .0, k .2, z) in
         w ∙ fracture-written e
 
     pub fracture-small : roomOf out ≤ maxRecords → {t : ℕ} → f ≡ Written t → SmallAnswer (done t 0)

@@ -1,20 +1,33 @@
 // The public interface, files: polygons fractured into trapezoids, and layer files, for every input.
 use calls::Fractured;
+use files::Edition;
 use files::LayersRead;
 use files::LayersWritten;
 use geometry::Checked;
 use geometry::Fill;
+ghost use Rattle.files.specs.declared.Edition.the-variants.{First, New};
 ghost use Rattle.files.specs.Outcomes.{readAnswer, writtenAnswer, SmallAnswer};
 ghost use Rattle.calls.specs.Contracts.{FractureKept, ReadKept, WriteKept};
 ghost use Rattle.calls.specs.Answers.{fracturedAnswer};
 ghost use Rattle.calls.specs.Rows.{plateLimit};
 
-// The trapezoids of the polygons of a polygon file, written to `out`. `scratch` is as long as `out`.
-pub fn fracture(file: &[u8], out: &mut [i32], scratch: &mut [i32]) -> Fractured
-    ensures { λ r. ⌜ FractureKept plateLimit (now (file .entry)) (now (out .entry)) (now (scratch .entry)) r (now (out .exit)) (now (scratch .exit)) ⌝ }
+// The trapezoids of the polygons of a polygon file of an edition, written to `out`.
+fn fracture_edition(
+    edition: Edition,
+    file: &[u8],
+    out: &mut [i32],
+    scratch: &mut [i32],
+) -> Fractured
+    ensures { λ r. ⌜ FractureKept edition plateLimit (now (file .entry)) (now (out .entry)) (now (scratch .entry)) r (now (out .exit)) (now (scratch .exit)) ⌝ }
     ensures small { λ r. ⌜ SmallAnswer (fracturedAnswer r) ⌝ }
 {
-    let checked = rows_code::fracture_checked(calls::PLATE_LIMIT, file, out.len(), scratch.len());
+    let checked = rows_code::fracture_checked(
+        edition,
+        calls::PLATE_LIMIT,
+        file,
+        out.len(),
+        scratch.len(),
+    );
     match checked {
         Checked::Refused { number, place } => {
             return Fractured::Refused { number, place };
@@ -23,7 +36,7 @@ pub fn fracture(file: &[u8], out: &mut [i32], scratch: &mut [i32]) -> Fractured
     }
     let room = out.len() / records::MEMORY_WIDTH;
     records_code::clear_both(out, scratch);
-    let f = polygons_code::fracture_file(file, calls::PLATE_LIMIT, out, room);
+    let f = polygons_code::fracture_file(edition, file, calls::PLATE_LIMIT, out, room);
     match f {
         Fill::NoRoom => {
             return Fractured::Refused {
@@ -38,6 +51,22 @@ pub fn fracture(file: &[u8], out: &mut [i32], scratch: &mut [i32]) -> Fractured
             };
         }
     }
+}
+
+// The trapezoids of the polygons of a polygon file of the new edition, written to `out`. `scratch` is as long as `out`.
+pub fn fracture(file: &[u8], out: &mut [i32], scratch: &mut [i32]) -> Fractured
+    ensures { λ r. ⌜ FractureKept New plateLimit (now (file .entry)) (now (out .entry)) (now (scratch .entry)) r (now (out .exit)) (now (scratch .exit)) ⌝ }
+    ensures small { λ r. ⌜ SmallAnswer (fracturedAnswer r) ⌝ }
+{
+    fracture_edition(Edition::New, file, out, scratch)
+}
+
+// The same of a polygon file of the first edition, which leaves no length out.
+pub fn fracture_first_edition(file: &[u8], out: &mut [i32], scratch: &mut [i32]) -> Fractured
+    ensures { λ r. ⌜ FractureKept First plateLimit (now (file .entry)) (now (out .entry)) (now (scratch .entry)) r (now (out .exit)) (now (scratch .exit)) ⌝ }
+    ensures small { λ r. ⌜ SmallAnswer (fracturedAnswer r) ⌝ }
+{
+    fracture_edition(Edition::First, file, out, scratch)
 }
 
 // The words of a layer file, written to `out`, which has any length.

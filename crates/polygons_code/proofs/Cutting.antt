@@ -14,8 +14,10 @@ use Rattle.geometry.specs.Polygons.{Polygon, PolygonOnGrid}
 use Rattle.geometry.specs.declared.Fill.{Fill}
 use Rattle.geometry.specs.declared.Fill.the-variants.{NoRoom, Written}
 use Rattle.fracture.specs.Fracture.{fracture, fractureAll}
+use Rattle.files.specs.declared.Edition.{Edition}
 use Rattle.files.specs.Formats.{fileWords, polygonFile}
-use Rattle.files.specs.Contents.{countIn, listsFrom, vertexCodec, polygonsOf}
+use Rattle.files.specs.Pairs.{countIn}
+use Rattle.files.specs.Contents.{listsFrom, vertexCodec, polygonsOf}
 use Rattle.files.specs.Rows.{polygonFileChecked}
 use Rattle.files.proofs.Pairs.{checked-pairs, lists-by-offset}
 use Rattle.files.proofs.Grid.{checked-grid}
@@ -25,59 +27,59 @@ use Rattle.files_code.specs.Code.{polygonAt}
 
 -- ---- one polygon after the other
 -- the polygons from number i on
-abbrev left : List ℤ → ℕ → List Polygon
-left ws i = listsFrom vertexCodec ws (countIn ws - i) i
+abbrev left : Edition → List ℤ → ℕ → List Polygon
+left edition ws i = listsFrom (polygonFile edition) vertexCodec ws (countIn ws - i) i
 
-left-step : (ws : List ℤ) (i : ℕ) → i < countIn ws → left ws i ≡ polygonAt ws i ∷ left ws (i + 1)
+left-step : (edition : Edition) (ws : List ℤ) (i : ℕ) → i < countIn ws → left edition ws i ≡ polygonAt edition ws i ∷ left edition ws (i + 1)
 unfolding listsFrom
-left-step ws i l = let e : countIn ws - i ≡ suc (countIn ws - (i + 1)) = omega arith in ap (λ (n : ℕ). listsFrom vertexCodec ws n i) e
+left-step edition ws i l = let e : countIn ws - i ≡ suc (countIn ws - (i + 1)) = omega arith in ap (λ (n : ℕ). listsFrom (polygonFile edition) vertexCodec ws n i) e
 
 -- the polygons before number i have been cut
-pub record Cutting (L : ℕ) (ws : List ℤ) (W room : ℕ) (out : List ℤ) (i n : ℕ) : Type 0 where
-  pub writing : Writing W room (fractureAll L (polygonsOf ws)) (fractureAll L (left ws i)) out n
-  pub grid : All (PolygonOnGrid L) (left ws i)
+pub record Cutting (edition : Edition) (L : ℕ) (ws : List ℤ) (W room : ℕ) (out : List ℤ) (i n : ℕ) : Type 0 where
+  pub writing : Writing W room (fractureAll L (polygonsOf edition ws)) (fractureAll L (left edition ws i)) out n
+  pub grid : All (PolygonOnGrid L) (left edition ws i)
   pub within : i ≤ countIn ws
 
-pub cutting-start : (L : ℕ) (bytes : List ℕ) (out : List ℤ) (room : ℕ) → polygonFileChecked L bytes ≡ Passed → Borrowed out room → Cutting L (fileWords bytes) (length out) room out 0 0
-cutting-start L bytes out room e b =
+pub cutting-start : (edition : Edition) (L : ℕ) (bytes : List ℕ) (out : List ℤ) (room : ℕ) → polygonFileChecked edition L bytes ≡ Passed → Borrowed out room → Cutting edition L (fileWords bytes) (length out) room out 0 0
+cutting-start edition L bytes out room e b =
     let ws = fileWords bytes in
     let z : countIn ws ≡ countIn ws - 0 = omega arith in
-    let s : polygonsOf ws ≡ left ws 0 = lists-by-offset Vertex polygonFile vertexCodec ws (countIn ws) refl (omega arith) (checked-pairs L bytes e) ∙ ap (λ (n : ℕ). listsFrom vertexCodec ws n 0) z in
+    let s : polygonsOf edition ws ≡ left edition ws 0 = lists-by-offset Vertex (polygonFile edition) vertexCodec ws (countIn ws) refl (omega arith) (checked-pairs edition L bytes e) ∙ ap (λ (n : ℕ). listsFrom (polygonFile edition) vertexCodec ws n 0) z in
     record {
-      writing = subst (λ (ps : List Polygon). Writing (length out) room (fractureAll L (polygonsOf ws)) (fractureAll L ps) out 0) s (write-start (fractureAll L (polygonsOf ws)) out room b);
-      grid = subst (All (PolygonOnGrid L)) s (checked-grid L bytes e);
+      writing = subst (λ (ps : List Polygon). Writing (length out) room (fractureAll L (polygonsOf edition ws)) (fractureAll L ps) out 0) s (write-start (fractureAll L (polygonsOf edition ws)) out room b);
+      grid = subst (All (PolygonOnGrid L)) s (checked-grid edition L bytes e);
       within = omega arith;
     }
 
-module _ {L : ℕ} {ws : List ℤ} {W room : ℕ} {out : List ℤ} {i n : ℕ} (h : Cutting L ws W room out i n) where
-  pub cutting-stop : countIn ws ≤ i → FilledAs W room (fractureAll L (polygonsOf ws)) (Written n) out
+module _ {edition : Edition} {L : ℕ} {ws : List ℤ} {W room : ℕ} {out : List ℤ} {i n : ℕ} (h : Cutting edition L ws W room out i n) where
+  pub cutting-stop : countIn ws ≤ i → FilledAs W room (fractureAll L (polygonsOf edition ws)) (Written n) out
   unfolding listsFrom fractureAll
   cutting-stop l =
       let z : countIn ws - i ≡ 0 = omega arith in
-      write-stop (h .writing) (ap (λ (m : ℕ). fractureAll L (listsFrom vertexCodec ws m i)) z)
+      write-stop (h .writing) (ap (λ (m : ℕ). fractureAll L (listsFrom (polygonFile edition) vertexCodec ws m i)) z)
 
   module _ (l : i < countIn ws) where
-    here : All (PolygonOnGrid L) (polygonAt ws i ∷ left ws (i + 1))
-    here = subst (All (PolygonOnGrid L)) (left-step ws i l) (h .grid)
+    here : All (PolygonOnGrid L) (polygonAt edition ws i ∷ left edition ws (i + 1))
+    here = subst (All (PolygonOnGrid L)) (left-step edition ws i l) (h .grid)
 
-    pub cutting-grid : PolygonOnGrid L (polygonAt ws i)
+    pub cutting-grid : PolygonOnGrid L (polygonAt edition ws i)
     cutting-grid = here .0
 
-    turn : fractureAll L (left ws i) ≡ fracture L (polygonAt ws i) ++ fractureAll L (left ws (i + 1))
+    turn : fractureAll L (left edition ws i) ≡ fracture L (polygonAt edition ws i) ++ fractureAll L (left edition ws (i + 1))
     unfolding fractureAll
-    turn = ap (fractureAll L) (left-step ws i l)
+    turn = ap (fractureAll L) (left-step edition ws i l)
 
-    module _ (f : Fill) (t : List ℤ) (g : FilledAs (length (tail out n)) (room - n) (fracture L (polygonAt ws i)) f t) where
-      pub cutting-full : f ≡ NoRoom → room < length (fractureAll L (polygonsOf ws))
-      cutting-full e = write-full (h .writing) (fracture L (polygonAt ws i)) (fractureAll L (left ws (i + 1))) turn f t g e
+    module _ (f : Fill) (t : List ℤ) (g : FilledAs (length (tail out n)) (room - n) (fracture L (polygonAt edition ws i)) f t) where
+      pub cutting-full : f ≡ NoRoom → room < length (fractureAll L (polygonsOf edition ws))
+      cutting-full e = write-full (h .writing) (fracture L (polygonAt edition ws i)) (fractureAll L (left edition ws (i + 1))) turn f t g e
 
       pub cutting-upto : (m : ℕ) → f ≡ Written m → n + m ≤ room
-      cutting-upto m e = write-upto (h .writing) (fracture L (polygonAt ws i)) (fractureAll L (left ws (i + 1))) turn f t g m e
+      cutting-upto m e = write-upto (h .writing) (fracture L (polygonAt edition ws i)) (fractureAll L (left edition ws (i + 1))) turn f t g m e
 
-      pub cutting-next : (m : ℕ) → f ≡ Written m → Cutting L ws W room (putMid (memoryWidth * n) (length out - memoryWidth * n) out t) (i + 1) (n + m)
+      pub cutting-next : (m : ℕ) → f ≡ Written m → Cutting edition L ws W room (putMid (memoryWidth * n) (length out - memoryWidth * n) out t) (i + 1) (n + m)
       cutting-next m e =
           record {
-            writing = write-turn (h .writing) (fracture L (polygonAt ws i)) (fractureAll L (left ws (i + 1))) turn f t g m e;
+            writing = write-turn (h .writing) (fracture L (polygonAt edition ws i)) (fractureAll L (left edition ws (i + 1))) turn f t g m e;
             grid = here .1;
             within = omega arith;
           }

@@ -1,4 +1,5 @@
 // The polygons of a polygon file, fractured one after the other (paper 01: cutting a sheet).
+use files::Edition;
 use geometry::Fill;
 ghost use mathlib.Core.Path.{_≡_};
 ghost use Prim.Native.Nat.{_≤_};
@@ -15,6 +16,7 @@ ghost use Rattle.polygons_code.specs.Code.{MayFracture};
 
 // The trapezoids of polygon number i of a polygon file that passes and has `count` polygons, written as `fracture_polygon` writes them.
 fn fracture_numbered(
+    edition: Edition,
     file: &[u8],
     count: usize,
     i: usize,
@@ -22,26 +24,33 @@ fn fracture_numbered(
     out: &mut [i32],
     room: usize,
 ) -> Fill
-    requires { ⌜ MayFracture (now file) count i limit (now out) room ⌝ }
-    ensures { λ r. ⌜ FilledAs (length (now (out .entry))) room (fracture limit (polygonAt (fileWords (now (file .entry))) i)) r (now (out .exit)) ⌝ }
+    requires { ⌜ MayFracture edition (now file) count i limit (now out) room ⌝ }
+    ensures { λ r. ⌜ FilledAs (length (now (out .entry))) room (fracture limit (polygonAt edition (fileWords (now (file .entry))) i)) r (now (out .exit)) ⌝ }
 {
-    let e = files_code::polygon_extent(file, i);
+    let e = files_code::polygon_extent(edition, file, count, i);
     let mut words = [0; 64];
     files_code::load_polygon(file, count, e.offset, e.length, &mut words);
     let end = 2 * e.length;
     fracture_code::fracture_polygon(&words[..end], limit, out, room)
 }
 
-// The trapezoids of the polygons of a file that passes, in order, written into a blank tail of which `room` records may be filled.
-pub fn fracture_file(file: &[u8], limit: u32, out: &mut [i32], room: usize) -> Fill
-    requires { ⌜ (polygonFileChecked limit (now file) ≡ Passed) × (limit ≤ coordinateLimit) × Borrowed (now out) room ⌝ }
-    ensures { λ r. ⌜ FilledAs (length (now (out .entry))) room (fractureAll limit (polygonsOf (fileWords (now (file .entry))))) r (now (out .exit)) ⌝ }
+// The trapezoids of the polygons of a file of an edition that passes, in order, written into a blank tail of which `room` records may be filled.
+pub fn fracture_file(
+    edition: Edition,
+    file: &[u8],
+    limit: u32,
+    out: &mut [i32],
+    room: usize,
+) -> Fill
+    requires { ⌜ (polygonFileChecked edition limit (now file) ≡ Passed) × (limit ≤ coordinateLimit) × Borrowed (now out) room ⌝ }
+    ensures { λ r. ⌜ FilledAs (length (now (out .entry))) room (fractureAll limit (polygonsOf edition (fileWords (now (file .entry))))) r (now (out .exit)) ⌝ }
 {
     let count = files_code::polygon_count(file);
     let mut i = 0;
     let mut n = 0;
     while i < count {
         let f = fracture_numbered(
+            edition,
             file,
             count,
             i,

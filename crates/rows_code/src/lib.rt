@@ -1,4 +1,5 @@
 // The rows that each public function checks before it does anything, under a coordinate limit.
+use files::Edition;
 use geometry::Checked;
 use integer::Int;
 ghost use mathlib.Core.Path.{_≡_};
@@ -114,12 +115,18 @@ fn both_checked(limit: u32, a: &[i32], b: &[i32]) -> Checked
     }
 }
 
-// The rows of `fracture`.
-pub fn fracture_checked(limit: u32, file: &[u8], out: usize, scratch: usize) -> Checked
-    ensures { λ r. ⌜ r ≡ fractureChecked limit (now (file .entry)) out scratch ⌝ }
+// The rows of `fracture`, or of `fracture_first_edition`.
+pub fn fracture_checked(
+    edition: Edition,
+    limit: u32,
+    file: &[u8],
+    out: usize,
+    scratch: usize,
+) -> Checked
+    ensures { λ r. ⌜ r ≡ fractureChecked edition limit (now (file .entry)) out scratch ⌝ }
 {
     if buffers_sized(out, scratch) {
-        return files_code::check_polygon_file(file, limit);
+        return files_code::check_polygon_file(edition, file, limit);
     }
     Checked::Refused {
         number: 1,

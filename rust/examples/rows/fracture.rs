@@ -4,10 +4,23 @@ use super::print;
 use super::timing::in_turn;
 use crate::reference::files::Polygon;
 use crate::reference::{self, LIMIT, LONGEST};
-use crate::support::polygons::polygon_file;
+use crate::support::files::file_bytes;
+use crate::support::polygons::{polygon_file, polygon_words};
 use crate::support::Random;
 use loxurfa::raw;
 use std::hint::black_box;
+
+type Fracture = fn(&[u8], &mut [i32], &mut [i32]) -> u64;
+
+/// A reader of polygon files: the call's name, the library's function and the Rust program's.
+type Reader = (&'static str, Fracture, Fracture);
+
+const NEW: Reader = ("fracture", raw::fracture, reference::fracture::fracture);
+const FIRST: Reader = (
+    "fracture_first_edition",
+    raw::fracture_first_edition,
+    reference::fracture::fracture_first_edition,
+);
 
 pub fn rows() {
     let random = &mut Random(1);
@@ -20,7 +33,15 @@ pub fn rows() {
         (0..number).map(|_| anywhere(count)).collect()
     };
     row("random polygons", &polygons(64, 32));
-    row("random triangles", &polygons(64, 3));
+    let triangles = polygons(64, 3);
+    row("random triangles", &triangles);
+    let mut words = polygon_words(&triangles);
+    let counts = [64, 3];
+    timed_row("random triangles", FIRST, &file_bytes(&words), counts);
+    for pair in 0..64 {
+        words[2 + 2 * pair] = 0;
+    }
+    timed_row("their lengths left out", NEW, &file_bytes(&words), counts);
     // One whose result has room.
     let fits = |polygon: &[Polygon]| {
         let trapezoids = reference::fracture::fracture_polygon(&polygon[0]);
@@ -61,18 +82,21 @@ pub fn rows() {
 }
 
 fn row(kind: &str, polygons: &[Polygon]) {
-    let file = polygon_file(polygons);
+    let counts = [polygons.len(), polygons[0].len()];
+    timed_row(kind, NEW, &polygon_file(polygons), counts);
+}
+
+fn timed_row(kind: &str, (call, library, program): Reader, file: &[u8], counts: [usize; 2]) {
     let area = || (vec![1; LONGEST], vec![1; LONGEST]);
     let ((mut out, mut scratch), (mut right, mut right_scratch)) = (area(), area());
     let timed = in_turn(
-        || raw::fracture(black_box(&file), &mut out, &mut scratch),
-        || reference::fracture::fracture(black_box(&file), &mut right, &mut right_scratch),
+        || library(black_box(file), &mut out, &mut scratch),
+        || program(black_box(file), &mut right, &mut right_scratch),
     );
     assert!(out == right && scratch == right_scratch, "they disagree");
     let result = match timed.answer >> 63 {
         0 => format!("{} trapezoids", timed.answer >> 32),
         _ => format!("refused {}", timed.answer >> 32 & 0xff),
     };
-    let counts = [polygons.len(), polygons[0].len()];
-    print(kind, "fracture", &counts, &result, &timed);
+    print(kind, call, &counts, &result, &timed);
 }

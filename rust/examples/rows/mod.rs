@@ -28,8 +28,8 @@ pub fn table() {
     println!("One overlay: A - B and B - A in turn, the result is that of both.");
     println!("contains, direct: beside a direct version, where the Rust program works out the whole result.");
     println!();
-    println!("| kind                            | call                 |        n | result         | library | Rust program | library / Rust |");
-    println!("|---------------------------------|----------------------|---------:|----------------|--------:|-------------:|---------------:|");
+    println!("| kind                            | call                   |        n | result         | library | Rust program | library / Rust |");
+    println!("|---------------------------------|------------------------|---------:|----------------|--------:|-------------:|---------------:|");
     combine::rows();
     deoverlap::rows();
     equal::rows();
@@ -44,7 +44,7 @@ pub fn table() {
 fn print(kind: &str, call: &str, n: &[usize], result: &str, timed: &Timed) {
     let n: Vec<String> = n.iter().map(usize::to_string).collect();
     println!(
-        "| {kind:<31} | {call:<20} | {:>8} | {result:<14} | {:>7} | {:>12} | {:>14} |",
+        "| {kind:<31} | {call:<22} | {:>8} | {result:<14} | {:>7} | {:>12} | {:>14} |",
         n.join(", "),
         digits(timed.library),
         digits(timed.reference),

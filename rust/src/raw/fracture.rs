@@ -10,6 +10,15 @@ mod c {
             scratch: *mut i32,
             scratch_len: usize,
         ) -> u64;
+
+        pub fn loxurfa_fracture_first_edition(
+            file: *const u8,
+            file_len: usize,
+            out: *mut i32,
+            out_len: usize,
+            scratch: *mut i32,
+            scratch_len: usize,
+        ) -> u64;
     }
 }
 
@@ -19,6 +28,21 @@ pub fn fracture(file: &[u8], out: &mut [i32], scratch: &mut [i32]) -> u64 {
     // the file and writes only within out and scratch, which overlap nothing.
     unsafe {
         c::loxurfa_fracture(
+            file.as_ptr(),
+            file.len(),
+            out.as_mut_ptr(),
+            out.len(),
+            scratch.as_mut_ptr(),
+            scratch.len(),
+        )
+    }
+}
+
+/// The same by the reader of the first edition.
+pub fn fracture_first_edition(file: &[u8], out: &mut [i32], scratch: &mut [i32]) -> u64 {
+    // SAFETY: as in `fracture`.
+    unsafe {
+        c::loxurfa_fracture_first_edition(
             file.as_ptr(),
             file.len(),
             out.as_mut_ptr(),

@@ -10,6 +10,7 @@ extern "C" {
 #endif
 
 uint64_t loxurfa_fracture(const uint8_t *file, size_t n, int32_t *out, size_t o, int32_t *scratch, size_t s);
+uint64_t loxurfa_fracture_first_edition(const uint8_t *file, size_t n, int32_t *out, size_t o, int32_t *scratch, size_t s);
 uint64_t loxurfa_combine(uint32_t code, const int32_t *a, size_t n, const int32_t *b, size_t m, int32_t *out, size_t o,
                          int32_t *scratch, size_t s);
 uint64_t loxurfa_deoverlap(const int32_t *a, size_t n, int32_t *out, size_t o, int32_t *scratch, size_t s);
@@ -26,6 +27,11 @@ uint64_t loxurfa_fracture(const uint8_t *file, size_t n, int32_t *out, size_t o,
 {
     (void)n, (void)o, (void)s;
     return aligned(file, 1) && aligned(out, 4) && aligned(scratch, 4);
+}
+
+uint64_t loxurfa_fracture_first_edition(const uint8_t *file, size_t n, int32_t *out, size_t o, int32_t *scratch, size_t s)
+{
+    return loxurfa_fracture(file, n, out, o, scratch, s);
 }
 
 uint64_t loxurfa_combine(uint32_t code, const int32_t *a, size_t n, const int32_t *b, size_t m, int32_t *out, size_t o,

@@ -59,23 +59,25 @@ static uint64_t perform(struct call *c)
     case 0:
         return loxurfa_fracture(bytes(c, 0), count(c, 0), words(c, 1), count(c, 1), words(c, 2), count(c, 2));
     case 1:
+        return loxurfa_fracture_first_edition(bytes(c, 0), count(c, 0), words(c, 1), count(c, 1), words(c, 2), count(c, 2));
+    case 2:
         return loxurfa_combine(c->code, words(c, 0), count(c, 0), words(c, 1), count(c, 1), words(c, 2), count(c, 2),
                                words(c, 3), count(c, 3));
-    case 2:
-        return loxurfa_deoverlap(words(c, 0), count(c, 0), words(c, 1), count(c, 1), words(c, 2), count(c, 2));
     case 3:
+        return loxurfa_deoverlap(words(c, 0), count(c, 0), words(c, 1), count(c, 1), words(c, 2), count(c, 2));
+    case 4:
         return loxurfa_equal(words(c, 0), count(c, 0), words(c, 1), count(c, 1), words(c, 2), count(c, 2), words(c, 3),
                              count(c, 3));
-    case 4:
-        return loxurfa_contains(c->x, c->y, c->d, words(c, 0), count(c, 0), words(c, 1), count(c, 1), c->code);
     case 5:
-        return loxurfa_components(words(c, 0), count(c, 0), numbers(c, 1), count(c, 1));
+        return loxurfa_contains(c->x, c->y, c->d, words(c, 0), count(c, 0), words(c, 1), count(c, 1), c->code);
     case 6:
+        return loxurfa_components(words(c, 0), count(c, 0), numbers(c, 1), count(c, 1));
+    case 7:
         return loxurfa_transistors(words(c, 0), count(c, 0), words(c, 1), count(c, 1), words(c, 2), count(c, 2), numbers(c, 3),
                                    count(c, 3), words(c, 4), count(c, 4), words(c, 5), count(c, 5));
-    case 7:
-        return loxurfa_read_layers(bytes(c, 0), count(c, 0), words(c, 1), count(c, 1));
     case 8:
+        return loxurfa_read_layers(bytes(c, 0), count(c, 0), words(c, 1), count(c, 1));
+    case 9:
         return loxurfa_write_layers(words(c, 0), count(c, 0), bytes(c, 1), count(c, 1));
     }
     fail("no such function");

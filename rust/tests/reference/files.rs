@@ -10,21 +10,33 @@ struct Kind {
     /// The most entries (polygons or layers).
     most: i32,
     /// The shortest and the longest entry, in units.
-    shortest: i32,
-    longest: i32,
+    shortest: i64,
+    longest: i64,
     /// The most units in all.
     total: i64,
     /// Words in a unit (a vertex or a trapezoid).
     unit: i64,
+    /// Whether 0 stands for a length that is left out.
+    left_out: bool,
 }
 
-const POLYGONS: Kind = Kind {
-    most: 64,
-    shortest: 3,
-    longest: 32,
-    total: 64 * 32,
-    unit: 2,
-};
+/// The editions of polygon files.
+#[derive(Clone, Copy, Debug, PartialEq, Eq)]
+pub enum Edition {
+    First,
+    New,
+}
+
+fn polygons(edition: Edition) -> Kind {
+    Kind {
+        most: 64,
+        shortest: 3,
+        longest: 32,
+        total: 64 * 32,
+        unit: 2,
+        left_out: edition == Edition::New,
+    }
+}
 
 const LAYERS: Kind = Kind {
     most: 16,
@@ -32,6 +44,7 @@ const LAYERS: Kind = Kind {
     longest: 512,
     total: 512,
     unit: WORDS as i64,
+    left_out: false,
 };
 
 /// The words of a file, low byte first.
@@ -56,16 +69,29 @@ fn row_5(words: &[i32], kind: &Kind) -> Result<usize, Refusal> {
     Ok(count)
 }
 
+/// The lengths of the entries as they are read: one that is left out runs to where the next entry begins,
+/// or to the last whole unit of the body.
+fn lengths_read(words: &[i32], count: usize, kind: &Kind) -> Vec<i64> {
+    let whole_units = (words.len() - 1 - 2 * count) as i64 / kind.unit;
+    let begins = |entry: usize| words[1 + 2 * entry] as i64;
+    let ends = (1..count).map(begins).chain([whole_units]);
+    let entries = (0..count).zip(ends);
+    let length = |(entry, end): (usize, i64)| match words[2 + 2 * entry] {
+        0 if kind.left_out => end - begins(entry),
+        written => written as i64,
+    };
+    entries.map(length).collect()
+}
+
 /// The lengths of the entries, in units. They fill the body.
 fn row_6(words: &[i32], count: usize, kind: &Kind) -> Result<Vec<usize>, Refusal> {
     let mut lengths = Vec::new();
     let mut so_far: i64 = 0;
-    for pair in 0..count {
+    for (pair, length) in lengths_read(words, count, kind).into_iter().enumerate() {
         let offset = words[1 + 2 * pair];
-        let length = words[2 + 2 * pair];
         let wrong = offset as i64 != so_far || !(kind.shortest..=kind.longest).contains(&length);
         refuse_if(wrong, 6, pair as u32)?;
-        so_far += length as i64;
+        so_far += length;
         refuse_if(so_far > kind.total, 6, pair as u32)?;
         lengths.push(length as usize);
     }
@@ -78,10 +104,11 @@ fn row_6(words: &[i32], count: usize, kind: &Kind) -> Result<Vec<usize>, Refusal
 pub type Polygon = Vec<[i32; 2]>;
 
 /// Rows 4 to 7: the polygons of a polygon file.
-pub fn read_polygons(file: &[u8]) -> Result<Vec<Polygon>, Refusal> {
+pub fn read_polygons(file: &[u8], edition: Edition) -> Result<Vec<Polygon>, Refusal> {
     let words = row_4(file)?;
-    let count = row_5(&words, &POLYGONS)?;
-    let lengths = row_6(&words, count, &POLYGONS)?;
+    let kind = polygons(edition);
+    let count = row_5(&words, &kind)?;
+    let lengths = row_6(&words, count, &kind)?;
     let mut vertices = words[1 + 2 * count..].chunks(2).map(|v| [v[0], v[1]]);
     let mut polygons = Vec::new();
     for length in lengths {

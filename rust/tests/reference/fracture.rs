@@ -1,6 +1,6 @@
 //! Polygons to trapezoids by nonzero winding (paper: cutting a sheet).
 
-use super::files::{read_polygons, Polygon};
+use super::files::{read_polygons, Edition, Polygon};
 use super::{
     accepted, refused, row_1, Base, Fraction, Line, Point, Trapezoid, LIMIT, NO_SPACE, WORDS,
 };
@@ -144,7 +144,15 @@ pub fn fracture_polygon(polygon: &Polygon) -> Vec<Trapezoid> {
 }
 
 pub fn fracture(file: &[u8], out: &mut [i32], scratch: &mut [i32]) -> u64 {
-    let rows = row_1(&[], out, scratch).and_then(|()| read_polygons(file));
+    fracture_edition(Edition::New, file, out, scratch)
+}
+
+pub fn fracture_first_edition(file: &[u8], out: &mut [i32], scratch: &mut [i32]) -> u64 {
+    fracture_edition(Edition::First, file, out, scratch)
+}
+
+fn fracture_edition(edition: Edition, file: &[u8], out: &mut [i32], scratch: &mut [i32]) -> u64 {
+    let rows = row_1(&[], out, scratch).and_then(|()| read_polygons(file, edition));
     let polygons = match rows {
         Err(refusal) => return refused(refusal),
         Ok(polygons) => polygons,

@@ -1,7 +1,7 @@
 //! Calls of every function, with random and damaged input.
 
 use super::cells::cells;
-use super::files::{about, damage_bytes, damage_file, file_bytes, file_words};
+use super::files::{about, damage_bytes, damage_file, file_bytes, file_words, leave_out};
 use super::polygons::{any_polygons, polygon_words};
 use super::{damage, point_near, whole_point, Random, Scene};
 use crate::reference::{self, read_layer, WORDS};
@@ -11,6 +11,7 @@ use loxurfa::raw;
 #[derive(Clone, Copy, Debug, PartialEq, Eq)]
 pub enum Function {
     Fracture,
+    FractureFirstEdition,
     Combine,
     Deoverlap,
     Equal,
@@ -24,8 +25,9 @@ pub enum Function {
 use Function::*;
 
 impl Function {
-    pub const ALL: [Function; 9] = [
+    pub const ALL: [Function; 10] = [
         Fracture,
+        FractureFirstEdition,
         Combine,
         Deoverlap,
         Equal,
@@ -48,7 +50,7 @@ impl Function {
     /// The rows of the table that may refuse it.
     pub fn rows(self) -> &'static [usize] {
         match self {
-            Fracture => &[1, 4, 5, 6, 7, 12],
+            Fracture | FractureFirstEdition => &[1, 4, 5, 6, 7, 12],
             Combine => &[1, 2, 7, 8, 9, 10, 11, 12],
             Deoverlap | Equal | Transistors => &[1, 7, 8, 9, 10, 11, 12],
             Contains => &[1, 2, 3, 7, 8, 9, 10, 11],
@@ -125,6 +127,9 @@ impl Call {
         let (code, [x, y, d]) = (self.code, self.point);
         match (self.function, borrowed) {
             (Fracture, [Bytes(f), Words(o), Words(s)]) => raw::fracture(f, o, s),
+            (FractureFirstEdition, [Bytes(f), Words(o), Words(s)]) => {
+                raw::fracture_first_edition(f, o, s)
+            }
             (Combine, [Words(a), Words(b), Words(o), Words(s)]) => raw::combine(code, a, b, o, s),
             (Deoverlap, [Words(a), Words(o), Words(s)]) => raw::deoverlap(a, o, s),
             (Equal, [Words(a), Words(b), Words(o), Words(s)]) => raw::equal(a, b, o, s),
@@ -158,6 +163,9 @@ impl Call {
         let mut buffers = self.buffers.clone();
         let answer = match (self.function, &mut buffers[..]) {
             (Fracture, [Bytes(f), Words(o), Words(s)]) => reference::fracture::fracture(f, o, s),
+            (FractureFirstEdition, [Bytes(f), Words(o), Words(s)]) => {
+                reference::fracture::fracture_first_edition(f, o, s)
+            }
             (Combine, [Words(a), Words(b), Words(o), Words(s)]) => {
                 reference::combine(code, a, b, o, s)
             }
@@ -266,10 +274,13 @@ pub fn any_call(random: &mut Random, function: Function) -> Call {
     };
     let mut point = [0, 0, 1];
     let buffers = match function {
-        Fracture => {
+        Fracture | FractureFirstEdition => {
             let mut polygons = any_polygons(random);
             polygons.truncate(6);
             let mut words = polygon_words(&polygons);
+            if random.once_in(if function == Fracture { 2 } else { 8 }) {
+                leave_out(random, &mut words);
+            }
             match random.below(8) {
                 0 | 1 => damage_file(random, &mut words, 2),
                 2 => {

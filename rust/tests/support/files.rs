@@ -50,6 +50,26 @@ fn off(random: &mut Random, right: i32) -> i32 {
     }
 }
 
+/// Leaves out lengths of a polygon file: one, all, or each in turn by chance.
+pub fn leave_out(random: &mut Random, words: &mut [i32]) {
+    let count = words[0] as usize;
+    if count == 0 {
+        return;
+    }
+    let one = random.below(count);
+    let kind = random.below(3);
+    for pair in 0..count {
+        let left_out = match kind {
+            0 => pair == one,
+            1 => true,
+            _ => random.once_in(2),
+        };
+        if left_out {
+            words[2 + 2 * pair] = 0;
+        }
+    }
+}
+
 /// Makes a file wrong in its count, pairs or number of words, mostly. A unit has `unit` words.
 pub fn damage_file(random: &mut Random, words: &mut Vec<i32>, unit: usize) {
     let count = words.first().map_or(0, |&count| count.clamp(0, 100)) as usize;

@@ -1,6 +1,7 @@
 //! Calls that write trapezoids.
 
-use crate::reference::{self, files::read_polygons, WORDS};
+use crate::reference::files::{read_polygons, Edition};
+use crate::reference::{self, WORDS};
 use loxurfa::{raw, Code, Done, Refusal};
 
 /// What a call that writes trapezoids answered, and the words of those.
@@ -47,16 +48,34 @@ pub fn deoverlapped(a: &[i32], records: usize) -> Written {
 
 /// Fractures by the library and by the reference and gives the answer and output they agree on.
 pub fn fracture(file: &[u8], before: &[i32], before_scratch: &[i32]) -> (u64, Vec<i32>) {
+    fracture_by(Edition::New, file, before, before_scratch)
+}
+
+/// The same by the reader of an edition.
+pub fn fracture_by(
+    edition: Edition,
+    file: &[u8],
+    before: &[i32],
+    before_scratch: &[i32],
+) -> (u64, Vec<i32>) {
     let (mut out, mut scratch) = (before.to_vec(), before_scratch.to_vec());
     let (mut expected, mut expected_scratch) = (out.clone(), scratch.clone());
-    let answer = raw::fracture(file, &mut out, &mut scratch);
-    let right = reference::fracture::fracture(file, &mut expected, &mut expected_scratch);
+    let (answer, right) = match edition {
+        Edition::New => (
+            raw::fracture(file, &mut out, &mut scratch),
+            reference::fracture::fracture(file, &mut expected, &mut expected_scratch),
+        ),
+        Edition::First => (
+            raw::fracture_first_edition(file, &mut out, &mut scratch),
+            reference::fracture::fracture_first_edition(file, &mut expected, &mut expected_scratch),
+        ),
+    };
     let describe = || {
         format!(
-            "output {} scratch {} file {file:?}\n{:?}",
+            "{edition:?} output {} scratch {} file {file:?}\n{:?}",
             before.len(),
             before_scratch.len(),
-            read_polygons(file)
+            read_polygons(file, edition)
         )
     };
     assert!(

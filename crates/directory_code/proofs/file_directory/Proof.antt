@@ -1,8 +1,9 @@
-use mathlib.Core.Path.{_≡_, sym, _∙_}
+use mathlib.Core.Path.{_≡_, sym, ap, _∙_}
 use native.Mathlib.Omega.{arith}
 use borrow.Author.Needs.{needs}
 use Rattle.files.specs.declared.Number.the-variants.{Outside}
 use Rattle.files.specs.Formats.{fileWords}
+use Rattle.files.specs.Pairs.{amountOf}
 use Rattle.files.proofs.Walk.{directory-empty, directory-none, directory-some, count-read, count-is}
 use Rattle.files.proofs.Reading.{length-file}
 use Rattle.directory_code.proofs.file_directory.Statement.{statement}
@@ -16,7 +17,7 @@ returns c =
 returns-2 : tie.Need-returns-2
 returns-2 c =
     let at-start = c .before .before .before .before .before .before in
-    directory-none (at-start .args .f) (fileWords (at-start .args .file .now)) (count-read (at-start .args .f) (fileWords (at-start .args .file .now)) (c .before .before .before .word-at .ensures) (length-file (at-start .args .file .now)) ∙ sym (c .before .before .count-of .ensures) ∙ (let e : c .before .before .count-of .result ≡ Outside = cc in e))
+    directory-none (at-start .args .f) (fileWords (at-start .args .file .now)) (count-read (at-start .args .f) (fileWords (at-start .args .file .now)) (c .before .before .before .word-at .ensures .0) (length-file (at-start .args .file .now)) ∙ sym (c .before .before .count-of .ensures) ∙ (let e : c .before .before .count-of .result ≡ Outside = cc in e))
 
 file-pairs-requires : tie.Need-file-pairs-requires
 file-pairs-requires c κs =
@@ -24,8 +25,8 @@ file-pairs-requires c κs =
     let at-count-of = at-c .before .before in
     let at-word-at = at-count-of .before in
     let at-start = at-word-at .before .before .before in
-    let h = count-is (at-start .args .f) (fileWords (at-start .args .file .now)) (count-read (at-start .args .f) (fileWords (at-start .args .file .now)) (at-word-at .word-at .ensures) (length-file (at-start .args .file .now)) ∙ sym (at-count-of .count-of .ensures) ∙ at-c .c .given .1) in
-    (at-start .pre, omega (arith, h .0 .high, at-start .pre .count), omega (arith, h .1, (length-file (at-start .args .file .now))))
+    let h = count-is (at-start .args .f) (fileWords (at-start .args .file .now)) (count-read (at-start .args .f) (fileWords (at-start .args .file .now)) (at-word-at .word-at .ensures .0) (length-file (at-start .args .file .now)) ∙ sym (at-count-of .count-of .ensures) ∙ at-c .c .given .1) in
+    (at-start .pre, record { is = ap amountOf (h .0 .is); few = omega (arith, h .0 .high, at-start .pre .count); complete = omega (arith, h .1, (length-file (at-start .args .file .now))) })
 
 returns-3 : tie.Need-returns-3
 returns-3 c =
@@ -33,7 +34,7 @@ returns-3 c =
     let at-count-of = at-c .before .before in
     let at-word-at = at-count-of .before in
     let at-start = at-word-at .before .before .before in
-    c .file-pairs .ensures ∙ directory-some (at-start .args .f) (fileWords (at-start .args .file .now)) (count-read (at-start .args .f) (fileWords (at-start .args .file .now)) (at-word-at .word-at .ensures) (length-file (at-start .args .file .now)) ∙ sym (at-count-of .count-of .ensures) ∙ at-c .c .given .1)
+    c .file-pairs .ensures ∙ directory-some (at-start .args .f) (fileWords (at-start .args .file .now)) (count-read (at-start .args .f) (fileWords (at-start .args .file .now)) (at-word-at .word-at .ensures .0) (length-file (at-start .args .file .now)) ∙ sym (at-count-of .count-of .ensures) ∙ at-c .c .given .1)
 
 pub file-directory-spec : {M : Type 1} → statement M
 file-directory-spec =

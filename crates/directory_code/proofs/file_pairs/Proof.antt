@@ -35,7 +35,7 @@ returns c =
     let at-loop-test = at-word-at .before in
     let at-loop = at-loop-test .before in
     let h = at-loop .loop .inv in
-    walk-wrong h (at-loop-test .loop-test .taken) (at-word-at .word-at .ensures) (c .before .before .before .word-at2 .ensures) (sym (c .before .before .pair-length .ensures) ∙ (let e : c .before .before .pair-length .result ≡ Outside = cc in e))
+    walk-wrong h (at-loop-test .loop-test .taken) (at-word-at .word-at .ensures .0) (c .before .before .before .length-read .ensures) (sym (c .before .before .pair-length .ensures) ∙ (let e : c .before .before .pair-length .result ≡ Outside = cc in e))
 
 add-total : tie.Need-add-total Inv-loop μ-loop
 add-total c =
@@ -47,16 +47,16 @@ loop-again : tie.Need-loop-again Inv-loop μ-loop
 loop-again c =
     let at-p = c .before in
     let at-pair-length = at-p .before .before in
-    let at-word-at2 = at-pair-length .before in
-    let at-word-at = at-word-at2 .before in
+    let at-length-read = at-pair-length .before in
+    let at-word-at = at-length-read .before in
     let at-loop-test = at-word-at .before in
     let at-loop = at-loop-test .before in
-    walk-turn (at-loop .loop .inv) (at-loop-test .loop-test .taken) (at-word-at .word-at .ensures) (at-word-at2 .word-at2 .ensures) (sym (at-pair-length .pair-length .ensures) ∙ at-p .p .given .1)
+    walk-turn (at-loop .loop .inv) (at-loop-test .loop-test .taken) (at-word-at .word-at .ensures .0) (at-length-read .length-read .ensures) (sym (at-pair-length .pair-length .ensures) ∙ at-p .p .given .1)
 
 end-of-requires : tie.Need-end-of-requires Inv-loop μ-loop
 end-of-requires c κs =
     let s = c .before .before .before .pre in
-    (s .0, s .1, omega (arith, c .before .loop .inv .units, s .0 .total))
+    (s .0, s .1 .few, omega (arith, c .before .loop .inv .units, s .0 .total))
 
 returns-2 : tie.Need-returns-2 Inv-loop μ-loop
 returns-2 c =
@@ -76,8 +76,6 @@ file-pairs-spec =
     (λ c. search needs)
     (λ c. search needs)
     (λ c κs. search needs)
-    (λ c. search needs)
-    (λ c. search needs)
     (λ c κs. search needs)
     pair-length-requires
     (λ c. search needs)

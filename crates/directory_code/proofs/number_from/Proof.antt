@@ -1,7 +1,7 @@
 use mathlib.Core.Path.{_≡_, sym, _∙_}
 use borrow.Author.Needs.{needs}
 use Rattle.files.specs.declared.Number.the-variants.{Outside}
-use Rattle.files.specs.Directory.{naturalOf}
+use Rattle.files.specs.Pairs.{naturalOf}
 use Rattle.files.proofs.Numbers.{no-number, too-low, too-high, in-range}
 use Rattle.directory_code.proofs.number_from.Statement.{statement}
 use Rattle.directory_code.proofs.number_from.Tie as tie

@@ -23,7 +23,7 @@ words-pairs-requires c κs =
     let at-get = at-count-of .before in
     let at-start = at-get .before .before in
     let h = count-is (at-start .args .f) (at-start .args .words .now) (count-read (at-start .args .f) (at-start .args .words .now) (at-get .get .ensures .0) refl ∙ sym (at-count-of .count-of .ensures) ∙ at-c .c .given .1) in
-    (at-start .pre, omega (arith, h .0 .high, at-start .pre .count), omega (arith, h .1, h .1))
+    (at-start .pre .0, at-start .pre .1, omega (arith, h .0 .high, at-start .pre .0 .count), omega (arith, h .1, h .1))
 
 returns-3 : tie.Need-returns-3
 returns-3 c =

@@ -4,6 +4,7 @@ use Prim.Native.Nat.{_-_}
 use native.Mathlib.Omega.{arith}
 use borrow.Author.Needs.{needs}
 use Rattle.files.specs.declared.Number.the-variants.{Outside}
+use Rattle.files.proofs.Lengths.{length-written}
 use Rattle.files.proofs.Walk.{pair}
 use Rattle.directory_code.proofs.Walking.{Walking, walk-start, walk-turn, walk-wrong, walk-end}
 use Rattle.directory_code.proofs.words_pairs.Statement.{statement}
@@ -30,7 +31,7 @@ returns c =
     let at-loop-test = at-get .before in
     let at-loop = at-loop-test .before in
     let h = at-loop .loop .inv in
-    walk-wrong h (at-loop-test .loop-test .taken) (at-get .get .ensures .0) (c .before .before .before .get2 .ensures .0) (sym (c .before .before .pair-length .ensures) ∙ (let e : c .before .before .pair-length .result ≡ Outside = cc in e))
+    walk-wrong h (at-loop-test .loop-test .taken) (at-get .get .ensures .0) (c .before .before .before .get2 .ensures .0 ∙ sym (length-written _ _ (at-loop .loop .i) (at-loop .before .pre .1))) (sym (c .before .before .pair-length .ensures) ∙ (let e : c .before .before .pair-length .result ≡ Outside = cc in e))
 
 add-total : tie.Need-add-total Inv-loop μ-loop
 add-total c =
@@ -46,12 +47,12 @@ loop-again c =
     let at-get = at-get2 .before in
     let at-loop-test = at-get .before in
     let at-loop = at-loop-test .before in
-    walk-turn (at-loop .loop .inv) (at-loop-test .loop-test .taken) (at-get .get .ensures .0) (at-get2 .get2 .ensures .0) (sym (at-pair-length .pair-length .ensures) ∙ at-p .p .given .1)
+    walk-turn (at-loop .loop .inv) (at-loop-test .loop-test .taken) (at-get .get .ensures .0) (at-get2 .get2 .ensures .0 ∙ sym (length-written _ _ (at-loop .loop .i) (at-loop .before .pre .1))) (sym (at-pair-length .pair-length .ensures) ∙ at-p .p .given .1)
 
 end-of-requires : tie.Need-end-of-requires Inv-loop μ-loop
 end-of-requires c κs =
     let s = c .before .before .pre in
-    (s .0, s .1, omega (arith, c .before .loop .inv .units, s .0 .total))
+    (s .0, s .2, omega (arith, c .before .loop .inv .units, s .0 .total))
 
 returns-2 : tie.Need-returns-2 Inv-loop μ-loop
 returns-2 c = c .end-of .ensures ∙ walk-end (c .before .before .loop .inv) (c .before .loop-test .left)

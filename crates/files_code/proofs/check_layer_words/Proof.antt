@@ -1,4 +1,4 @@
-use mathlib.Core.Path.{_≡_, sym, _∙_, ap}
+use mathlib.Core.Path.{_≡_, refl, sym, _∙_, ap}
 use Prim.Native.Nat.{_+_, _*_}
 use native.Mathlib.Omega.{arith}
 use borrow.Author.Needs.{needs}
@@ -35,7 +35,7 @@ module _ (c : tie.After-known-told2) where
       right layerWords (at-start .args .words .now) found
 
 words-directory-requires : tie.Need-words-directory-requires
-words-directory-requires c κs = rw (c .memory-format .ensures) memory-modest
+words-directory-requires c κs = rw (c .memory-format .ensures) (memory-modest, refl)
 
 mul-start : tie.Need-mul-start
 mul-start c = record { fits = omega (arith, is-right c .most) }

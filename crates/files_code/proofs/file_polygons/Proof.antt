@@ -8,7 +8,7 @@ use Rattle.files_code.proofs.file_polygons.Statement.{statement}
 use Rattle.files_code.proofs.file_polygons.Tie as tie
 
 file-directory-requires : tie.Need-file-directory-requires
-file-directory-requires c κs = rw (c .polygon-format .ensures) polygon-modest
+file-directory-requires c κs = rw (c .polygon-format .ensures) (polygon-modest (c .before .before .args .edition))
 
 polygons-on-grid-requires : tie.Need-polygons-on-grid-requires
 polygons-on-grid-requires c κs =

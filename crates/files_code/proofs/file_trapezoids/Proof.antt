@@ -1,7 +1,8 @@
 use mathlib.Core.Path.{_∙_, ap}
 use native.Mathlib.Omega.{arith}
 use borrow.Author.Needs.{needs}
-use Rattle.files.specs.Contents.{amountOf, fileCodec}
+use Rattle.files.specs.Pairs.{amountOf}
+use Rattle.files.specs.Contents.{fileCodec}
 use Rattle.files.specs.Formats.{fileWords}
 use Rattle.files.proofs.Reading.{length-file}
 use Rattle.files.proofs.Bounds.{units-count}
@@ -11,25 +12,25 @@ use Rattle.files_code.proofs.file_trapezoids.Tie as tie
 mul-start : tie.Need-mul-start
 mul-start c =
     let at-start = c .before .before .before in
-    let e = c .amount-of .ensures ∙ ap amountOf (c .before .word-at .ensures) in
+    let e = c .amount-of .ensures ∙ ap amountOf (c .before .word-at .ensures .0) in
     record { fits = omega (arith, e, at-start .pre .0) }
 
 add-start : tie.Need-add-start
 add-start c =
     let at-start = c .before .before .before in
-    let e = c .amount-of .ensures ∙ ap amountOf (c .before .word-at .ensures) in
+    let e = c .amount-of .ensures ∙ ap amountOf (c .before .word-at .ensures .0) in
     record { fits = omega (arith, e, at-start .pre .0) }
 
 sub-result : tie.Need-sub-result
 sub-result c =
     let at-start = c .before .before .before in
-    let e = c .amount-of .ensures ∙ ap amountOf (c .before .word-at .ensures) in
+    let e = c .amount-of .ensures ∙ ap amountOf (c .before .word-at .ensures .0) in
     omega (arith, e, at-start .pre .1)
 
 returns : tie.Need-returns
 returns c =
     let at-start = c .before .before .before in
-    let e = c .amount-of .ensures ∙ ap amountOf (c .before .word-at .ensures) in
+    let e = c .amount-of .ensures ∙ ap amountOf (c .before .word-at .ensures .0) in
     units-count fileCodec (fileWords (at-start .args .file .now)) (length-file (at-start .args .file .now)) e
 
 pub file-trapezoids-spec : {M : Type 1} → statement M

@@ -13,7 +13,7 @@ returns c =
     let at-word-at = at-within .before in
     let at-start = at-word-at .before .before in
     let s = at-start .args in
-    c .within2 .ensures ∙ vertex-by (s .limit) (fileWords (s .body .now)) (s .i) (at-word-at .word-at .ensures) (sym (at-within .within .ensures) ∙ at-if1 .if1 .taken) (at-word-at2 .word-at2 .ensures)
+    c .within2 .ensures ∙ vertex-by (s .limit) (fileWords (s .body .now)) (s .i) (at-word-at .word-at .ensures .0) (sym (at-within .within .ensures) ∙ at-if1 .if1 .taken) (at-word-at2 .word-at2 .ensures .0)
 
 returns-2 : tie.Need-returns-2
 returns-2 c =
@@ -21,7 +21,7 @@ returns-2 c =
     let at-word-at = at-within .before in
     let at-start = at-word-at .before .before in
     let s = at-start .args in
-    vertex-off (s .limit) (fileWords (s .body .now)) (s .i) (at-word-at .word-at .ensures) (sym (at-within .within .ensures) ∙ c .if1 .left)
+    vertex-off (s .limit) (fileWords (s .body .now)) (s .i) (at-word-at .word-at .ensures .0) (sym (at-within .within .ensures) ∙ c .if1 .left)
 
 pub vertex-on-grid-spec : {M : Type 1} → statement M
 vertex-on-grid-spec =

@@ -2,7 +2,7 @@ use mathlib.Core.Path.{refl, _∙_, ap}
 use native.Mathlib.Omega.{arith}
 use borrow.Author.Needs.{needs}
 use Rattle.geometry.specs.Trapezoids.{trapezoidCodec}
-use Rattle.files.specs.Contents.{amountOf}
+use Rattle.files.specs.Pairs.{amountOf}
 use Rattle.files.proofs.Bounds.{units-count}
 use Rattle.files_code.proofs.words_trapezoids.Statement.{statement}
 use Rattle.files_code.proofs.words_trapezoids.Tie as tie

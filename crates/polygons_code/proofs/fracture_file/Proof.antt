@@ -1,5 +1,5 @@
 -- Before turn i: `out` holds the n trapezoids of the polygons before number i, and the polygons from number i on are on the grid.
-use mathlib.Core.Path.{_≡_, _∙_}
+use mathlib.Core.Path.{_≡_, sym, _∙_, subst}
 use Prim.Native.Nat.{_*_, _-_, _<_}
 use native.Mathlib.Omega.{arith}
 use lib.ListN.{length}
@@ -8,43 +8,45 @@ use borrow.Author.Needs.{needs}
 use borrow.Rule.Slice.PartMut.{putMid, same-len-mid}
 use Rattle.records.specs.Limits.{memoryWidth}
 use Rattle.records.proofs.Buffer.{blank-of}
-use Rattle.files.specs.Contents.{countIn}
-use Rattle.files.specs.Formats.{fileWords}
+use Rattle.files.specs.Pairs.{countIn}
+use Rattle.files.specs.Formats.{fileWords, polygonFile}
+use Rattle.files.specs.Directory.{HasPairs}
 use Rattle.files.proofs.Pairs.{checked-pairs}
+use Rattle.directory_code.proofs.Finding.{paired}
 use Rattle.trapezoids_code.proofs.Writing.{write-borrowed}
 use Rattle.polygons_code.proofs.Cutting.{Cutting, cutting-start, cutting-stop, cutting-grid, cutting-full, cutting-upto, cutting-next}
 use Rattle.polygons_code.proofs.fracture_file.Statement.{statement}
 use Rattle.polygons_code.proofs.fracture_file.Tie as tie
 
 abbrev Inv-loop : tie.InvT-loop
-Inv-loop file limit out₀ room count i₀ n₀ out i n = Cutting limit (fileWords file) (length out₀) room out i n
+Inv-loop edition file limit out₀ room count i₀ n₀ out i n = Cutting edition limit (fileWords file) (length out₀) room out i n
 
 abbrev μ-loop : tie.MeasureT-loop
-μ-loop file limit out₀ room count i₀ n₀ out i n = count - i
+μ-loop edition file limit out₀ room count i₀ n₀ out i n = count - i
 
 polygon-count-requires : tie.Need-polygon-count-requires Inv-loop μ-loop
 polygon-count-requires c κs =
     let at-start = c .before in
-    checked-pairs (at-start .args .limit) (at-start .args .file .now) (at-start .pre .0)
+    paired (at-start .args .file .now) (omega arith) (checked-pairs (at-start .args .edition) (at-start .args .limit) (at-start .args .file .now) (at-start .pre .0))
 
 loop-holds : tie.Need-loop-holds Inv-loop μ-loop
 loop-holds c =
     let at-start = c .before .before in
-    cutting-start (at-start .args .limit) (at-start .args .file .now) (at-start .args .out .now) (at-start .args .room) (at-start .pre .0) (at-start .pre .2)
+    cutting-start (at-start .args .edition) (at-start .args .limit) (at-start .args .file .now) (at-start .args .out .now) (at-start .args .room) (at-start .pre .0) (at-start .pre .2)
 
 mul-fracture-numbered : tie.Need-mul-fracture-numbered Inv-loop μ-loop
 mul-fracture-numbered c =
     let at-loop = c .before in
     let at-start = at-loop .before .before .before in
     let h = at-loop .loop .inv .writing in
-    omega (arith, h .long, h .wide, h .upto, at-start .good .1 .1 .0)
+    omega (arith, h .long, h .wide, h .upto, at-start .good .1 .1 .1 .0)
 
 mul-fracture-numbered-2 : tie.Need-mul-fracture-numbered-2 Inv-loop μ-loop
 mul-fracture-numbered-2 c =
     let at-loop = c .before in
     let at-start = at-loop .before .before .before in
     let h = at-loop .loop .inv .writing in
-    omega (arith, h .long, h .wide, h .upto, at-start .good .1 .1 .0)
+    omega (arith, h .long, h .wide, h .upto, at-start .good .1 .1 .1 .0)
 
 sub-fracture-numbered : tie.Need-sub-fracture-numbered Inv-loop μ-loop
 sub-fracture-numbered c = let h = c .before .loop .inv .writing in omega (arith, h .long, h .wide, h .upto)
@@ -61,15 +63,20 @@ fracture-numbered-requires c κs =
     let at-loop = at-loop-test .before in
     let at-polygon-count = at-loop .before in
     let at-start = at-polygon-count .before .before in
-    let less : at-loop .loop .i < countIn (fileWords (at-start .args .file .now)) = omega (arith, at-loop-test .loop-test .taken, at-polygon-count .polygon-count .ensures .0) in
-    (checked-pairs (at-start .args .limit) (at-start .args .file .now) (at-start .pre .0), at-polygon-count .polygon-count .ensures .0, less, cutting-grid (at-loop .loop .inv) less, at-start .pre .1, write-borrowed (at-loop .loop .inv .writing))
+    let less : at-loop .loop .i < countIn (fileWords (at-start .args .file .now)) = omega (arith, at-loop-test .loop-test .taken, at-polygon-count .polygon-count .ensures .0) in (
+      subst (HasPairs (polygonFile (at-start .args .edition)) (fileWords (at-start .args .file .now))) (sym (at-polygon-count .polygon-count .ensures .0)) (checked-pairs (at-start .args .edition) (at-start .args .limit) (at-start .args .file .now) (at-start .pre .0)),
+      at-loop-test .loop-test .taken,
+      cutting-grid (at-loop .loop .inv) less,
+      at-start .pre .1,
+      write-borrowed (at-loop .loop .inv .writing),
+    )
 
 same-length : tie.Need-same-length Inv-loop μ-loop
 same-length c =
     let at-clear = c .before in
     let at-fracture-numbered = at-clear .before .before .before .before .before in
     let at-loop = at-fracture-numbered .before .before .before in
-    at-clear .clear .kept .0 ∙ same-len-mid (memoryWidth * at-loop .loop .n) (length (at-loop .loop .out) - memoryWidth * at-loop .loop .n) (at-loop .loop .out) (at-fracture-numbered .fracture-numbered .last .1 .1 .1 .1 .0) (at-fracture-numbered .fracture-numbered .kept .1 .1 .1 .1 .0) ∙ at-loop .loop .inv .writing .long
+    at-clear .clear .kept .0 ∙ same-len-mid (memoryWidth * at-loop .loop .n) (length (at-loop .loop .out) - memoryWidth * at-loop .loop .n) (at-loop .loop .out) (at-fracture-numbered .fracture-numbered .last .1 .1 .1 .1 .1 .0) (at-fracture-numbered .fracture-numbered .kept .1 .1 .1 .1 .1 .0) ∙ at-loop .loop .inv .writing .long
 
 returns : tie.Need-returns Inv-loop μ-loop
 returns c =
@@ -82,7 +89,7 @@ returns c =
     let at-start = at-polygon-count .before .before in
     let less : at-loop .loop .i < countIn (fileWords (at-start .args .file .now)) = omega (arith, at-loop-test .loop-test .taken, at-polygon-count .polygon-count .ensures .0) in
     let n : length (at-clear .clear .last .0) ≡ length (at-start .args .out .now) = same-length c in
-    let z = blank-of (pos 0) (at-clear .clear .last .0) (length (putMid (memoryWidth * at-loop .loop .n) (length (at-loop .loop .out) - memoryWidth * at-loop .loop .n) (at-loop .loop .out) (at-fracture-numbered .fracture-numbered .last .1 .1 .1 .1 .0))) (at-clear .clear .ensures) in
+    let z = blank-of (pos 0) (at-clear .clear .last .0) (length (putMid (memoryWidth * at-loop .loop .n) (length (at-loop .loop .out) - memoryWidth * at-loop .loop .n) (at-loop .loop .out) (at-fracture-numbered .fracture-numbered .last .1 .1 .1 .1 .1 .0))) (at-clear .clear .ensures) in
     (cutting-full (at-loop .loop .inv) less _ _ (at-fracture-numbered .fracture-numbered .ensures) (at-enum-told .enum-told .given .1), rw (← n) z)
 
 add-n : tie.Need-add-n Inv-loop μ-loop
@@ -95,7 +102,7 @@ add-n c =
     let at-start = at-polygon-count .before .before in
     let less : at-loop .loop .i < countIn (fileWords (at-start .args .file .now)) = omega (arith, at-loop-test .loop-test .taken, at-polygon-count .polygon-count .ensures .0) in
     let e = cutting-upto (at-loop .loop .inv) less _ _ (at-fracture-numbered .fracture-numbered .ensures) _ (at-f .f .given .1) in
-    omega (arith, e, at-loop .loop .inv .writing .wide, at-start .good .1 .1 .0)
+    omega (arith, e, at-loop .loop .inv .writing .wide, at-start .good .1 .1 .1 .0)
 
 add-i : tie.Need-add-i Inv-loop μ-loop
 add-i c =

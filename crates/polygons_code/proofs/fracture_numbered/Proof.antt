@@ -9,6 +9,7 @@ use Rattle.fracture.specs.Fracture.{fracture}
 use Rattle.files.specs.Formats.{fileWords}
 use Rattle.geometry_code.specs.Polygons.{polygonOf}
 use Rattle.trapezoids_code.specs.Tails.{FilledAs}
+use Rattle.directory_code.proofs.Finding.{paired}
 use Rattle.files_code.specs.Code.{polygonAt}
 use Rattle.files_code.proofs.Loading.{loaded-is}
 use Rattle.polygons_code.proofs.fracture_numbered.Statement.{statement}
@@ -19,13 +20,13 @@ module _ (c : tie.After-load-polygon) where
   loaded :
       let at-polygon-extent = c .before .before in
       let at-start = at-polygon-extent .before .before in
-      polygonOf (take (2 * at-polygon-extent .polygon-extent .result .length) (c .load-polygon .last .1 .1 .1 .1 .0)) ≡ polygonAt (fileWords (at-start .args .file .now)) (at-start .args .i)
+      polygonOf (take (2 * at-polygon-extent .polygon-extent .result .length) (c .load-polygon .last .1 .1 .1 .1 .0)) ≡ polygonAt (at-start .args .edition) (fileWords (at-start .args .file .now)) (at-start .args .i)
   loaded =
       let at-polygon-extent = c .before .before in
       let at-start = at-polygon-extent .before .before in
       let s = at-start .args in
       let e = at-polygon-extent .polygon-extent .ensures in
-      loaded-is (fileWords (s .file .now)) (s .i) (e .0 .0) (e .0 .1) (c .load-polygon .ensures)
+      loaded-is (s .edition) (fileWords (s .file .now)) (s .i) (e .0 .0) (e .0 .1) (c .load-polygon .ensures)
 
   loaded-length : length (take (2 * c .before .before .polygon-extent .result .length) (c .load-polygon .last .1 .1 .1 .1 .0)) ≡ 2 * c .before .before .polygon-extent .result .length
   loaded-length =
@@ -35,14 +36,14 @@ module _ (c : tie.After-load-polygon) where
 polygon-extent-requires : tie.Need-polygon-extent-requires
 polygon-extent-requires c κs =
     let at-start = c .before in
-    (at-start .pre .0, at-start .pre .2)
+    (at-start .pre .0, at-start .pre .1)
 
 load-polygon-requires : tie.Need-load-polygon-requires
 load-polygon-requires c κs =
     let at-start = c .before .before .before in
     let e = c .before .polygon-extent .ensures in
     let p = e .1 in
-    (at-start .pre .0, at-start .pre .1, omega (arith, e .0 .0, e .0 .1, p .small), omega (arith, e .0 .0, e .0 .1, p .inside), omega (arith, e .0 .1, p .most))
+    (paired (at-start .args .file .now) (omega arith) (at-start .pre .0), omega (arith, e .0 .0, e .0 .1, p .small), omega (arith, e .0 .0, e .0 .1, p .inside), omega (arith, e .0 .1, p .most))
 
 mul-end : tie.Need-mul-end
 mul-end c =
@@ -63,7 +64,7 @@ fracture-polygon-requires c κs =
     let at-polygon-extent = at-load-polygon .before .before in
     let at-start = at-polygon-extent .before .before in
     let e = at-polygon-extent .polygon-extent .ensures in
-    (subst (PolygonOnGrid (at-start .args .limit)) (sym (loaded at-load-polygon)) (at-start .pre .3), at-start .pre .4, omega (arith, loaded-length at-load-polygon, e .0 .1, e .1 .most), at-start .pre .5)
+    (subst (PolygonOnGrid (at-start .args .limit)) (sym (loaded at-load-polygon)) (at-start .pre .2), at-start .pre .3, omega (arith, loaded-length at-load-polygon, e .0 .1, e .1 .most), at-start .pre .4)
 
 returns : tie.Need-returns
 returns c =

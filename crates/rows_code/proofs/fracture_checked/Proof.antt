@@ -10,12 +10,12 @@ returns c =
     let at-buffers-sized = at-if1 .before in
     let at-start = at-buffers-sized .before .before in
     let s = at-start .args in
-    c .check-polygon-file .ensures ∙ fracture-rows (s .limit) (s .file .now) (s .out) (s .scratch) (sym (at-buffers-sized .buffers-sized .ensures) ∙ at-if1 .if1 .taken)
+    c .check-polygon-file .ensures ∙ fracture-rows (s .edition) (s .limit) (s .file .now) (s .out) (s .scratch) (sym (at-buffers-sized .buffers-sized .ensures) ∙ at-if1 .if1 .taken)
 
 returns-2 : tie.Need-returns-2
 returns-2 c =
     let s = c .before .before .before .args in
-    fracture-lengths (s .limit) (s .file .now) (s .out) (s .scratch) (sym (c .before .buffers-sized .ensures) ∙ c .if1 .left)
+    fracture-lengths (s .edition) (s .limit) (s .file .now) (s .out) (s .scratch) (sym (c .before .buffers-sized .ensures) ∙ c .if1 .left)
 
 pub fracture-checked-spec : {M : Type 1} → statement M
 fracture-checked-spec =

@@ -8,20 +8,22 @@ use Rattle.calls.proofs.Fracturing.{FractureReady, fracture-ready, fracture-ref
 use Rattle.calls.proofs.Checks.{plate-carried}
 use Rattle.rows_code.proofs.Cleared.{small-refused, cleared-length, cleared-borrowed, no-room-small}
 use Rattle.loxurfa_files.proofs.Fracturing.{fracture-refuses, fracture-no-room, fracture-done, fracture-small}
-use Rattle.loxurfa_files.proofs.fracture.Statement.{statement}
-use Rattle.loxurfa_files.proofs.fracture.Tie as tie
+use Rattle.loxurfa_files.proofs.fracture_edition.Statement.{statement}
+use Rattle.loxurfa_files.proofs.fracture_edition.Tie as tie
 
 -- the rows let the call pass
 module _ (c : tie.After-enum-told) where
   passed :
       let at-start = c .before .before .before .before in
-      fractureChecked plateLimit (at-start .args .file .now) (length (at-start .args .out .now)) (length (at-start .args .scratch .now)) ≡ Passed
+      fractureChecked (at-start .args .edition) plateLimit (at-start .args .file .now) (length (at-start .args .out .now)) (length (at-start .args .scratch .now)) ≡ Passed
   passed = sym (c .before .before .fracture-checked .ensures) ∙ c .enum-told .given .1
 
   ready :
       let at-start = c .before .before .before .before in
-      FractureReady plateLimit (at-start .args .file .now) (length (at-start .args .out .now)) (length (at-start .args .scratch .now))
-  ready = fracture-ready plateLimit _ _ _ passed
+      FractureReady (at-start .args .edition) plateLimit (at-start .args .file .now) (length (at-start .args .out .now)) (length (at-start .args .scratch .now))
+  ready =
+      let at-start = c .before .before .before .before in
+      fracture-ready (at-start .args .edition) plateLimit _ _ _ passed
 
 -- the scratch area is blank
 module _ (c : tie.After-fracture-file) where
@@ -41,7 +43,7 @@ returns c =
     let at-start = at-fracture-checked .before .before in
     let s = at-start .args in
     let e = sym (at-fracture-checked .fracture-checked .ensures) ∙ at-checked .checked .given .1 in
-    (fracture-refuses plateLimit (s .file .now) (s .out .now) (s .scratch .now) e, small-refused e (fracture-refused plateLimit (s .file .now) (length (s .out .now)) (length (s .scratch .now))))
+    (fracture-refuses (s .edition) plateLimit (s .file .now) (s .out .now) (s .scratch .now) e, small-refused e (fracture-refused (s .edition) plateLimit (s .file .now) (length (s .out .now)) (length (s .scratch .now))))
 
 fracture-file-requires : tie.Need-fracture-file-requires
 fracture-file-requires c κs =
@@ -62,7 +64,7 @@ returns-2 c =
     let z = at-clear-both .clear-both in
     let f = at-fracture-file .fracture-file in
     let m = cleared-length (z .last .0) (length (s .out .now)) (z .ensures .0) in
-    (fracture-no-room plateLimit (s .file .now) (s .out .now) (s .scratch .now) (passed at-enum-told) (f .result) (length (z .last .0)) (f .last .1 .1 .0) (z .last .1 .0) (f .ensures) m (blanked at-fracture-file) (c .enum-told2 .given .1), no-room-small)
+    (fracture-no-room (s .edition) plateLimit (s .file .now) (s .out .now) (s .scratch .now) (passed at-enum-told) (f .result) (length (z .last .0)) (f .last .1 .1 .1 .0) (z .last .1 .0) (f .ensures) m (blanked at-fracture-file) (c .enum-told2 .given .1), no-room-small)
 
 returns-3 : tie.Need-returns-3
 returns-3 c =
@@ -76,12 +78,12 @@ returns-3 c =
     let f = at-fracture-file .fracture-file in
     let m = cleared-length (z .last .0) (length (s .out .now)) (z .ensures .0) in
     let e = at-f .f .given .1 in (
-      fracture-done plateLimit (s .file .now) (s .out .now) (s .scratch .now) (passed at-enum-told) (f .result) (length (z .last .0)) (f .last .1 .1 .0) (z .last .1 .0) (f .ensures) m (blanked at-fracture-file) e,
-      fracture-small plateLimit (s .file .now) (s .out .now) (s .scratch .now) (passed at-enum-told) (f .result) (length (z .last .0)) (f .last .1 .1 .0) (z .last .1 .0) (f .ensures) m (blanked at-fracture-file) (ready at-enum-told .buffers .few) e,
+      fracture-done (s .edition) plateLimit (s .file .now) (s .out .now) (s .scratch .now) (passed at-enum-told) (f .result) (length (z .last .0)) (f .last .1 .1 .1 .0) (z .last .1 .0) (f .ensures) m (blanked at-fracture-file) e,
+      fracture-small (s .edition) plateLimit (s .file .now) (s .out .now) (s .scratch .now) (passed at-enum-told) (f .result) (length (z .last .0)) (f .last .1 .1 .1 .0) (z .last .1 .0) (f .ensures) m (blanked at-fracture-file) (ready at-enum-told .buffers .few) e,
     )
 
-pub fracture-spec : {M : Type 1} → statement M
-fracture-spec =
+pub fracture-edition-spec : {M : Type 1} → statement M
+fracture-edition-spec =
     tie.close
     (tie.spec
     (λ c κs. search needs)
