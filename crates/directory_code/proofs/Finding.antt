@@ -3,11 +3,13 @@ use mathlib.Core.Path.{_≡_, sym, ap, _∙_}
 use mathlib.Core.Bool.{true, false}
 use mathlib.Core.List.{List}
 use Prim.Native.Nat.{ℕ, _+_, _*_, _-_, _/_, _<_, _≤_}
-use native.Mathlib.Nat.{div-le-self}
+use native.Mathlib.Nat.{lt-of-le-of-lt, div-le-self}
 use native.Mathlib.Omega.{arith}
 use lib.IntN.{ℤ, pos, natAbs}
 use lib.ListN.{length}
-use Rattle.integer.specs.Integer.{_⊖_, limit32}
+use mir.Syntax.{w64}
+use mir.Val.{SFits}
+use Rattle.integer.specs.Integer.{_⊖_, limit32, limit64}
 use Rattle.files.specs.declared.Format.{Format}
 use Rattle.files.specs.declared.Number.the-variants.{Of, Outside}
 use Rattle.files.specs.Formats.{fileWords, wordAt}
@@ -22,11 +24,15 @@ use Rattle.directory_code.specs.Code.{Paired}
 pub paired : {f : Format} (bs : List ℕ) {n : ℕ} → f .count ≤ 64 → HasPairs f (fileWords bs) n → Paired bs n
 paired {f} bs l h = let r = right f (fileWords bs) (h .is) in record { is = count-in r; few = omega (arith, r .most); complete = in-file bs r }
 
+-- units as a signed word
+pub units-fit : (words unit : ℕ) → words < limit64 → SFits w64 (pos (words / unit))
+units-fit words unit l = record { sfits = lt-of-le-of-lt (div-le-self words unit) l }
+
 module _ (f : Format) {bs : List ℕ} {n : ℕ} (h : Paired bs n) (i : ℕ) where
   abbrev units : ℕ
   units = (length bs / 4 - (2 * n + 1)) / f .unit
 
-  pub units-small : units ≤ length bs / 4
+  units-small : units ≤ length bs / 4
   units-small = let l = div-le-self (length bs / 4 - (2 * n + 1)) (f .unit) in omega arith
 
   -- the next offset was read, or the units of the body were counted

@@ -1,8 +1,8 @@
 use mathlib.Core.Path.{_∙_}
 use native.Mathlib.Omega.{arith}
 use mir.Facts.{toZ-ofZ}
-use borrow.Author.Needs.{needs, sfits-of}
-use Rattle.directory_code.proofs.Finding.{units-small, next-read, end-counted}
+use borrow.Author.Needs.{needs}
+use Rattle.directory_code.proofs.Finding.{units-fit, next-read, end-counted}
 use Rattle.directory_code.proofs.next_offset.Statement.{statement}
 use Rattle.directory_code.proofs.next_offset.Tie as tie
 
@@ -14,7 +14,7 @@ returns c =
 cast-of : tie.Need-cast-of
 cast-of c =
     let at-start = c .before .before .before in
-    record { sfits = omega (arith, units-small (at-start .args .f) (at-start .pre .1) (at-start .args .i), at-start .good .0 .1) }
+    units-fit _ _ (omega (arith, at-start .good .0 .1))
 
 returns-2 : tie.Need-returns-2
 returns-2 c =
