@@ -379,7 +379,7 @@ fn every_place(edition: Edition, left_out: bool) {
             }
         }
     }
-    // With its lengths left out no file gets past the older reader's row 6, but for the empty one.
+    // One word is changed at a time, so that the older reader meets a length 0 before any coordinate.
     if edition == Edition::First && left_out {
         met.assert_refusals("fracture", &[4, 5, 6], 1, 1);
         return;
