@@ -515,6 +515,7 @@ fn lister_example() {
 #[test]
 fn lister_texts() {
     let random = &mut Random(34);
+    let left_out = &mut Random(39);
     let rounds = rounds(2);
     let (mut listed, mut no_space, mut refused) = (0, 0, 0);
     for _ in 0..rounds {
@@ -524,8 +525,8 @@ fn lister_texts() {
             continue;
         }
         let mut words = polygon_words(&polygons);
-        if random.once_in(4) {
-            leave_out(random, &mut words);
+        if left_out.once_in(4) {
+            leave_out(left_out, &mut words);
         }
         if random.once_in(10) {
             damage_file(random, &mut words, 2);
