@@ -109,9 +109,10 @@ uint64_t loxurfa_equal(const int32_t *a, size_t a_words, const int32_t *b, size_
 uint64_t loxurfa_contains(int32_t x, int32_t y, int32_t d, const int32_t *a, size_t a_words,
                           const int32_t *b, size_t b_words, uint32_t code);
 
-/* The connected components of a. Two trapezoids touch if their closed forms, edges and corners included, share a point; two are in
- * one component if a chain of trapezoids leads from the one to the other in which each touches the next. `numbers` has one entry for
- * each trapezoid, and gets the lowest number of a trapezoid of its component, counted from 0. Value: the number of components. */
+/* The connected components of a. Two trapezoids touch if their closed forms, edges and corners included, share at least two
+ * different points: part of an edge is enough, one corner is not. Two are in one component if a chain of trapezoids leads from the
+ * one to the other in which each touches the next. `numbers` has one entry for each trapezoid, and gets the lowest number of a
+ * trapezoid of its component, counted from 0. Value: the number of components. */
 uint64_t loxurfa_components(const int32_t *a, size_t a_words, uint32_t *numbers, size_t numbers_count);
 
 /* The transistors of three layers. The shapes of a layer are its connected components, as loxurfa_components numbers them. A shape

@@ -318,14 +318,15 @@ fn space_of_transistors() {
     assert_eq!(into(two, 1, 5), refusal(refused::SPACE, 0));
 }
 
-/// One corner in common.
+/// What docs/CALLS.md says of touching: one corner in common is not enough, part of an edge is.
 #[test]
-fn touching_at_a_corner() {
-    let two = [rectangle(0, 1, 0, 1), rectangle(1, 2, 1, 2)].concat();
+fn touching_by_more_than_a_corner() {
+    let q = || rectangle(0, 4, 0, 4);
     let mut numbers = [7; 2];
-    assert_eq!(loxurfa::components(&two, &mut numbers), Ok(1));
-    assert_eq!(numbers, [0, 0]);
-    let apart = [rectangle(0, 1, 0, 1), rectangle(2, 3, 2, 3)].concat();
-    assert_eq!(loxurfa::components(&apart, &mut numbers), Ok(2));
+    let corner = [q(), rectangle(4, 8, 4, 8)].concat();
+    assert_eq!(loxurfa::components(&corner, &mut numbers), Ok(2));
     assert_eq!(numbers, [0, 1]);
+    let edge = [q(), rectangle(4, 8, 3, 8)].concat();
+    assert_eq!(loxurfa::components(&edge, &mut numbers), Ok(1));
+    assert_eq!(numbers, [0, 0]);
 }

@@ -38,9 +38,10 @@ fn count(components: u64) -> u64 {
     components << 32
 }
 
-/// Whether two closed trapezoids share a corner of one of them or a point where their boundaries
-/// cross. Convex forms that share a point share one of these.
-fn share_a_corner(a: &Trapezoid, b: &Trapezoid) -> bool {
+/// How many different points two closed trapezoids share of these: the corners of both, and where their
+/// boundaries cross. The corners of what they share are all among them, and as they are convex it has
+/// none if they share no point, one if they share one, and else more.
+fn shared_corners(a: &Trapezoid, b: &Trapezoid) -> usize {
     let mut points = Vec::new();
     for base in [a.left, a.right, b.left, b.right] {
         for side in [a.bottom, a.top, b.bottom, b.top] {
@@ -60,9 +61,10 @@ fn share_a_corner(a: &Trapezoid, b: &Trapezoid) -> bool {
             }
         }
     }
-    points
-        .iter()
-        .any(|&p| holds_closed(a, p) && holds_closed(b, p))
+    points.retain(|&p| holds_closed(a, p) && holds_closed(b, p));
+    points.sort_by(|p, q| p.x.compare(q.x).then(p.y.compare(q.y)));
+    points.dedup_by(|p, q| p.x.compare(q.x).is_eq() && p.y.compare(q.y).is_eq());
+    points.len()
 }
 
 /// The reference's touching, decided in another way.
@@ -71,13 +73,14 @@ fn touch_of_the_reference() {
     let random = &mut Random(41);
     let rounds = rounds(100);
     let mut parts = Vec::new();
-    let (mut overlapping, mut touching, mut apart) = (0, 0, 0);
+    let (mut overlapping, mut touching, mut one_point, mut apart) = (0, 0, 0, 0);
     for _ in 0..rounds {
         let scene = Scene::new(random);
         let a = Trapezoid::read(&scene.trapezoid(random));
         let b = Trapezoid::read(&scene.trapezoid(random));
         let said = touch(&a, &b);
-        assert!(said == share_a_corner(&a, &b), "{a:?} {b:?}");
+        let shared = shared_corners(&a, &b);
+        assert!(said == (shared > 1), "{a:?} {b:?}");
         assert!(said == touch(&b, &a), "{a:?} {b:?}");
         reference::overlay(&a, &b, &mut parts);
         if parts.iter().any(|part| part.tag == 3) {
@@ -85,12 +88,15 @@ fn touch_of_the_reference() {
             overlapping += 1;
         } else if said {
             touching += 1;
+        } else if shared == 1 {
+            one_point += 1;
         } else {
             apart += 1;
         }
     }
     assert_met("overlapping", overlapping, rounds, 5);
     assert_met("touching only", touching, rounds, 20);
+    assert_met("one point", one_point, rounds, 50);
     assert_met("apart", apart, rounds, 10);
 }
 
@@ -101,7 +107,7 @@ fn numbers_by_corners(layer: &[Trapezoid]) -> Vec<u32> {
         let mut changed = false;
         for one in 0..layer.len() {
             for other in 0..layer.len() {
-                if numbers[other] < numbers[one] && share_a_corner(&layer[one], &layer[other]) {
+                if numbers[other] < numbers[one] && shared_corners(&layer[one], &layer[other]) > 1 {
                     numbers[one] = numbers[other];
                     changed = true;
                 }
@@ -218,10 +224,12 @@ fn shapes() {
     known(&apart(), 512);
     known(&comb(511), 1);
     known(&comb(3), 1);
+    // Two with one tip are two; the third has part of a side with each.
     known(&fans(), 1);
-    // Rows of squares that touch at corners, two by two.
-    known(&chequers(16, 1), 1);
-    known(&chequers(16, 16), 1);
+    known(&fans()[..2 * WORDS], 2);
+    // Rows of squares that share corners only.
+    known(&chequers(16, 1), 32);
+    known(&chequers(16, 16), 512);
 
     let whole = snake();
     known(&whole, 1);
@@ -284,10 +292,13 @@ fn by_hand() {
     let apart = (count(2), vec![0, 1]);
     assert_eq!(pair(q(), rectangle(4, 8, 0, 4)), joined);
     assert_eq!(pair(q(), rectangle(5, 8, 0, 4)), apart);
-    // Above, at a corner, and one beside it.
+    // Above; at a corner, on each side; by part of an edge, as little as the grid allows.
     assert_eq!(pair(q(), rectangle(0, 4, 4, 8)), joined);
-    assert_eq!(pair(q(), rectangle(4, 8, 4, 8)), joined);
-    assert_eq!(pair(rectangle(4, 8, -4, 0), q()), joined);
+    assert_eq!(pair(q(), rectangle(4, 8, 4, 8)), apart);
+    assert_eq!(pair(rectangle(4, 8, -4, 0), q()), apart);
+    assert_eq!(pair(q(), rectangle(4, 8, 3, 8)), joined);
+    assert_eq!(pair(q(), rectangle(3, 8, 4, 8)), joined);
+    assert_eq!(pair(rectangle(-4, 1, -4, 0), q()), joined);
     assert_eq!(pair(q(), rectangle(4, 8, 5, 8)), apart);
     assert_eq!(pair(q(), rectangle(0, 4, 5, 8)), apart);
     // One within the other, one twice.
@@ -301,7 +312,7 @@ fn by_hand() {
 
     // Two lines that nearly meet: a tip a little above the other's side, on it, below it.
     let line = |words: [i32; 4]| reference::Line::new(&words);
-    for (lift, expected) in [(1, &apart), (0, &joined), (-1, &joined)] {
+    for (lift, expected) in [(1, &apart), (0, &apart), (-1, &joined)] {
         let (low, high) = (line([0, lift, 2047, 2]), line([0, lift, 1, 2048]));
         let tip = support::six_lines([low, high], support::mark(1), low, high);
         let below = rectangle(-2048, 2048, -2048, 0);
@@ -311,7 +322,65 @@ fn by_hand() {
     assert_eq!(components(&q()), (count(1), vec![0]));
 }
 
-/// Trapezoids that overlap, touch or miss each other by less than a double can tell.
+/// More than a point in common, or one point: also worked out in crates/connectivity/proofs/Examples.antt.
+#[test]
+fn tips_and_sides() {
+    let line = |words: [i32; 4]| reference::Line::new(&words);
+    let between = |from: i32, to: i32, bottom: [i32; 4], top: [i32; 4]| {
+        support::six_lines(
+            support::mark(from),
+            support::mark(to),
+            line(bottom),
+            line(top),
+        )
+    };
+    let pair = |a: &[i32], b: &[i32]| {
+        let there = components(&[a, b].concat()).0;
+        assert_eq!(components(&[b, a].concat()).0, there);
+        there
+    };
+    let (joined, apart) = (count(1), count(2));
+    let wedge = between(0, 4, [0, 0, 4, 0], [0, 0, 4, 4]);
+    // Part of an upright base, and of a slanted side.
+    let q = rectangle(0, 4, 0, 4);
+    assert_eq!(pair(&q, &rectangle(4, 8, 2, 6)), joined);
+    let along = between(2, 6, [2, 2, 6, 6], [2, 8, 6, 8]);
+    assert_eq!(pair(&wedge, &along), joined);
+    // One end of a side; collinear sides that share one point; the same with one step in common.
+    assert_eq!(pair(&wedge, &rectangle(0, 4, 4, 8)), apart);
+    let after = |x: i32| between(x, 8, [x, x, 8, 8], [x, 9, 8, 9]);
+    assert_eq!(pair(&wedge, &after(4)), apart);
+    assert_eq!(pair(&wedge, &after(3)), joined);
+    // A triangle's tip on an upright base, and a step into it.
+    let tip = |x: i32| between(0, x, [0, 0, x, 2], [0, 4, x, 2]);
+    assert_eq!(pair(&tip(4), &rectangle(4, 8, 0, 4)), apart);
+    assert_eq!(pair(&tip(5), &rectangle(4, 8, 0, 4)), joined);
+    // A diamond's tip on a side, and on the tips of others.
+    let diamond = |x: i32, y: i32| {
+        let (left, right, low, high) = (x - 2, x + 2, y - 2, y + 2);
+        let first = between(left, x, [left, y, x, low], [left, y, x, high]);
+        let second = between(x, right, [x, low, right, y], [x, high, right, y]);
+        [first, second].concat()
+    };
+    let middle = diamond(2, 2);
+    assert_eq!(components(&middle).0, joined);
+    for y in [4, 3] {
+        let expected = if y == 4 { apart } else { joined };
+        assert_eq!(pair(&middle, &rectangle(0, 4, y, 8)), expected);
+    }
+    for (x, y) in [(2, 6), (6, 2), (2, -2), (-2, 2)] {
+        assert_eq!(pair(&middle, &diamond(x, y)), apart);
+    }
+    // A whole slanted side, and all but a step of it.
+    for (x, y) in [(4, 4), (4, 0), (0, 4), (0, 0)] {
+        assert_eq!(pair(&middle, &diamond(x, y)), joined);
+    }
+    for (x, y) in [(5, 3), (3, 5), (5, 1), (-1, 1)] {
+        assert_eq!(pair(&middle, &diamond(x, y)), joined);
+    }
+}
+
+/// Trapezoids that overlap, meet or miss each other by less than a double can tell.
 #[test]
 fn near_misses() {
     let random = &mut Random(48);
@@ -327,14 +396,18 @@ fn near_misses() {
         }
 
         let (words, top, bottom) = near_sides(random);
-        // To the right of there, a bottom above the top stays above it.
-        let joined = bottom.at_most(top);
+        // To the right of there, a bottom above the top stays above it, and one that meets it may be
+        // above it or below it.
+        let layer = read_layer(&words);
+        let end = layer[0].right.x;
+        let ends_below = layer[1].bottom.height(end).less(layer[0].top.height(end));
+        let joined = bottom.less(top) || ends_below;
         assert_eq!(components(&words).0, count(2 - joined as u64), "{words:?}");
         if double(top) == double(bottom) {
             sides[(bottom.compare(top) as i8 + 1) as usize] += 1;
         }
     }
-    for (number, name) in ["overlap", "touch", "are apart"].iter().enumerate() {
+    for (number, name) in ["overlap", "meet", "are apart"].iter().enumerate() {
         assert_met(&format!("bases {name}"), bases[number], rounds, 200);
         assert_met(&format!("sides {name}"), sides[number], rounds, 200);
     }

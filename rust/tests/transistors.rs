@@ -294,13 +294,22 @@ fn in_pieces() {
     let emitter = two(square(8, 3, 2), square(10, 3, 1));
     let layers = [square(0, 0, 12), square(2, 2, 8), emitter];
     assert_listed(&layers, &[], 1 + 2, 1);
-    // A base of two squares that share a corner is one, too.
-    let corners = || two(square(2, 2, 3), square(5, 5, 3));
-    let layers = [square(0, 0, 12), corners(), square(6, 6, 1)];
+    // Two squares that share a corner are two bases, and one if they share part of an edge.
+    let squares = |y: i32| two(square(2, 2, 3), square(5, y, 3));
+    let layers = [square(0, 0, 12), squares(5), square(6, 6, 1)];
+    assert_listed(&layers, &[[0, 1, 0]], 2 + 2, 1);
+    let layers = [square(0, 0, 12), squares(4), square(6, 6, 1)];
     assert_listed(&layers, &[[0, 0, 0]], 2 + 2, 1);
-    // The emitter is as large as the two, and has the other corners too.
-    let layers = [square(0, 0, 12), corners(), square(2, 2, 6)];
-    assert_listed(&layers, &[], 2 + 3, 2);
+    // An emitter across the corner lies in neither.
+    let layers = [square(0, 0, 12), squares(5), square(4, 4, 2)];
+    assert_listed(&layers, &[], 2 + 2, 2);
+    // Two collectors that share a corner, with a base and an emitter in each.
+    let cells = |less: i32| {
+        let cell = |place: i32| square(place + less, place + less, 12 - 2 * less);
+        two(cell(0), cell(12))
+    };
+    let layers = [cells(0), cells(2), cells(4)];
+    assert_listed(&layers, &[[0, 0, 0], [1, 1, 1]], 4 + 4, 1);
     // Trapezoids that overlap are one shape.
     let twice = two(square(2, 2, 8), square(2, 2, 8));
     let layers = [square(0, 0, 12), twice, square(4, 4, 2)];

@@ -168,17 +168,17 @@ fn positions() {
 fn order(l: Line, m: Line, base: Base, neighbours: [Base; 2]) -> (Ordering, Ordering) {
     let [before, after] = neighbours;
     // What ends at the base under one line and what begins there over the other touch exactly if the
-    // first line is not below the second there.
-    let not_below = |first: Line, second: Line| {
+    // first line is above the second there.
+    let above = |first: Line, second: Line| {
         let under = between(before, base, LOW, first);
         let over = between(base, after, second, HIGH);
         components(&[under, over].concat().concat(), &mut [7; 2]) == Ok(1)
     };
-    let at = match (not_below(l, m), not_below(m, l)) {
+    let at = match (above(l, m), above(m, l)) {
         (false, true) => Less,
-        (true, true) => Equal,
+        (false, false) => Equal,
         (true, false) => Greater,
-        _ => panic!("each is below the other"),
+        _ => panic!("each is above the other"),
     };
     // What is over one line and what is under the other, both from the base on, share points exactly if
     // right of it the first line is below the second.

@@ -22,7 +22,7 @@ use Rattle.boxes.proofs.Apart.{box-ends, not-inside-both, boxes-apart, 
 -- ---- two trapezoids
 pub no-touch : NoTouch
 no-touch L hL A B ha hb h =
-    false-is (not-T (touches A B) (λ t. let c = touches-exact L A B ha hb .0 t in boxes-apart L hL A B ha hb h (c .0) (c .1) (c .2) (c .3)))
+    false-is (not-T (touches A B) (λ t. let c = touches-exact L A B ha hb .0 t in boxes-apart L hL A B ha hb h (c .one) (c .one-shared .0) (c .one-shared .1) (c .one-shared .2)))
 
 pub no-overlap : NoOverlap
 no-overlap L hL A B ha hb h = false-is (apart-exact L A B ha hb .1 (boxes-disjoint L hL A B ha hb h))

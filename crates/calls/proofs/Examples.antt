@@ -29,7 +29,7 @@ use Rattle.overlay.specs.Overlaps.{crossesInCommon, overlapRight, overlapFrom, 
 use Rattle.overlay.specs.Overlay as overlays
 use Rattle.boolean.specs.Operations.{minus, minusAll, difference}
 use Rattle.boolean.specs.Space.{minusStages, minusAllStages, differenceStages, space}
-use Rattle.connectivity.specs.Touching.{notAbove, touchesAt, crossesWithin, touchesFrom, touchesBetween, touches}
+use Rattle.connectivity.specs.Touching.{notAbove, touchesRight, touchesFrom, touchesAlong, lowerAt, touchesUpright, touches}
 use Rattle.connectivity.specs.Components.{ownNumbers, relabelled, joinedNumbers, joinedFirst, joinedAll, touchingAt, componentNumbers}
 use Rattle.extraction.specs.Shapes.{havingNumber, shapeOf, shapeNumbers}
 use Rattle.extraction.specs.Extraction.{shapeEncloses, triples, enclosingStages}
@@ -186,7 +186,7 @@ unfolding each keep _⊕_ _⊖_ _⊗_ ⊝_ orderOf before sized recordAt records
     order oneSign horizontal lineOnGrid isLine belowBetween shapeVerdict verdict firstRefusal sum spans inside crossInside slabs upTo column columns sweep
     commonLeft commonRight crossesInCommon overlapRight overlapFrom overlaps overlays.sides overlays.sideCrossings overlays.overlayEvents overlays.fills
     overlays.tagAbove overlays.stack overlays.parts overlays.subdivision overlays.overlay overlays.tagged
-    notAbove touchesAt crossesWithin touchesFrom touchesBetween touches ownNumbers relabelled joinedNumbers joinedFirst joinedAll touchingAt componentNumbers
+    notAbove touchesRight touchesFrom touchesAlong lowerAt touchesUpright touches ownNumbers relabelled joinedNumbers joinedFirst joinedAll touchingAt componentNumbers
     minus minusAll difference minusStages minusAllStages differenceStages space
     havingNumber shapeOf shapeNumbers shapeEncloses triples enclosingStages transistorsChecked transistorsOutcome
 transistor-examples = (refl, refl, refl, refl, refl, refl)

@@ -26,7 +26,7 @@ use Rattle.overlay.specs.Overlaps.{crossesInCommon, overlapRight, overlapFrom, 
 use Rattle.overlay.specs.Overlay as overlays
 use Rattle.boolean.specs.Operations.{minus, minusAll, difference}
 use Rattle.boolean.specs.Space.{minusStages, minusAllStages, differenceStages, space}
-use Rattle.connectivity.specs.Touching.{notAbove, touchesAt, crossesWithin, touchesFrom, touchesBetween, touches}
+use Rattle.connectivity.specs.Touching.{notAbove, touchesRight, touchesFrom, touchesAlong, lowerAt, touchesUpright, touches}
 use Rattle.connectivity.specs.Components.{ownNumbers, relabelled, joinedNumbers, joinedFirst, joinedAll, owners, touchingAt, componentNumbers, componentCount}
 use Rattle.fracture.specs.Polygons.{edge, edgesFrom, edges}
 use Rattle.fracture.specs.Fracture as fractures
@@ -46,7 +46,7 @@ unfolding _⊕_ _⊖_ _⊗_ ⊝_ orderOf before sized recordAt recordsFrom words
     order oneSign horizontal lineOnGrid isLine belowBetween shapeVerdict verdict firstRefusal keep sum spans inside crossInside slabs upTo column columns sweep
     commonLeft commonRight crossesInCommon overlapRight overlapFrom overlaps overlays.sides overlays.sideCrossings overlays.overlayEvents overlays.fills
     overlays.tagAbove overlays.stack overlays.parts overlays.subdivision overlays.overlay overlays.tagged
-    notAbove touchesAt crossesWithin touchesFrom touchesBetween touches ownNumbers relabelled joinedNumbers joinedFirst joinedAll owners
+    notAbove touchesRight touchesFrom touchesAlong lowerAt touchesUpright touches ownNumbers relabelled joinedNumbers joinedFirst joinedAll owners
     touchingAt componentNumbers componentCount listsSized componentsChecked componentsOutcome
     minus minusAll difference minusStages minusAllStages differenceStages space
     fileSized nextOffset lengthRead numberFrom countOf pairLength endOf pairsFrom directoryOf lengthsFrom cut vertexOf vertexWords vertexOnGrid firstOffGrid polygonFileChecked
@@ -62,6 +62,7 @@ table =
       d-counts = refl;
       e-tags = refl;
       e-components = refl;
+      e-corner = refl;
       f-outside = refl;
       f-inside = refl;
       g-counts = refl;

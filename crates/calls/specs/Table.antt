@@ -103,6 +103,8 @@ pub record Table : Type 0 where
   -- "(e) Q and [4,8)×[0,4): tags 1,2, one component." Both get the number 0, in a list that held 7 and 7.
   pub e-tags : tags (overlay Q S) ≡ 1 ∷ 2 ∷ []
   pub e-components : connectivity.componentsOutcome plateLimit (layer (Q ∷ S ∷ [])) (7 ∷ 7 ∷ []) ≡ connectivity.observedComponents (connectivity.counted 1) (0 ∷ 0 ∷ [])
+  -- paper 02 (v): "Case (e) still has one component; Q and [4,8)×[4,8) now have two."
+  pub e-corner : connectivity.componentsOutcome plateLimit (layer (Q ∷ box 4 4 8 8 ∷ [])) (7 ∷ 7 ∷ []) ≡ connectivity.observedComponents (connectivity.counted 2) (0 ∷ 1 ∷ [])
   -- "(f) (4,0,1) isn't in Q, (0,0,1) is." Asked of the union (code 0) of Q and the empty layer.
   pub f-outside : containsAnswer plateLimit (point 4 0 1) q [] 0 ≡ no
   pub f-inside : containsAnswer plateLimit (point 0 0 1) q [] 0 ≡ yes

@@ -1,3 +1,4 @@
+pub mod Lines
 pub mod Touches
 pub mod Paths
 pub mod Joining

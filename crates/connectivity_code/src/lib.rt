@@ -1,12 +1,13 @@
 // Trapezoids that touch, and the component numbers of a layer of fit trapezoids.
 use boxes::Box;
 use geometry::Crossing;
+use geometry::Horizontal;
 use geometry::Line;
 use geometry::Placed;
 use geometry::Position;
 use geometry::Trapezoid;
 ghost use mathlib.Core.Path.{_≡_};
-ghost use mathlib.Core.Bool.{cond};
+ghost use mathlib.Core.Bool.{cond, _&&_};
 ghost use Prim.Native.Nat.{_+_, _*_, _<_, _≤_};
 ghost use lib.Dec.{eqb};
 ghost use lib.ListN.{length};
@@ -14,74 +15,102 @@ ghost use Rattle.lists.specs.Lists.{All};
 ghost use Rattle.records.specs.Limits.{maxRecords};
 ghost use Rattle.records.specs.Records.{recordAt, count};
 ghost use Rattle.geometry.specs.Limit.{coordinateLimit, OnGrid};
+ghost use Rattle.geometry.specs.Positions.{position};
 ghost use Rattle.geometry.specs.Fitness.{FitFor};
 ghost use Rattle.geometry.specs.Trapezoids.{trapezoidCodec, layerOf};
 ghost use Rattle.geometry.specs.Ranges.{crossing};
-ghost use Rattle.connectivity.specs.Touching.{notAbove, touchesAt, touchesFrom, touches};
+ghost use Rattle.connectivity.specs.Touching.{notAbove, touchesRight, touchesAlong, lowerAt, touchesUpright, touches};
 ghost use Rattle.connectivity.specs.Components.{ownNumbers, relabelled, joinedNumbers, joinedIf, joinedFirst, joinedAll, owners, touchingAt, componentNumbers, componentCount};
 ghost use Rattle.boxes.specs.Boxes.{boxOf};
 ghost use Rattle.geometry_code.specs.Code.{fractionOf, SmallPosition};
-ghost use Rattle.trapezoids_code.specs.Placed.{Pair, PlacedAs};
+ghost use Rattle.trapezoids_code.specs.Placed.{Pair, PlacedAs, CommonLeft, CommonRight};
+ghost use Rattle.overlaps_code.specs.Code.{crossBetween};
 ghost use Rattle.boxes_code.specs.Code.{boxWidth, FirstBoxes};
 ghost use Rattle.connectivity_code.specs.Code.{Numbering};
 
-// Whether a line is at or below another at a position.
-fn not_above(l: Line, m: Line, x: Position) -> bool
-    requires { ⌜ OnGrid coordinateLimit l × OnGrid coordinateLimit m × SmallPosition x ⌝ }
-    ensures { λ r. ⌜ r ≡ notAbove (fractionOf x) l m ⌝ }
+// Right of a position a line is at or below another.
+fn not_above(l: Line, m: Line, p: Position) -> bool
+    requires { ⌜ OnGrid coordinateLimit l × OnGrid coordinateLimit m × SmallPosition p ⌝ }
+    ensures { λ r. ⌜ r ≡ notAbove (fractionOf p) l m ⌝ }
 {
-    let o = geometry_code::heights_at(m, l, x);
-    !geometry_code::is_less(o)
+    !geometry_code::is_below(m, l, p)
 }
 
-// At a position each bottom is at or below the other's top.
-fn touches_at(a: Trapezoid, b: Trapezoid, x: Position) -> bool
-    requires { ⌜ FitFor coordinateLimit a × FitFor coordinateLimit b × SmallPosition x ⌝ }
-    ensures { λ r. ⌜ r ≡ touchesAt a b (fractionOf x) ⌝ }
+// Right of a position each bottom is at or below the other's top.
+fn touches_right(a: Trapezoid, b: Trapezoid, p: Position) -> bool
+    requires { ⌜ FitFor coordinateLimit a × FitFor coordinateLimit b × SmallPosition p ⌝ }
+    ensures { λ r. ⌜ r ≡ touchesRight a b (fractionOf p) ⌝ }
 {
-    if not_above(a.bottom, b.top, x) {
-        return not_above(b.bottom, a.top, x);
+    if not_above(a.bottom, b.top, p) {
+        return not_above(b.bottom, a.top, p);
     }
     false
 }
 
-// The two lines cross at lo, at hi or between, and the trapezoids touch there.
+// The two lines cross strictly inside the common range, and right of there the trapezoids touch.
 fn touches_from(a: Trapezoid, b: Trapezoid, l: Line, m: Line, lo: Position, hi: Position) -> bool
     requires { ⌜ FitFor coordinateLimit a × FitFor coordinateLimit b × OnGrid coordinateLimit l × OnGrid coordinateLimit m × SmallPosition lo × SmallPosition hi ⌝ }
-    ensures { λ r. ⌜ r ≡ touchesFrom a b (fractionOf lo) (fractionOf hi) (crossing l m) ⌝ }
+    ensures { λ r. ⌜ r ≡ crossBetween (fractionOf lo) (fractionOf hi) (crossing l m) && touchesRight a b (position (crossing l m)) ⌝ }
 {
-    let c = geometry_code::crossing_of(l, m);
+    let c = overlaps_code::crossing_between(l, m, lo, hi);
     let Crossing::At(p) = c else {
         return false;
     };
-    if geometry_code::is_left(geometry_code::compare(p, lo)) {
-        return false;
-    }
-    if geometry_code::is_left(geometry_code::compare(hi, p)) {
-        return false;
-    }
-    touches_at(a, b, p)
+    touches_right(a, b, p)
 }
 
-// Whether the closed trapezoids share a rational point.
+// Whether two trapezoids touch whose common range has a length, from `lo` to `hi`.
+fn touches_along(a: Placed, b: Placed, lo: Position, hi: Position) -> bool
+    requires { ⌜ Pair a b × CommonLeft a b lo × CommonRight a b hi ⌝ }
+    ensures { λ r. ⌜ r ≡ touchesAlong (a .shape) (b .shape) ⌝ }
+{
+    let s = a.shape;
+    let t = b.shape;
+    if touches_right(s, t, lo) {
+        return true;
+    }
+    if touches_from(s, t, s.bottom, t.top, lo, hi) {
+        return true;
+    }
+    touches_from(s, t, s.top, t.bottom, lo, hi)
+}
+
+// At a position a line is below another.
+fn lower_at(l: Line, m: Line, x: Position) -> bool
+    requires { ⌜ OnGrid coordinateLimit l × OnGrid coordinateLimit m × SmallPosition x ⌝ }
+    ensures { λ r. ⌜ r ≡ lowerAt (fractionOf x) l m ⌝ }
+{
+    geometry_code::is_less(geometry_code::heights_at(l, m, x))
+}
+
+// At a position each bottom is below the other's top and below its own.
+fn touches_upright(a: Trapezoid, b: Trapezoid, x: Position) -> bool
+    requires { ⌜ FitFor coordinateLimit a × FitFor coordinateLimit b × SmallPosition x ⌝ }
+    ensures { λ r. ⌜ r ≡ touchesUpright a b (fractionOf x) ⌝ }
+{
+    if lower_at(a.bottom, b.top, x) {
+        if lower_at(b.bottom, a.top, x) {
+            if lower_at(a.bottom, a.top, x) {
+                return lower_at(b.bottom, b.top, x);
+            }
+        }
+    }
+    false
+}
+
+// Whether the closed trapezoids share at least two different rational points.
 pub fn touching(a: Placed, b: Placed) -> bool
     requires { ⌜ Pair a b ⌝ }
     ensures { λ r. ⌜ r ≡ touches (a .shape) (b .shape) ⌝ }
 {
     let lo = trapezoids_code::common_left(a, b);
     let hi = trapezoids_code::common_right(a, b);
-    if geometry_code::is_left(geometry_code::compare(hi, lo)) {
-        return false;
+    let h = geometry_code::compare(lo, hi);
+    match h {
+        Horizontal::Left => touches_along(a, b, lo, hi),
+        Horizontal::Level => touches_upright(a.shape, b.shape, lo),
+        Horizontal::Right => false,
     }
-    let s = a.shape;
-    let t = b.shape;
-    if touches_at(s, t, lo) {
-        return true;
-    }
-    if touches_from(s, t, s.bottom, t.top, lo, hi) {
-        return true;
-    }
-    touches_from(s, t, t.bottom, s.top, lo, hi)
 }
 
 // Whether a trapezoid touches the one with number j of a layer.

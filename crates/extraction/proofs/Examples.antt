@@ -21,7 +21,7 @@ use Rattle.overlay.specs.Overlaps.{crossesInCommon, overlapRight, overlapFrom, 
 use Rattle.overlay.specs.Overlay.{sides, sideCrossings, overlayEvents, fills, tagAbove, stack, parts, subdivision, overlay, tagged}
 use Rattle.boolean.specs.Operations.{minus, minusAll, difference}
 use Rattle.boolean.specs.Space.{overlaid, addition, enough, no-room, space, minusStages, minusAllStages, differenceStages}
-use Rattle.connectivity.specs.Touching.{notAbove, touchesAt, crossesWithin, touchesFrom, touchesBetween, touches}
+use Rattle.connectivity.specs.Touching.{notAbove, touchesRight, touchesFrom, touchesAlong, lowerAt, touchesUpright, touches}
 use Rattle.connectivity.specs.Components.{ownNumbers, relabelled, joinedNumbers, joinedFirst, joinedAll, touchingAt, componentNumbers}
 use Rattle.extraction.specs.Shapes.{havingNumber, shapeOf, shapeNumbers}
 use Rattle.extraction.specs.Extraction.{shapeEncloses, Triple, triples, enclosingStages, extractionStages}
@@ -67,6 +67,12 @@ Order =
     (shapeNumbers collectors ≡ 0 ∷ 2 ∷ [])
     × (triples collectors bases emitters ≡ triple 0 1 2 ∷ triple 0 2 1 ∷ triple 0 2 3 ∷ triple 2 0 0 ∷ [])
 
+-- two collectors that share a corner are two shapes, with a base and an emitter in each
+abbrev Corner : Type 0
+Corner =
+    triples (box 0 0 12 12 ∷ box 12 12 24 24 ∷ []) (box 14 14 22 22 ∷ box 2 2 10 10 ∷ []) (box 4 4 6 6 ∷ box 16 16 18 18 ∷ [])
+    ≡ triple 0 1 0 ∷ triple 1 0 1 ∷ []
+
 -- ---- which must lie in which
 -- an emitter in the collector, but not in the base
 abbrev Beside : Type 0
@@ -93,10 +99,10 @@ Around =
     (space 3 (extractionStages (one (box 4 4 8 8)) (one (box 0 0 12 12)) (one (box 5 5 6 6))) ≡ no-room 1)
     × (space 4 (extractionStages (one (box 4 4 8 8)) (one (box 0 0 12 12)) (one (box 5 5 6 6))) ≡ enough 2)
 
-examples : Cell × Order × Beside × Larger × ApartCounted × Around
+examples : Cell × Order × Corner × Beside × Larger × ApartCounted × Around
 unfolding _⊕_ _⊖_ _⊗_ ⊝_ orderOf before insert levels dx dy offset det numer crosses ratio meet heights rightOf below each keep spans columns sweep
     commonLeft commonRight crossesInCommon overlapRight overlapFrom overlaps sides sideCrossings overlayEvents fills tagAbove stack parts subdivision overlay tagged
     minus minusAll difference space minusStages minusAllStages differenceStages
-    notAbove touchesAt crossesWithin touchesFrom touchesBetween touches ownNumbers relabelled joinedNumbers joinedFirst joinedAll touchingAt componentNumbers
+    notAbove touchesRight touchesFrom touchesAlong lowerAt touchesUpright touches ownNumbers relabelled joinedNumbers joinedFirst joinedAll touchingAt componentNumbers
     havingNumber shapeOf shapeNumbers shapeEncloses triples enclosingStages
-examples = ((refl, refl, refl), (refl, refl), refl, refl, (refl, refl), (refl, refl))
+examples = ((refl, refl, refl), (refl, refl), refl, refl, refl, (refl, refl), (refl, refl))

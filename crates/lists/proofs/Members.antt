@@ -31,6 +31,11 @@ module _ {A : Type 0} where
   at-map P Q f (x ∷ xs) zero h = f x h
   at-map P Q f (x ∷ xs) (suc i) h = at-map P Q f xs i h
 
+  pub at-with : {G : A → Type 0} (P Q : A → Type 0) → ((x : A) → G x → P x → Q x) → (xs : List A) → All G xs → (i : ℕ) → At P xs i → At Q xs i
+  at-with P Q f [] g i h = absurd h
+  at-with P Q f (x ∷ xs) g zero h = f x (g .0) h
+  at-with P Q f (x ∷ xs) g (suc i) h = at-with P Q f xs (g .1) i h
+
   -- two elements, either first
   pub at-swap : (S : A → A → Type 0) (xs ys : List A) (i j : ℕ) → At (λ (x : A). At (S x) ys j) xs i → At (λ (y : A). At (λ (x : A). S x y) xs i) ys j
   at-swap S [] ys i j h = absurd h

@@ -30,7 +30,7 @@ fn overlap_right(a: Trapezoid, b: Trapezoid, p: Position) -> bool
 }
 
 // Where two lines cross strictly between two positions; `Nowhere` if they do not.
-fn crossing_between(l: Line, m: Line, lo: Position, hi: Position) -> Crossing
+pub fn crossing_between(l: Line, m: Line, lo: Position, hi: Position) -> Crossing
     requires { ⌜ OnGrid coordinateLimit l × OnGrid coordinateLimit m × SmallPosition lo × SmallPosition hi ⌝ }
     ensures { λ r. ⌜ CrossingBetween (fractionOf lo) (fractionOf hi) l m r ⌝ }
 {

@@ -5,7 +5,7 @@ use super::layers::Apart;
 use super::print;
 use super::timing::{in_turn, Timed};
 use crate::reference::{self, WORDS};
-use crate::support::shapes::{comb, reordered, snake, tiles};
+use crate::support::shapes::{chequers, comb, reordered, snake, tiles};
 use crate::support::Random;
 use loxurfa::raw;
 use std::hint::black_box;
@@ -17,6 +17,7 @@ pub fn rows() {
         row(&apart.name(22), &a);
     }
     row("tiles", &tiles());
+    row("squares with common corners", &chequers(16, 16));
     let mut order: Vec<usize> = (0..512).collect();
     row("snake", &snake());
     order.reverse();

@@ -2,6 +2,7 @@
 
 use super::{accepted, bad_length, read_layer, refuse_if, refused, rows_7_to_11};
 use super::{Fraction, Line, Point, Trapezoid, WORDS};
+use std::cmp::Ordering;
 
 /// Whether the point lies in the closed trapezoid.
 pub fn holds_closed(trapezoid: &Trapezoid, p: Point) -> bool {
@@ -29,8 +30,9 @@ fn at_or_below(
     }
 }
 
-/// Whether the closed trapezoids share a rational point: at some position of both ranges, each
-/// bottom is at or below the other's top. (Each is at or below its own.)
+/// Whether the closed trapezoids share at least two different rational points. They share one over each
+/// position of both ranges where each bottom is at or below the other's top. (Each is at or below its
+/// own.) If that is one position only, the two points must be over it.
 pub fn touch(a: &Trapezoid, b: &Trapezoid) -> bool {
     let from = a.left.x.larger(b.left.x);
     let to = a.right.x.smaller(b.right.x);
@@ -39,12 +41,18 @@ pub fn touch(a: &Trapezoid, b: &Trapezoid) -> bool {
     }
     let first = at_or_below(a.bottom, b.top, (from, to));
     let second = at_or_below(b.bottom, a.top, (from, to));
-    match (first, second) {
-        (Some(first), Some(second)) => {
-            let (from, to) = (first.0.larger(second.0), first.1.smaller(second.1));
-            from.at_most(to)
+    let (Some(first), Some(second)) = (first, second) else {
+        return false;
+    };
+    let (from, to) = (first.0.larger(second.0), first.1.smaller(second.1));
+    match from.compare(to) {
+        Ordering::Less => true,
+        Ordering::Equal => {
+            let lowest = a.bottom.height(from).larger(b.bottom.height(from));
+            let highest = a.top.height(from).smaller(b.top.height(from));
+            lowest.less(highest)
         }
-        _ => false,
+        Ordering::Greater => false,
     }
 }
 

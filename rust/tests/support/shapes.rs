@@ -55,7 +55,7 @@ pub fn comb(teeth: i32) -> Vec<i32> {
     words
 }
 
-/// Squares that touch at corners only, in 2 * rows rows of `columns`.
+/// Squares that share corners only, in 2 * rows rows of `columns`.
 pub fn chequers(columns: i32, rows: i32) -> Vec<i32> {
     let mut words = Vec::new();
     for row in 0..2 * rows {
