@@ -2,7 +2,7 @@
 use mathlib.Core.Path.{_≡_, refl, sym, _∙_, ap}
 use mathlib.Core.Bool.{Bool, true, false, cond}
 use mathlib.Core.List.{List, [], _∷_, _++_, append-assoc, append-nil}
-use Prim.Native.Nat.{ℕ, zero, suc, _+_, _<_, _≤_, max, min}
+use Prim.Native.Nat.{ℕ, zero, suc, _+_, _-_, _<_, _≤_, max, min}
 use native.Mathlib.Numerals.{add-one}
 use native.Mathlib.Omega.{arith}
 use lib.Dec.{T, eqb, eqb→eq}
@@ -141,6 +141,25 @@ module _ (test : ℕ → ℕ → Bool) where
 
   pub earlier-agree : {i j : ℕ} {d₀ d e : List ℕ} → Earlier i d₀ d j → j < i → numberAt d i ≡ numberAt d j → e ≡ d → Earlier i d₀ e (j + 1)
   earlier-agree {i} {j} {d₀} {d} h l f g = earlier-turn h l refl (g ∙ agree-if (test i j) i j d f)
+
+  -- those that the test says no of are passed over
+  first-skip : (i j n : ℕ) (d₀ : List ℕ) → ((k : ℕ) → j ≤ k → k < j + n → false ≡ test i k) → joinedFirst test i (j + n) d₀ ≡ joinedFirst test i j d₀
+  first-skip i j zero d₀ f = let e : j + zero ≡ j = omega arith in ap (λ (k : ℕ). joinedFirst test i k d₀) e
+  first-skip i j (suc n) d₀ f =
+      let e : j + suc n ≡ j + n + 1 = omega arith in
+      ap (λ (k : ℕ). joinedFirst test i k d₀) e
+      ∙ first-suc i (j + n) d₀
+      ∙ ap (λ (b : Bool). joinedIf b i (j + n) (joinedFirst test i (j + n) d₀)) (sym (f (j + n) (omega arith) (omega arith)))
+      ∙ first-skip i j n d₀ (λ k l m. f k l (omega (arith, m)))
+
+  pub earlier-skip : {i j r : ℕ} {d₀ d : List ℕ} → Earlier i d₀ d j → j ≤ r → r ≤ i → ((k : ℕ) → j ≤ k → k < r → false ≡ test i k) → Earlier i d₀ d r
+  earlier-skip {i} {j} {r} {d₀} {d} h l m f =
+      let e : j + (r - j) ≡ r = omega (arith, l) in
+      record {
+        upto = m;
+        is = h .is ∙ sym (ap (λ (k : ℕ). joinedFirst test i k d₀) (sym e) ∙ first-skip i j (r - j) d₀ (λ k u v. f k u (omega (arith, v, e))));
+        long = h .long;
+      }
 
   pub earlier-stop : {i j : ℕ} {d₀ d : List ℕ} → Earlier i d₀ d j → i ≤ j → d ≡ joinedFirst test i i d₀
   earlier-stop {i} {j} {d₀} {d} h l = let e : j ≡ i = omega (arith, h .upto) in h .is ∙ ap (λ (k : ℕ). joinedFirst test i k d₀) e

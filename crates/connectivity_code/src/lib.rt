@@ -26,7 +26,7 @@ ghost use Rattle.geometry_code.specs.Code.{fractionOf, SmallPosition};
 ghost use Rattle.trapezoids_code.specs.Placed.{Pair, PlacedAs, CommonLeft, CommonRight};
 ghost use Rattle.overlaps_code.specs.Code.{crossBetween};
 ghost use Rattle.boxes_code.specs.Code.{boxWidth, FirstBoxes};
-ghost use Rattle.connectivity_code.specs.Code.{Numbering};
+ghost use Rattle.connectivity_code.specs.Code.{Numbering, NextNear};
 
 // Right of a position a line is at or below another.
 fn not_above(l: Line, m: Line, p: Position) -> bool
@@ -182,6 +182,21 @@ fn join_if(numbers: &mut [u32], wanted: bool, i: usize, j: usize)
     }
 }
 
+// The first of the boxes from number j on, before number i, that is not apart from a box; i if there is none.
+fn next_near(e: Box, boxes: &[i64], j: usize, i: usize) -> usize
+    requires { ⌜ (j ≤ i) × (boxWidth * i ≤ length (now boxes)) ⌝ }
+    ensures { λ r. ⌜ NextNear e (now (boxes .entry)) j i r ⌝ }
+{
+    let mut k = j;
+    while k < i {
+        if !boxes_code::boxes_apart(e, boxes, k) {
+            return k;
+        }
+        k += 1;
+    }
+    i
+}
+
 // The trapezoid with number i of a layer is joined with each before it that it touches. Where the boxes are apart it does not, and
 // where the numbers agree nothing is to be done.
 fn join_earlier(layer: &[i32], boxes: &[i64], a: Placed, e: Box, i: usize, numbers: &mut [u32])
@@ -189,15 +204,13 @@ fn join_earlier(layer: &[i32], boxes: &[i64], a: Placed, e: Box, i: usize, numbe
     requires { ⌜ (i < count trapezoidCodec (now layer)) × PlacedAs (recordAt trapezoidCodec (now layer) i) a × (e ≡ boxOf (recordAt trapezoidCodec (now layer) i)) ⌝ }
     ensures { λ _. ⌜ now (numbers .exit) ≡ joinedFirst (touchingAt (layerOf (now (layer .entry)))) i i (now (numbers .entry)) ⌝ }
 {
-    let mut j = 0;
+    let mut j = next_near(e, boxes, 0, i);
     while j < i {
-        if !boxes_code::boxes_apart(e, boxes, j) {
-            if numbers[i] != numbers[j] {
-                let t = touching_at(layer, a, j);
-                join_if(numbers, t, i, j);
-            }
+        if numbers[i] != numbers[j] {
+            let t = touching_at(layer, a, j);
+            join_if(numbers, t, i, j);
         }
-        j += 1;
+        j = next_near(e, boxes, j + 1, i);
     }
 }
 

@@ -1,0 +1,50 @@
+-- Before turn k: the boxes from number j on and before number k are apart from e.
+use mathlib.Core.Path.{sym, _∙_}
+use Prim.Native.Nat.{_-_}
+use native.Mathlib.Omega.{arith}
+use borrow.Author.Needs.{needs}
+use borrow.Author.Tests.{not-true, not-false}
+use Rattle.connectivity_code.specs.Code.{Skipped}
+use Rattle.connectivity_code.proofs.Layers.{skip-start, skip-more, skip-stop}
+use Rattle.connectivity_code.proofs.next_near.Statement.{statement}
+use Rattle.connectivity_code.proofs.next_near.Tie as tie
+
+abbrev Inv-loop : tie.InvT-loop
+Inv-loop e boxes j i k₀ k = Skipped e boxes j i k
+
+abbrev μ-loop : tie.MeasureT-loop
+μ-loop e boxes j i k₀ k = i - k
+
+loop-holds : tie.Need-loop-holds Inv-loop μ-loop
+loop-holds c = skip-start (c .pre .0)
+
+boxes-apart-requires : tie.Need-boxes-apart-requires Inv-loop μ-loop
+boxes-apart-requires c κs = omega (arith, c .before .before .pre .1, c .loop-test .taken)
+
+returns : tie.Need-returns Inv-loop μ-loop
+returns c =
+    let at-boxes-apart = c .before in
+    record { skipped = at-boxes-apart .before .before .loop .inv; near = λ l. sym (at-boxes-apart .boxes-apart .ensures) ∙ not-true (at-boxes-apart .boxes-apart .result) (c .if1 .taken) }
+
+loop-again : tie.Need-loop-again Inv-loop μ-loop
+loop-again c =
+    let at-boxes-apart = c .before in
+    let at-loop-test = at-boxes-apart .before in
+    skip-more (at-loop-test .before .loop .inv) (at-loop-test .loop-test .taken) (sym (at-boxes-apart .boxes-apart .ensures) ∙ not-false (at-boxes-apart .boxes-apart .result) (c .if1 .left))
+
+returns-2 : tie.Need-returns-2 Inv-loop μ-loop
+returns-2 c = skip-stop (c .before .loop .inv) (c .loop-test .left)
+
+pub next-near-spec : {M : Type 1} → statement M
+next-near-spec =
+    tie.close
+    (tie.spec
+    Inv-loop
+    μ-loop
+    loop-holds
+    boxes-apart-requires
+    returns
+    (λ c. search needs)
+    (λ c. search needs)
+    loop-again
+    returns-2)
