@@ -6,6 +6,11 @@
  * LOXURFA_MAX_TRAPEZOIDS trapezoids. A trapezoid is the two lines of its left base, the two of its right base, its bottom and
  * its top, each line as x1 y1 x2 y2 with x1 < x2 and coordinates from -LOXURFA_PLATE_LIMIT to LOXURFA_PLATE_LIMIT.
  *
+ * OVERLAPS. Two trapezoids of one layer overlap if a point lies in both: a common edge or corner is no overlap, a trapezoid that stands
+ * there twice is one. loxurfa_combine, loxurfa_equal, loxurfa_components and loxurfa_transistors refuse a layer that has overlaps with
+ * LOXURFA_REFUSED_OVERLAP. loxurfa_deoverlap, loxurfa_contains, loxurfa_read_layers and loxurfa_write_layers take it. What
+ * loxurfa_deoverlap and loxurfa_combine write has none.
+ *
  * OUTPUTS. `out` takes trapezoids in the same form; past them its words are set to 0. `scratch` has as many words as `out`, and
  * all of them are 0 in the end. What either held before does not matter.
  *
@@ -18,8 +23,8 @@
  * takes no more than LOXURFA_STACK_BYTES of stack.
  *
  * ANSWERS. Each call answers one number, which the functions loxurfa_refused to loxurfa_overlays take apart:
- *   bit 63 set    refused: the refusal's number in bits 32 to 39, its place in bits 0 to 31. With the numbers 1 to 11 nothing
- *                 has changed, with 12 (no space) the outputs, `list` and `scratch` are all 0.
+ *   bit 63 set    refused: the refusal's number in bits 32 to 39, its place in bits 0 to 31. With the numbers 1 to 11 and 13
+ *                 nothing has changed, with 12 (no space) the outputs, `list` and `scratch` are all 0.
  *   bit 63 clear  done: the call's value, as said at each, in bits 32 to 62, the number of overlays made in bits 0 to 31 (0 where
  *                 nothing is said).
  */
@@ -67,6 +72,7 @@ extern "C" {
 #define LOXURFA_REFUSED_BASES 10
 #define LOXURFA_REFUSED_SIDES 11
 #define LOXURFA_REFUSED_SPACE 12
+#define LOXURFA_REFUSED_OVERLAP 13 /* two trapezoids of one layer; checked after 11 and before 12 */
 
 /* Values of loxurfa_equal. */
 #define LOXURFA_SAME 0
@@ -80,9 +86,9 @@ static inline uint32_t loxurfa_place(uint64_t answer) { return (uint32_t)(answer
 static inline uint32_t loxurfa_value(uint64_t answer) { return (uint32_t)(answer >> 32 & 0x7fffffff); }
 static inline uint32_t loxurfa_overlays(uint64_t answer) { return (uint32_t)(answer & 0xffffffff); }
 
-/* The trapezoids of the polygons of a polygon file (docs/FORMATS.md), one polygon after the other: the points with a winding
- * number other than 0. The file is of the new edition, in which a polygon's length may be left out; so files of the first edition
- * are taken too. Value: the trapezoids written. */
+/* The trapezoids of the polygons of a polygon file (docs/FORMATS.md), one polygon after the other: the points with a winding number
+ * other than 0. Those of two polygons may overlap. The file is of the new edition, in which a polygon's length may be left out; so
+ * files of the first edition are taken too. Value: the trapezoids written. */
 uint64_t loxurfa_fracture(const uint8_t *file, size_t file_bytes, int32_t *out, size_t out_words,
                           int32_t *scratch, size_t scratch_words);
 
@@ -91,45 +97,46 @@ uint64_t loxurfa_fracture(const uint8_t *file, size_t file_bytes, int32_t *out, 
 uint64_t loxurfa_fracture_first_edition(const uint8_t *file, size_t file_bytes, int32_t *out, size_t out_words,
                                         int32_t *scratch, size_t scratch_words);
 
-/* The set operation with this code on a and b. Value: the trapezoids written. Overlays: those made. */
+/* The set operation with this code on a and b, neither of which has overlaps. Value: the trapezoids written. Overlays: those made. */
 uint64_t loxurfa_combine(uint32_t code, const int32_t *a, size_t a_words, const int32_t *b, size_t b_words,
                          int32_t *out, size_t out_words, int32_t *scratch, size_t scratch_words);
 
-/* The trapezoids of a without overlaps. Value: the trapezoids written. Overlays: those made. */
+/* The trapezoids of a, which may have overlaps, without them. Value: the trapezoids written. Overlays: those made. */
 uint64_t loxurfa_deoverlap(const int32_t *a, size_t a_words, int32_t *out, size_t out_words,
                            int32_t *scratch, size_t scratch_words);
 
-/* Whether the same points lie in a and b. Value: LOXURFA_SAME or one of the two others. Overlays: those made. `out` is room to
- * work in, and all 0 in the end. */
+/* Whether the same points lie in a and b, neither of which has overlaps. Value: LOXURFA_SAME or one of the two others. Overlays: those
+ * made. `out` is room to work in, and all 0 in the end. */
 uint64_t loxurfa_equal(const int32_t *a, size_t a_words, const int32_t *b, size_t b_words,
                        int32_t *out, size_t out_words, int32_t *scratch, size_t scratch_words);
 
-/* Whether the point (x/d, y/d) lies in the result of the set operation with this code on a and b; d is from 1 to
- * LOXURFA_MAX_DENOMINATOR, x and y from -LOXURFA_PLATE_LIMIT times d to LOXURFA_PLATE_LIMIT times d. Value: 1 yes, 0 no. */
+/* Whether the point (x/d, y/d) lies in the result of the set operation with this code on a and b, which may have overlaps; d is from 1
+ * to LOXURFA_MAX_DENOMINATOR, x and y from -LOXURFA_PLATE_LIMIT times d to LOXURFA_PLATE_LIMIT times d. Value: 1 yes, 0 no. */
 uint64_t loxurfa_contains(int32_t x, int32_t y, int32_t d, const int32_t *a, size_t a_words,
                           const int32_t *b, size_t b_words, uint32_t code);
 
-/* The connected components of a. Two trapezoids touch if their closed forms, edges and corners included, share at least two
- * different points: part of an edge is enough, one corner is not. Two are in one component if a chain of trapezoids leads from the
- * one to the other in which each touches the next. `numbers` has one entry for each trapezoid, and gets the lowest number of a
- * trapezoid of its component, counted from 0. Value: the number of components. */
+/* The connected components of a, which has no overlaps. Two trapezoids touch if their closed forms, edges and corners included,
+ * share at least two different points: part of an edge is enough, one corner is not. Two are in one component if a chain of
+ * trapezoids leads from the one to the other in which each touches the next. `numbers` has one entry for each trapezoid, and gets
+ * the lowest number of a trapezoid of its component, counted from 0. Value: the number of components. */
 uint64_t loxurfa_components(const int32_t *a, size_t a_words, uint32_t *numbers, size_t numbers_count);
 
-/* The transistors of three layers. The shapes of a layer are its connected components, as loxurfa_components numbers them. A shape
- * encloses another if every point of the other lies in it. `list` gets each triple of a collector that encloses a base that
- * encloses an emitter, once: LOXURFA_TRIPLE_WORDS words, the numbers of the collector, the base and the emitter, each in its own
- * layer, ascending by collector, then base, then emitter. `list` has any length; past the triples it is set to 0. There are at
- * most as many triples as shapes of the emitters' layer, so LOXURFA_TRIPLE_WORDS words for each of its trapezoids are always enough.
- * `out` is room to work in, and all 0 in the end. Value: the triples. Overlays: those made. */
+/* The transistors of three layers, none of which has overlaps. The shapes of a layer are its connected components, as
+ * loxurfa_components numbers them. A shape encloses another if every point of the other lies in it. `list` gets each triple of a
+ * collector that encloses a base that encloses an emitter, once: LOXURFA_TRIPLE_WORDS words, the numbers of the collector, the base
+ * and the emitter, each in its own layer, ascending by collector, then base, then emitter. `list` has any length; past the triples
+ * it is set to 0. There are at most as many triples as shapes of the emitters' layer, so LOXURFA_TRIPLE_WORDS words for each of its
+ * trapezoids are always enough. `out` is room to work in, and all 0 in the end. Value: the triples. Overlays: those made. */
 uint64_t loxurfa_transistors(const int32_t *collectors, size_t collectors_words, const int32_t *bases, size_t bases_words,
                              const int32_t *emitters, size_t emitters_words, uint32_t *list, size_t list_words,
                              int32_t *out, size_t out_words, int32_t *scratch, size_t scratch_words);
 
 /* The words of a layer file (docs/FORMATS.md): the number of layers, offset and length of each in trapezoids, then the trapezoids.
- * `out` has any length; past the words it is set to 0. Value: the trapezoids of all layers. */
+ * Layers may have overlaps. `out` has any length; past the words it is set to 0. Value: the trapezoids of all layers. */
 uint64_t loxurfa_read_layers(const uint8_t *file, size_t file_bytes, int32_t *out, size_t out_words);
 
-/* The layer file with these words, low byte first. `out` has any length; past the file it is set to 0. Value: the same. */
+/* The layer file with these words, low byte first. Layers may have overlaps. `out` has any length; past the file it is set to 0.
+ * Value: the same. */
 uint64_t loxurfa_write_layers(const int32_t *words, size_t words_count, uint8_t *out, size_t out_bytes);
 
 /* The archive's own functions take no NULL. Under the names above C calls the functions below, which put a real address in the

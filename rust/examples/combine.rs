@@ -4,8 +4,8 @@
 //!
 //! Layers are numbered from 0. The result becomes one more layer after those read, so that later
 //! calls can use it by its number; OUT may be the same file as IN. Prints the result's number and how
-//! many pieces it has. Refused, it prints why, writes nothing and ends with 1; any other trouble ends
-//! with 2.
+//! many pieces it has. Refused, as it is for a layer with overlaps, it prints why, writes nothing and ends
+//! with 1; any other trouble ends with 2.
 
 use loxurfa::{combine_by_number, decode_layers, encode_layers};
 use loxurfa::{Refusal, MAX_TRAPEZOIDS, TRAPEZOID_WORDS};

@@ -9,13 +9,14 @@ pub const MAX_LAYERS: usize = 16;
 pub const MAX_LAYER_FILE_WORDS: usize = 1 + 2 * MAX_LAYERS + TRAPEZOID_WORDS * MAX_TRAPEZOIDS;
 
 /// Reads a layer file into words: the number of layers, offset and length of each in trapezoids,
-/// then the trapezoids. Answers the number of trapezoids.
+/// then the trapezoids. Answers the number of trapezoids. Those of a layer may overlap.
 pub fn read_layers(file: &[u8], out: &mut [i32]) -> Result<u32, Refusal> {
     let (pieces, _) = split(raw::read_layers(file, out))?;
     Ok(pieces)
 }
 
-/// Writes words such as [`read_layers`] gives as a layer file. Answers the number of trapezoids.
+/// Writes words such as [`read_layers`] gives as a layer file. Answers the number of trapezoids. Those
+/// of a layer may overlap.
 pub fn write_layers(words: &[i32], out: &mut [u8]) -> Result<u32, Refusal> {
     let (pieces, _) = split(raw::write_layers(words, out))?;
     Ok(pieces)

@@ -12,7 +12,8 @@ pub const MIN_VERTICES: usize = 3;
 pub const MAX_VERTICES: usize = 32;
 
 /// Writes the trapezoids of the polygons of a polygon file into `out`, polygon by polygon. Those of
-/// one polygon are disjoint and hold the points whose winding number isn't 0. The file is of the new
+/// one polygon are disjoint and hold the points whose winding number isn't 0; those of two polygons may
+/// overlap, and [`deoverlap`](crate::deoverlap) takes them. The file is of the new
 /// edition, in which length 0 stands for the vertices up to the next offset, or up to the end; a file of the
 /// first edition is one of the new edition too.
 pub fn fracture(file: &[u8], out: &mut [i32], scratch: &mut [i32]) -> Result<Done, Refusal> {

@@ -4,6 +4,10 @@
 //! A layer is a slice of `i32` words, 24 for each trapezoid: left base (two lines), right base
 //! (two lines), bottom, top. A line is x1 y1 x2 y2 with x1 < x2, each from -2048 to 2048.
 //!
+//! [`combine`], [`equal`], [`components`] and [`transistors`] refuse a layer in which two trapezoids
+//! overlap ([`refused::OVERLAP`]); the other calls take it. What [`deoverlap`] and [`combine`] write
+//! has no overlaps.
+//!
 //! docs/CALLS.md of the repository says what each call takes, answers and writes, and has the table of
 //! refusals and the rule of space; docs/FORMATS.md has the files.
 
@@ -70,6 +74,8 @@ pub mod refused {
     pub const SIDES: u8 = 11;
     /// No space.
     pub const SPACE: u8 = 12;
+    /// Two trapezoids of one layer that overlap. Checked before the space.
+    pub const OVERLAP: u8 = 13;
 }
 
 /// Which set operation.
@@ -140,7 +146,8 @@ pub enum Equality {
     Differs { operand: u8, overlays: u32 },
 }
 
-/// Combines layers A and B into `out`.
+/// Combines layers A and B into `out`. The result has no overlaps. A layer that has some is refused
+/// with 13.
 pub fn combine(
     code: Code,
     a: &[i32],
@@ -151,7 +158,8 @@ pub fn combine(
     combine_by_number(code as u32, a, b, out, scratch)
 }
 
-/// [`combine`] with the code as a number. Above 4 it is refused with 2.
+/// [`combine`] with the code as a number. Above 4 it is refused with 2. A layer with overlaps is refused
+/// with 13.
 pub fn combine_by_number(
     code: u32,
     a: &[i32],
@@ -162,12 +170,13 @@ pub fn combine_by_number(
     done(raw::combine(code, a, b, out, scratch))
 }
 
-/// Writes disjoint trapezoids with the same points as layer A into `out`.
+/// Writes disjoint trapezoids with the same points as layer A, which may have overlaps, into `out`.
 pub fn deoverlap(a: &[i32], out: &mut [i32], scratch: &mut [i32]) -> Result<Done, Refusal> {
     done(raw::deoverlap(a, out, scratch))
 }
 
-/// Whether layers A and B hold the same points. `out` and `scratch` are room to work in.
+/// Whether layers A and B hold the same points. `out` and `scratch` are room to work in. A layer with
+/// overlaps is refused with 13.
 pub fn equal(
     a: &[i32],
     b: &[i32],
@@ -184,7 +193,7 @@ pub fn equal(
     })
 }
 
-/// Whether the point (x / d, y / d) lies in layers A and B combined by `code`.
+/// Whether the point (x / d, y / d) lies in layers A and B combined by `code`. They may have overlaps.
 pub fn contains(x: i32, y: i32, d: i32, a: &[i32], b: &[i32], code: Code) -> Result<bool, Refusal> {
     contains_by_number(x, y, d, a, b, code as u32)
 }
@@ -278,7 +287,7 @@ pub mod raw {
         }
     }
 
-    /// The value is the number of trapezoids written.
+    /// The value is the number of trapezoids written. Layers with overlaps are refused with 13.
     pub fn combine(code: u32, a: &[i32], b: &[i32], out: &mut [i32], scratch: &mut [i32]) -> u64 {
         // SAFETY: each pointer and length is one Rust slice, alive during the call. The library
         // reads a and b, which may be the same, and writes only within out and scratch, which
@@ -313,7 +322,8 @@ pub mod raw {
         }
     }
 
-    /// The value is 0 for same, 1 for differs with operand 0, 2 for differs with operand 1.
+    /// The value is 0 for same, 1 for differs with operand 0, 2 for differs with operand 1. Layers with
+    /// overlaps are refused with 13.
     pub fn equal(a: &[i32], b: &[i32], out: &mut [i32], scratch: &mut [i32]) -> u64 {
         // SAFETY: as in `combine`.
         unsafe {

@@ -48,7 +48,8 @@ impl Transistors {
 /// emitter, and 0 past the triples. `out` and `scratch` are room to work in.
 ///
 /// There are at most as many triples as shapes of the emitters' layer: a list of [`TRIPLE_WORDS`] words
-/// for each of its trapezoids is always long enough. One too short is refused with 12.
+/// for each of its trapezoids is always long enough. One too short is refused with 12, a layer with
+/// overlaps with 13.
 ///
 /// ```
 /// use loxurfa::{transistors, Triple};

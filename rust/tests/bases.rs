@@ -59,12 +59,12 @@ fn equality(a: &[i32], b: &[i32]) -> u64 {
 fn lines_exchanged() {
     let mut random = Random(0x1ef7);
     let rounds = rounds(2);
-    let mut overlapping = 0;
+    let (mut overlapping, mut refused) = (0, 0);
     for _ in 0..rounds {
         let scene = Scene::new(&mut random);
         let (a, b) = (
-            scene.any_layer(&mut random, 6),
-            scene.any_layer(&mut random, 6),
+            scene.mostly_disjoint_layer(&mut random, 6),
+            scene.mostly_disjoint_layer(&mut random, 6),
         );
         let (a2, b2) = (exchanged(&mut random, &a), exchanged(&mut random, &b));
         for code in Code::ALL {
@@ -74,8 +74,10 @@ fn lines_exchanged() {
                 in_order(combined(code, &a2, &b2, 512)),
                 "{code:?}\n{a:?}\n{b:?}\n{a2:?}\n{b2:?}"
             );
-            if let (Code::Intersection, Ok((done, _))) = (code, result) {
-                overlapping += usize::from(done.pieces > 0);
+            match (code, result) {
+                (Code::Intersection, Ok((done, _))) => overlapping += usize::from(done.pieces > 0),
+                (Code::Intersection, Err(refusal)) => refused += usize::from(refusal.number == 13),
+                _ => {}
             }
         }
         assert_eq!(
@@ -98,4 +100,5 @@ fn lines_exchanged() {
         }
     }
     assert_met("intersections that are not empty", overlapping, rounds, 20);
+    assert_met("refused 13", refused, rounds, 100);
 }

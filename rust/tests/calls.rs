@@ -133,11 +133,20 @@ fn calls(random: &mut Random, of_each: usize) -> Vec<Call> {
         with(Function::Deoverlap, vec![words(&both), room(), room()]);
         with(
             Function::Components,
-            vec![words(&both), Buffer::Numbers(vec![7; 40])],
+            vec![words(&upright), Buffer::Numbers(vec![7; 20])],
         );
-        let layers = [&both, &upright, &lying].map(words).to_vec();
+        let layers = [&lying, &upright, &lying].map(words).to_vec();
         let rest = vec![Buffer::Numbers(vec![7; 60]), room(), room()];
         with(Function::Transistors, [layers, rest].concat());
+        // Both in one layer overlap, and are refused.
+        with(
+            Function::Combine,
+            vec![words(&lying), words(&both), room(), room()],
+        );
+        with(
+            Function::Components,
+            vec![words(&both), Buffer::Numbers(vec![7; 40])],
+        );
         with(
             Function::ReadLayers,
             vec![
@@ -296,6 +305,15 @@ fn the_order_of_rows() {
     second[23] = 2049;
     let answer = raw::combine(0, &[first, second].concat(), &[], out, scratch);
     assert_eq!(answer, support::outcomes::refusal(9, 0));
+    // Overlaps: 0 and 3, 1 and 2. There is one record only.
+    let square = |x: i32| rectangle(x, x + 1, 0, 1);
+    let pairs = [square(0), square(2), square(2), square(0)].concat();
+    let answer = raw::combine(0, &pairs, &[], out, scratch);
+    assert_eq!(answer, support::outcomes::refusal(13, 2));
+    let mut sides = square(0);
+    sides.copy_within(16..20, 20);
+    let answer = raw::combine(0, &pairs, &sides, out, scratch);
+    assert_eq!(answer, support::outcomes::refusal(11, 4));
 }
 
 /// What docs/CALLS.md says of a transistor's space.

@@ -4,7 +4,7 @@ mod reference;
 mod support;
 
 use loxurfa::raw;
-use reference::{read_layer, unfit, Step, Trapezoid, WORDS};
+use reference::{first_overlap, read_layer, unfit, Step, Trapezoid, WORDS};
 use std::collections::HashSet;
 use support::{assert_met, damage, point_near, rounds, Random, Scene};
 
@@ -111,11 +111,17 @@ impl Chain {
     }
 }
 
-fn is_fit(layer: &[i32]) -> bool {
+/// Whether rows 7 to 11 pass the layer, which may have overlaps.
+fn is_readable(layer: &[i32]) -> bool {
     layer.len().is_multiple_of(WORDS) && layer.chunks(WORDS).all(|record| unfit(record).is_none())
 }
 
-/// One to four starting layers, disjoint; now and then one is unfit.
+/// Whether the layer is fit as input of any call.
+fn is_fit(layer: &[i32]) -> bool {
+    is_readable(layer) && first_overlap(&[read_layer(layer)]).is_none()
+}
+
+/// One to four starting layers, disjoint; now and then one has overlaps, or an unfit trapezoid.
 fn starting_layers(random: &mut Random) -> Vec<Vec<i32>> {
     let scene = Scene::new(random);
     let mut start: Vec<Vec<i32>> = (0..random.range(1, 4))
@@ -128,6 +134,10 @@ fn starting_layers(random: &mut Random) -> Vec<Vec<i32>> {
         if !is_fit(&layer) {
             start[number] = layer;
         }
+    }
+    if random.once_in(10) {
+        let number = random.below(start.len());
+        start[number] = scene.layer(random, 4);
     }
     start
 }
@@ -233,13 +243,15 @@ fn random_chain(random: &mut Random, start: &[Vec<i32>], steps: usize) -> Chain 
 struct Met {
     successes: usize,
     not_called: usize,
-    refusals: [usize; 13],
+    refusals: [usize; 14],
     in_layer: usize,
     out_of_layer: usize,
     same: usize,
     differs: [usize; 2],
     equal_refused: usize,
     agree: usize,
+    /// Successes in a chain with a starting layer that has overlaps.
+    results_beside: usize,
 }
 
 impl Met {
@@ -256,7 +268,8 @@ impl Met {
     }
 }
 
-/// Points against the tally; disjointness; lines word for word; fitness.
+/// Points against the tally; disjointness; lines word for word; fitness. From any starting layers that can be
+/// read: a call that is lent one with overlaps is refused and adds nothing.
 fn check_points(random: &mut Random, chain: &Chain, met: &mut Met) {
     let layers: Vec<Vec<Trapezoid>> = chain.layers.iter().map(|words| read_layer(words)).collect();
     let start: Vec<&[Trapezoid]> = layers[..chain.start].iter().map(|l| &l[..]).collect();
@@ -268,9 +281,11 @@ fn check_points(random: &mut Random, chain: &Chain, met: &mut Met) {
             .collect();
         let entries = reference::evaluate(&fed, &chain.steps);
         assert_eq!(entries.len(), layers.len());
-        for (layer, said) in layers.iter().zip(entries) {
+        for (number, (layer, said)) in layers.iter().zip(entries).enumerate() {
             let times = reference::holders(layer, p);
-            assert!(times == said as usize, "{p:?} {:?}", chain.orders);
+            assert!((times > 0) == said, "{p:?} {:?}", chain.orders);
+            let once = times <= 1 || number < chain.start && !is_fit(&chain.layers[number]);
+            assert!(once, "{p:?} {:?}", chain.orders);
             if said {
                 met.in_layer += 1;
             } else {
@@ -335,6 +350,31 @@ fn check_equal(random: &mut Random, chain: &Chain, met: &mut Met) {
     }
 }
 
+/// A step is refused for overlaps only if it borrows a starting layer that has some: no result has any. And a
+/// step that borrows one adds nothing.
+fn check_overlaps(chain: &Chain, met: &mut Met) {
+    let mut from_disjoint = true;
+    for layer in &chain.layers[..chain.start] {
+        from_disjoint &= is_fit(layer) || !is_readable(layer);
+    }
+    for (order, answer) in chain.orders.iter().zip(&chain.answers) {
+        let Some(answer) = answer else {
+            continue;
+        };
+        let refused = answer >> 32 == 1 << 31 | 13;
+        assert!(!refused || !from_disjoint, "{order:?}");
+        let overlapping = |number: usize| {
+            number < chain.start
+                && is_readable(&chain.layers[number])
+                && !is_fit(&chain.layers[number])
+        };
+        let lent = overlapping(order.a) || overlapping(order.b);
+        assert!(!refused || lent, "{order:?}");
+        assert!(!lent || answer >> 63 == 1, "{order:?}");
+        met.results_beside += (!from_disjoint && answer >> 63 == 0) as usize;
+    }
+}
+
 #[test]
 fn chains() {
     let random = &mut Random(11);
@@ -345,9 +385,10 @@ fn chains() {
         let steps = random.below(9);
         let chain = random_chain(random, &start, steps);
         met.note_steps(&chain);
-        if start.iter().all(|layer| is_fit(layer)) {
+        if start.iter().all(|layer| is_readable(layer)) {
             check_points(random, &chain, &mut met);
         }
+        check_overlaps(&chain, &mut met);
         check_equal(random, &chain, &mut met);
     }
     assert_met("successes", met.successes, rounds, 1);
@@ -357,6 +398,8 @@ fn chains() {
         assert_met(&name, met.refusals[number], rounds, 20);
     }
     assert_met("unfit", met.refusals[7..12].iter().sum(), rounds, 50);
+    assert_met("refused 13", met.refusals[13], rounds, 50);
+    assert_met("results beside overlaps", met.results_beside, rounds, 50);
     assert_met("points in", met.in_layer, rounds, 1);
     assert_met("points out", met.out_of_layer, rounds, 1);
     assert_met("same", met.same, rounds, 2);
@@ -407,9 +450,10 @@ fn two_chains() {
         assert!(both.answers == [&first.answers[..], &second.answers[..]].concat());
 
         // The sameness test across the two.
-        if start.iter().all(|layer| is_fit(layer)) {
+        if start.iter().all(|layer| is_readable(layer)) {
             check_points(random, &both, &mut met);
         }
+        check_overlaps(&both, &mut met);
         check_equal(random, &both, &mut met);
     }
     assert_met("numbers raised", raised, rounds, 2);

@@ -145,6 +145,7 @@ fn refusals() -> Vec<(&'static str, i64, i64)> {
     let directory = "crates/files/specs/Directory.antt";
     let fitness = "crates/geometry/specs/Fitness.antt";
     let outcomes = "crates/calls/specs/Outcomes.antt";
+    let overlaps = "crates/overlay/specs/Overlaps.antt";
     let grid = between(fitness, "pass (all (lineOnGrid L) (linesOf t)) ", " ");
     assert_eq!(
         grid,
@@ -213,6 +214,11 @@ fn refusals() -> Vec<(&'static str, i64, i64)> {
             refused::SIDES.into(),
         ),
         ("SPACE", space, refused::SPACE.into()),
+        (
+            "OVERLAP",
+            between(overlaps, "refuseOverlap true i c = Refused ", " i"),
+            refused::OVERLAP.into(),
+        ),
     ]
 }
 

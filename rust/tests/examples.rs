@@ -307,6 +307,12 @@ fn combine_refused() {
         .collect();
     let words = file_words(&[upright, lying], WORDS);
     refused(&words, ["1", "0", "1"], "refused 12 place 0");
+    // Two trapezoids of a layer that overlap: the file is read, the layer is refused.
+    let square = rectangle(0, 4, 0, 4);
+    let overlapping = [square.clone(), rectangle(2, 6, 2, 6)].concat();
+    let words = file_words(&[square, overlapping], WORDS);
+    refused(&words, ["0", "0", "1"], "refused 13 place 2");
+    refused(&words, ["1", "1", "0"], "refused 13 place 1");
     // The result is one layer, or some trapezoids, too many for a file.
     let words = file_words(&vec![rectangle(0, 1, 0, 1); 16], WORDS);
     refused(&words, ["0", "0", "1"], "refused 5 place 0");

@@ -3,7 +3,8 @@
 mod reference;
 mod support;
 
-use loxurfa::{decode_layers, deoverlap, fracture, fracture_first_edition};
+use loxurfa::{combine, decode_layers, deoverlap, encode_layers};
+use loxurfa::{fracture, fracture_first_edition, Code};
 use loxurfa::{Refusal, MAX_TRAPEZOIDS, TRAPEZOID_WORDS};
 use reference::listing::{list, listing};
 use support::files::file_bytes;
@@ -106,6 +107,27 @@ fn polygon_file_of_the_new_edition() {
     offset[0x0c..0x10].copy_from_slice(&2i32.to_le_bytes());
     offset[0x08] = 3;
     assert_eq!(trapezoids(&offset).map(|_| 0), refused(6, 1));
+}
+
+/// A layer whose trapezoids overlap, on file: it is written and read as it stands, and refused by a set operation. Two
+/// polygons that overlap are listed.
+#[test]
+fn overlaps_on_file() {
+    let dumps = dumps(&text());
+    let polygon = trapezoids(&dumps[0]).expect("not refused");
+    let twice = vec![[&polygon[..], &polygon].concat()];
+    let file = encode_layers(&twice).expect("not refused");
+    assert_eq!(decode_layers(&file), Ok(twice.clone()));
+    let room = || vec![0; MAX_TRAPEZOIDS * TRAPEZOID_WORDS];
+    let refused = Refusal {
+        number: 13,
+        place: 1,
+    };
+    let union = combine(Code::Union, &twice[0], &[], &mut room(), &mut room());
+    assert_eq!(union, Err(refused));
+    let vertices = [-2, -1, 2, -1, -2, 3];
+    let two = [&[2, 0, 3, 3, 3][..], &vertices, &vertices].concat();
+    assert_eq!(trapezoids(&file_bytes(&two)), Ok(polygon));
 }
 
 #[test]

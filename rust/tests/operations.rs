@@ -5,14 +5,14 @@ mod reference;
 mod support;
 
 use loxurfa::{raw, Code, Done, Equality, Refusal};
-use reference::{read_layer, WORDS};
+use reference::{read_layer, Trapezoid, WORDS};
 use support::outcomes::refusal;
 use support::{assert_met, damage, point_near, rectangle, rounds, whole_point, Random, Scene};
 
 /// How often each outcome came up.
 #[derive(Default, Debug)]
 struct Met {
-    refusals: [usize; 13],
+    refusals: [usize; 14],
     values: [usize; 3],
 }
 
@@ -139,14 +139,17 @@ fn about(random: &mut Random, needed: usize) -> usize {
     records.min(512)
 }
 
+/// A way to make a layer of at most so many trapezoids, or parts of them.
+type Maker = fn(&Scene, &mut Random, usize) -> Vec<i32>;
+
 /// Layers, buffers to be chosen.
-fn layers(random: &mut Random, most: usize) -> Call {
+fn layers(random: &mut Random, most: usize, layer: Maker) -> Call {
     let scene = Scene::new(random);
-    let a = scene.any_layer(random, most);
+    let a = layer(&scene, random, most);
     let b = if random.once_in(4) {
         scene.kin(random, &a)
     } else {
-        scene.any_layer(random, most)
+        layer(&scene, random, most)
     };
     let (a, b) = if random.once_in(2) { (a, b) } else { (b, a) };
     Call {
@@ -227,20 +230,42 @@ fn overlay_of_the_reference() {
     }
 }
 
+/// The trapezoid at this place of the layers, numbered on, has a rational point in common with an earlier
+/// one of its layer.
+fn assert_overlap_at(layers: &[&[Trapezoid]], mut place: usize) {
+    for layer in layers {
+        if place < layer.len() {
+            let apart = |earlier| reference::plainly_apart(&layer[place], earlier);
+            assert!(!layer[..place].iter().all(apart), "{layer:?} {place}");
+            return;
+        }
+        place -= layer.len();
+    }
+    panic!("there is no such place");
+}
+
 #[test]
 fn combine() {
     let random = &mut Random(1);
     let rounds = rounds(100);
     let mut met: [Met; 5] = Default::default();
+    let mut overlaps = [0; 2];
     let (mut yes, mut no) = (0, 0);
     for _ in 0..rounds {
-        let mut call = layers(random, 12);
+        let mut call = layers(random, 12, Scene::mostly_disjoint_layer);
         let (a, b) = (read_layer(&call.a), read_layer(call.b()));
         let needed = reference::room_to_combine(call.code, &a, &b);
         let records = about(random, needed);
         buffers(random, &mut call, records);
         let (answer, out) = call.combine();
         met[call.code as usize].note(answer);
+        // Overlaps come before the space.
+        if answer >> 32 == refusal(13, 0) >> 32 {
+            let place = answer as u32 as usize;
+            assert_overlap_at(&[&a, &b], place);
+            overlaps[(place >= a.len()) as usize] += 1;
+            continue;
+        }
         assert_eq!(answer >> 63 == 1, records < needed);
         if answer >> 63 == 1 {
             continue;
@@ -251,12 +276,10 @@ fn combine() {
         for _ in 0..6 {
             let p = point_near(random, &[&a, &b]);
             let (in_a, in_b) = (reference::holders(&a, p), reference::holders(&b, p));
+            assert!(in_a <= 1 && in_b <= 1, "{p:?}\n{}", call.describe());
             let said = reference::set_word(call.code, in_a > 0, in_b > 0);
             let times = reference::holders(&result, p);
-            assert!((times > 0) == said, "{p:?}\n{}", call.describe());
-            if in_a <= 1 && in_b <= 1 {
-                assert!(times <= 1, "{p:?}\n{}", call.describe());
-            }
+            assert!(times == said as usize, "{p:?}\n{}", call.describe());
             if said {
                 yes += 1;
             } else {
@@ -267,11 +290,15 @@ fn combine() {
     for (code, met) in met.iter().enumerate() {
         let name = format!("code {code}");
         assert_met(&format!("{name} refused 12"), met.refusals[12], rounds, 100);
+        assert_met(&format!("{name} refused 13"), met.refusals[13], rounds, 400);
         assert_met(&format!("{name} empty"), met.values[0], rounds, 400);
         assert_met(&format!("{name} one"), met.values[1], rounds, 400);
         assert_met(&format!("{name} more"), met.values[2], rounds, 50);
-        assert_eq!(met.refusals.iter().sum::<usize>(), met.refusals[12]);
+        let both = met.refusals[12] + met.refusals[13];
+        assert_eq!(met.refusals.iter().sum::<usize>(), both);
     }
+    assert_met("overlaps in A", overlaps[0], rounds, 100);
+    assert_met("overlaps in B", overlaps[1], rounds, 100);
     assert_met("points in", yes, rounds, 4);
     assert_met("points out", no, rounds, 4);
 }
@@ -282,7 +309,7 @@ fn deoverlap() {
     let rounds = rounds(40);
     let mut met = Met::default();
     for _ in 0..rounds {
-        let mut call = layers(random, 14);
+        let mut call = layers(random, 14, Scene::any_layer);
         let a = read_layer(&call.a);
         let needed = reference::room_to_deoverlap(&a);
         let records = about(random, needed);
@@ -314,9 +341,9 @@ fn equal() {
     let mut met = Met::default();
     for _ in 0..rounds {
         let scene = Scene::new(random);
-        let a = scene.any_layer(random, 8);
+        let a = scene.mostly_disjoint_layer(random, 8);
         let b = match random.below(3) {
-            0 => scene.any_layer(random, 8),
+            0 => scene.mostly_disjoint_layer(random, 8),
             _ => scene.kin(random, &a),
         };
         let mut call = Call {
@@ -336,6 +363,10 @@ fn equal() {
         buffers(random, &mut call, records);
         let (answer, out) = call.equal();
         met.note(answer);
+        if answer >> 32 == refusal(13, 0) >> 32 {
+            assert_overlap_at(&[&a, &b], answer as u32 as usize);
+            continue;
+        }
         assert_eq!(answer >> 63 == 1, records < needed);
         assert!(out.iter().all(|&word| word == 0));
         if answer >> 63 == 1 {
@@ -351,6 +382,7 @@ fn equal() {
         }
     }
     assert_met("refused 12", met.refusals[12], rounds, 20);
+    assert_met("refused 13", met.refusals[13], rounds, 50);
     assert_met("same", met.values[0], rounds, 20);
     assert_met("differs 0", met.values[1], rounds, 20);
     assert_met("differs 1", met.values[2], rounds, 20);
@@ -363,7 +395,7 @@ fn contains() {
     let mut met: [Met; 5] = Default::default();
     let mut on_limits = 0;
     for _ in 0..rounds {
-        let call = layers(random, 8);
+        let call = layers(random, 8, Scene::any_layer);
         let (a, b) = (read_layer(&call.a), read_layer(call.b()));
         for _ in 0..2 {
             let mut chosen = None;
@@ -413,7 +445,7 @@ fn refusals() {
     let mut later_places = 0;
     let mut places_in_b = 0;
     for _ in 0..rounds {
-        let mut call = layers(random, 5);
+        let mut call = layers(random, 5, Scene::mostly_disjoint_layer);
         let records = match random.below(4) {
             0 => 0,
             1 => random.below(4),
@@ -486,13 +518,17 @@ fn refusals() {
         met_contains.note(call.contains(x, y, d));
     }
     for (name, met, numbers) in [
-        ("combine", &met_combine, &[1, 2, 7, 8, 9, 10, 11, 12][..]),
+        (
+            "combine",
+            &met_combine,
+            &[1, 2, 7, 8, 9, 10, 11, 12, 13][..],
+        ),
         ("deoverlap", &met_deoverlap, &[1, 7, 8, 9, 10, 11, 12][..]),
-        ("equal", &met_equal, &[1, 7, 8, 9, 10, 11, 12][..]),
+        ("equal", &met_equal, &[1, 7, 8, 9, 10, 11, 12, 13][..]),
         ("contains", &met_contains, &[1, 2, 3, 7, 8, 9, 10, 11][..]),
     ] {
         assert_met(&format!("{name} done"), met.done(), rounds, 50);
-        for number in 1..13 {
+        for number in 1..14 {
             let times = met.refusals[number];
             if numbers.contains(&number) {
                 assert_met(&format!("{name} refused {number}"), times, rounds, 200);
@@ -564,6 +600,12 @@ fn noise() {
     }
 }
 
+/// The layer's first trapezoid in the place of its last.
+fn end_with_the_first(layer: &mut [i32]) {
+    let last = layer.len() - WORDS;
+    layer.copy_within(..WORDS, last);
+}
+
 /// Layers of many trapezoids, up to 512 and past it.
 #[test]
 fn large() {
@@ -572,7 +614,7 @@ fn large() {
     let mut met = Met::default();
     let mut full = 0;
     for round in 0..rounds {
-        // Tiles in rows, a random choice of them, some slanted.
+        // Tiles in rows, a random choice of them, some slanted; each within a place of its own.
         let mut tiles = |count: usize| -> Vec<i32> {
             let mut places: Vec<i32> = (0..32 * 32).collect();
             random.shuffle(&mut places);
@@ -580,8 +622,8 @@ fn large() {
             let mut words = Vec::new();
             for place in places {
                 let (x, y) = (place % 32 * 60 - 960, place / 32 * 60 - 960);
-                let (dx, dy) = (random.range(0, 30), random.range(0, 30));
-                let slope = random.range(-20, 20);
+                let (dx, dy) = (random.range(0, 30), random.range(10, 30));
+                let slope = random.range(-10, 10);
                 let line = |y: i32| reference::Line::new(&[x, y, x + 60, y + slope]);
                 words.extend(support::six_lines(
                     support::mark(x + dx),
@@ -601,6 +643,13 @@ fn large() {
             }
             _ => (tiles(counts[round % 8]), tiles(counts[round / 4 % 8])),
         };
+        // Now and then the first tile in the place of the last.
+        let (mut a, mut b) = (a, b);
+        match round % 8 {
+            5 => end_with_the_first(&mut a),
+            6 => end_with_the_first(&mut b),
+            _ => {}
+        }
         let mut call = Call {
             code: round as u32 % 5,
             a,
@@ -618,6 +667,7 @@ fn large() {
         call.contains(random.range(-900, 900), random.range(-900, 900), 1);
     }
     assert!(met.refusals[1] > 0 && met.refusals[12] > 0 && met.done() > rounds / 2);
+    assert_met("refused 13", met.refusals[13], rounds, 8);
     assert!(full > 0, "{met:?}");
 }
 
@@ -819,7 +869,7 @@ fn wrappers() {
     let rounds = rounds(10);
     let mut met = Met::default();
     for _ in 0..rounds {
-        let mut call = layers(random, 5);
+        let mut call = layers(random, 5, Scene::mostly_disjoint_layer);
         let records = random_records(random).min(30);
         buffers(random, &mut call, records);
         if random.once_in(6) {
@@ -879,5 +929,6 @@ fn wrappers() {
         );
     }
     assert_met("refused", met.refusals.iter().sum(), rounds, 10);
+    assert_met("refused 13", met.refusals[13], rounds, 100);
     assert_met("done", met.done(), rounds, 10);
 }

@@ -235,6 +235,23 @@ fn deoverlap_of_q_and_r() {
     );
 }
 
+/// Paper 02 (vi): Q and R overlap, so they are no layer for a set operation, the later one being named; one of
+/// each layer may.
+#[test]
+fn overlap_of_q_and_r() {
+    let both = [q(), r()].concat();
+    let overlap = |place: u32| Err(Refusal { number: 13, place });
+    for code in Code::ALL {
+        assert_eq!(combined(code, &both, &q(), 512), overlap(1));
+        assert_eq!(combined(code, &q(), &both, 512), overlap(2));
+        assert!(combined(code, &q(), &r(), 512).is_ok());
+    }
+    assert_eq!(
+        contains(3, 3, 1, &both, &both, Code::Intersection),
+        Ok(true)
+    );
+}
+
 /// 512 trapezoids are a layer, 513 are not.
 #[test]
 fn longest_layer() {

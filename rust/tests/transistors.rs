@@ -10,7 +10,8 @@ use reference::{lies_in, read_layer, Line, WORDS};
 use support::cells::{cells, ring};
 use support::outcomes::{refusal, Outcomes};
 use support::shapes::{apart, comb, far_bases, reordered, snake, tiles};
-use support::{assert_met, damage, level, mark, point_near, rectangle, rounds, six_lines, words};
+use support::{assert_met, damage, level, mark, mostly_disjoint, point_near, rectangle};
+use support::{repeat_one, rounds, six_lines, words};
 use support::{Random, Scene};
 
 /// Collectors, bases and emitters.
@@ -36,7 +37,7 @@ impl Call {
     }
 
     /// The answer and the list by the library, which are those of the reference, and what is said of every
-    /// call: refused with 1 to 11 nothing changes, else output and scratch area are 0, and the list past
+    /// call: refused with 1 to 11 or 13 nothing changes, else output and scratch area are 0, and the list past
     /// the triples.
     fn perform(&self) -> (u64, Vec<u32>) {
         let [c, b, e] = self.layers.each_ref();
@@ -70,7 +71,7 @@ impl Call {
         assert!(out == right_out, "output\n{}", describe());
         assert!(scratch == right_scratch, "scratch area\n{}", describe());
 
-        if answer >> 63 == 1 && answer >> 32 & 0xff < 12 {
+        if answer >> 63 == 1 && answer != NO_SPACE {
             assert!((&list, &out, &scratch) == (&self.list, &self.out, &self.scratch));
             return (answer, list);
         }
@@ -310,10 +311,10 @@ fn in_pieces() {
     };
     let layers = [cells(0), cells(2), cells(4)];
     assert_listed(&layers, &[[0, 0, 0], [1, 1, 1]], 4 + 4, 1);
-    // Trapezoids that overlap are one shape.
+    // Trapezoids that overlap are refused: the second of the bases, behind the collector.
     let twice = two(square(2, 2, 8), square(2, 2, 8));
     let layers = [square(0, 0, 12), twice, square(4, 4, 2)];
-    assert_listed(&layers, &[[0, 0, 0]], 2 + 1, 0);
+    assert_eq!(Call::new(&layers, 9, 4).perform().0, refusal(13, 2));
 }
 
 /// The number of a shape is the lowest of its trapezoids.
@@ -559,7 +560,7 @@ fn refusals() {
     let random = &mut Random(121);
     let rounds = rounds(40);
     let mut met = Outcomes::default();
-    let mut places = [0; 3];
+    let (mut places, mut overlaps) = ([0; 3], [0; 3]);
     for _ in 0..rounds {
         let layers = cells(random);
         let (mut call, _) = call_about(random, layers);
@@ -585,22 +586,29 @@ fn refusals() {
                     let words = random.below(call.scratch.len() + 50);
                     call.scratch = random.garbage(words);
                 }
+                4 | 5 => repeat_one(random, &mut call.layers[layer]),
                 _ => damage(random, &mut call.layers[layer]),
             }
         }
         let (answer, _) = call.perform();
         met.note(answer);
-        if answer >> 63 == 1 && (7..12).contains(&(answer >> 32 & 0xff)) {
-            let place = answer as u32 as usize;
-            let [c, b, _] = call.layers.each_ref().map(|layer| layer.len() / WORDS);
-            places[(place >= c) as usize + (place >= c + b) as usize] += 1;
+        let place = answer as u32 as usize;
+        let [c, b, _] = call.layers.each_ref().map(|layer| layer.len() / WORDS);
+        let layer = (place >= c) as usize + (place >= c + b) as usize;
+        match answer >> 32 & 0xff {
+            7..=11 if answer >> 63 == 1 => places[layer] += 1,
+            13 if answer >> 63 == 1 => overlaps[layer] += 1,
+            _ => {}
         }
     }
-    met.assert_refusals("transistors", &[1, 7, 8, 9, 10, 11, 12], rounds, 200);
-    met.assert_later("transistors", &[7, 8, 9, 10, 11], rounds, 200);
+    met.assert_refusals("transistors", &[1, 7, 8, 9, 10, 11, 12, 13], rounds, 200);
+    met.assert_later("transistors", &[7, 8, 9, 10, 11, 13], rounds, 200);
     assert!(met.done() > rounds / 50, "{met:?}");
     for (layer, &times) in places.iter().enumerate() {
         assert_met(&format!("places in layer {layer}"), times, rounds, 50);
+    }
+    for (layer, &times) in overlaps.iter().enumerate() {
+        assert_met(&format!("overlaps in layer {layer}"), times, rounds, 200);
     }
 }
 
@@ -655,11 +663,19 @@ fn nested() {
     let rounds = rounds(40);
     let mut met = Outcomes::default();
     let (mut short_list, mut short_room, mut reordered_bases, mut points) = (0, 0, 0, 0);
+    let mut overlaps = [0; 3];
     for _ in 0..rounds {
         let layers = cells(random);
         let (call, needed) = call_about(random, layers);
         let (answer, list) = call.perform();
         met.note(answer);
+        // Overlaps come before the space.
+        if answer >> 32 == refusal(13, 0) >> 32 {
+            let place = answer as u32 as usize;
+            let [c, b, _] = call.layers.each_ref().map(|layer| layer.len() / WORDS);
+            overlaps[(place >= c) as usize + (place >= c + b) as usize] += 1;
+            continue;
+        }
         let list_fits = TRIPLE_WORDS * needed.triples.len() <= call.list.len();
         let room_fits = needed.room * WORDS <= call.out.len();
         assert_eq!(answer >> 63 == 0, list_fits && room_fits);
@@ -690,7 +706,11 @@ fn nested() {
             assert_eq!(listed, by_other_calls(&call.layers));
         }
     }
-    met.assert_refusals("transistors", &[12], rounds, 5);
+    met.assert_refusals("transistors", &[12, 13], rounds, 50);
+    assert_met("refused 12", met.refusals[12], rounds, 5);
+    for (layer, &times) in overlaps.iter().enumerate() {
+        assert_met(&format!("overlaps in layer {layer}"), times, rounds, 500);
+    }
     met.assert_values("transistors", rounds, 20);
     assert_met("list too short", short_list, rounds, 20);
     assert_met("output too short", short_room, rounds, 20);
@@ -709,18 +729,20 @@ fn any_layers() {
         let layers = match random.below(6) {
             0 => [(); 3].map(|()| {
                 let count = random.below(4);
-                far_bases(random, count)
+                let layer = far_bases(random, count);
+                mostly_disjoint(random, layer)
             }),
             1 => {
-                let layer = scene.any_layer(random, 6);
+                let layer = scene.mostly_disjoint_layer(random, 6);
                 [layer.clone(), layer.clone(), layer]
             }
-            _ => [(); 3].map(|()| scene.any_layer(random, 6)),
+            _ => [(); 3].map(|()| scene.mostly_disjoint_layer(random, 6)),
         };
         let (call, _) = call_about(random, layers);
         met.note(call.perform().0);
     }
-    met.assert_refusals("transistors", &[12], rounds, 10);
+    met.assert_refusals("transistors", &[12, 13], rounds, 20);
+    assert_met("refused 12", met.refusals[12], rounds, 10);
     met.assert_values("transistors", rounds, 100);
 }
 

@@ -1,12 +1,12 @@
 -- From what was sent to what is on file.
 use mathlib.Core.Path.{_≡_, refl, sym, _∙_, ap, subst}
 use mathlib.Core.Bool.{Bool}
-use mathlib.Core.List.{List, [], _∷_, map}
+use mathlib.Core.List.{List, [], _∷_, _++_, map}
 use Prim.Native.Nat.{ℕ, zero, suc, _*_, _/_, _<_, _≤_}
 use native.Mathlib.Omega.{arith}
 use lib.Dec.{T}
 use lib.IntN.{ℤ}
-use lib.ListN.{length, take, getD}
+use lib.ListN.{length, take, getD, length-map}
 use Rattle.lists.specs.Lists.{All}
 use Rattle.geometry.specs.declared.Trapezoid.{Trapezoid}
 use Rattle.geometry.specs.Trapezoids.{layerOf, LiesInLayer, Disjoint}
@@ -16,14 +16,14 @@ use Rattle.files.specs.Outcomes as files
 use Rattle.files.specs.Statements.{bytesWritten, WordsHold}
 use Rattle.files.proofs.RoundTrip.{written-reads}
 use Rattle.files.proofs.Words.{layers-back}
-use Rattle.chains.specs.Chains.{Layer, layerAt, held, entryAt, evaluation}
+use Rattle.chains.specs.Chains.{Layer, layerAt, held, results, entryAt, evaluation}
 use Rattle.chains.specs.Statements.{DisjointLayer}
-use Rattle.chains.proofs.Points.{no-words}
 use Rattle.chains.proofs.Chains.{every-chain}
+use Rattle.chains.proofs.Disjoint.{layer-disjoint}
 use Rattle.archive.specs.Calls.{WriteCall, WriteAccepted, bytesBy, ReadCall, ReadRight, ReadAccepted, wordsBy}
 use Rattle.archive.specs.Archive.{layerFrom, sent, chosen}
 use Rattle.archive.specs.Statements.{ArchiveExact}
-use Rattle.archive.proofs.Sources.{sources-disjoint, sources-fed}
+use Rattle.archive.proofs.Sources.{starting-disjoint, sources-fed}
 
 -- ---- written and read back
 module _ (w : WriteCall) (hold : WordsHold (w .limit)) (written : WriteAccepted w) (r : ReadCall) (more : w .limit ≤ r .limit) (file : r .file ≡ bytesBy w) (kept : ReadRight r) (room : length (w .words) ≤ length (r .out)) where
@@ -53,14 +53,16 @@ chosen-at layers [] i h = absurd (omega arith)
 chosen-at layers (n ∷ numbers) zero h = refl
 chosen-at layers (n ∷ numbers) (suc i) h = chosen-at layers numbers i (omega arith)
 
-chosen-all : (R : List Trapezoid → Type 0) (layers : List Layer) → ((n : ℕ) → R (layerOf (layerAt layers n))) → (numbers : List ℕ) → All R (chosen layers numbers)
-chosen-all R layers f [] = tt
-chosen-all R layers f (n ∷ numbers) = (f n, chosen-all R layers f numbers)
+-- a layer past the starting ones, or one of those, is disjoint
+held-disjoint : (start more : List Layer) → All DisjointLayer more → (n : ℕ) → (n < length start → DisjointLayer (layerAt start n)) → DisjointLayer (layerAt (start ++ more) n)
+held-disjoint [] more h n f = layer-disjoint more h n
+held-disjoint (A ∷ start) more h zero f = f (omega arith)
+held-disjoint (A ∷ start) more h (suc n) f = held-disjoint start more h n (λ l. f (omega (arith, l)))
 
 pub archive-exact : ArchiveExact
 archive-exact sources accepted calls contracts numbers w hold words written r more file kept room =
     let start = map layerFrom sources in
-    let p = every-chain start (sources-disjoint sources accepted) .0 calls contracts in
+    let p = every-chain start .0 calls contracts in
     let layers : layersOf (wordsBy r) ≡ chosen (held start calls) numbers
     = ap layersOf (back-words w hold written r more file kept room ∙ words) ∙ layers-back (chosen (held start calls) numbers) in
     record {
@@ -72,10 +74,9 @@ archive-exact sources accepted calls contracts numbers w hold words written r mo
           (subst (λ (ys : List Bool). IsYes (entryAt (evaluation ys start calls) (getD numbers i 0)) (LiesInLayer P (layerOf (layerAt (held start calls) (getD numbers i 0)))))
           (sources-fed P hP sources accepted)
           (p .points P hP (getD numbers i 0)));
-      disjoint = subst (All Disjoint) (sym layers) (chosen-all Disjoint (held start calls) (λ n. layer-disjoint (held start calls) (p .disjoint) n) numbers);
+      disjoint = λ i h k.
+          let n = getD numbers i 0 in
+          subst Disjoint (sym (ap (λ (tss : List (List Trapezoid)). getD tss i []) layers ∙ chosen-at (held start calls) numbers i h))
+          (subst (λ (now : List Layer). DisjointLayer (layerAt now n)) (sym (p .unchanged))
+          (held-disjoint start (results start calls) (p .disjoint) n (λ l. starting-disjoint sources accepted n (k (subst (λ (m : ℕ). n < m) (length-map sources layerFrom) l)))));
     }
-  where
-    layer-disjoint : (layers : List Layer) → All DisjointLayer layers → (n : ℕ) → Disjoint (layerOf (layerAt layers n))
-    layer-disjoint [] h n = subst Disjoint (sym no-words) tt
-    layer-disjoint (A ∷ layers) h zero = h .0
-    layer-disjoint (A ∷ layers) h (suc n) = layer-disjoint layers (h .1) n

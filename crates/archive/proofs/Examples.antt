@@ -1,4 +1,4 @@
--- The hypotheses can be met: a polygon file with the triangle of paper 01's listing, fractured, deoverlapped and united with itself; the union is put
+-- The hypotheses can be met: a polygon file with the triangle of paper 01's listing, once fractured and once fractured and deoverlapped; the union of the two is put
 -- into a layer file, which is written and read back.
 use mathlib.Core.Path.{_≡_, refl}
 use mathlib.Core.List.{List, [], _∷_, map}
@@ -27,7 +27,7 @@ use Rattle.sweep.specs.Sums.{sum}
 use Rattle.sweep.specs.Segments.{spans, inside, crossInside}
 use Rattle.sweep.specs.Columns.{slabs, upTo, column}
 use Rattle.sweep.specs.Sweep.{columns, sweep}
-use Rattle.overlay.specs.Overlaps.{crossesInCommon, overlapRight, overlapFrom, overlaps}
+use Rattle.overlay.specs.Overlaps.{crossesInCommon, overlapRight, overlapFrom, overlaps, overlapPast}
 use Rattle.overlay.specs.Overlay as overlays
 use Rattle.boolean.specs.Operations.{minus, minusAll, difference, deoverlappedFrom}
 use Rattle.boolean.specs.Space.{minusStages, minusAllStages, differenceStages, deoverlappedStages, space}
@@ -52,7 +52,7 @@ use Rattle.calls.specs.Outcomes as outcomes
 use Rattle.calls.specs.Table.{lent, cleared, vertex, fileOf}
 use Rattle.chains.specs.Chains.{Layer, outcomeOf, called, Call, held, Contracts}
 use Rattle.archive.specs.Calls.{FractureCall, DeoverlapCall, WriteCall, WriteAccepted, bytesBy, ReadCall, ReadRight}
-use Rattle.archive.specs.Archive.{Source, polygons, layerFrom, Accepted, archiveWords}
+use Rattle.archive.specs.Archive.{Source, polygons, disjoint-polygons, layerFrom, Accepted, archiveWords}
 
 -- "0 0 1 0 0 0 1 1 0 0 1 0 2 0 3 1 0 0 2 0 0 2 2 0"
 abbrev triangle : Layer
@@ -75,13 +75,13 @@ abbrev deoverlapping : DeoverlapCall
 deoverlapping = record { limit = plateLimit; layer = triangle; out = lent 1; scratch = lent 1; answer = deoverlapped.Done 1 0; out-then = triangle; scratch-then = cleared 1 }
 
 abbrev sources : List Source
-sources = polygons fracturing deoverlapping ∷ []
+sources = polygons fracturing ∷ disjoint-polygons fracturing deoverlapping ∷ []
 
--- layer 0 united with itself is layer 1
+-- layer 0 united with layer 1 is layer 2
 abbrev calls : List Call
 calls =
     record {
-      step = record { limit = plateLimit; code = 0; first = 0; second = 0; out = lent 1; scratch = lent 1 };
+      step = record { limit = plateLimit; code = 0; first = 0; second = 1; out = lent 1; scratch = lent 1 };
       answer = combined.Done 1 1;
       out = triangle;
       scratch = cleared 1;
@@ -101,12 +101,12 @@ writing = record { limit = plateLimit; words = words; out = replicate 108 7; ans
 abbrev reading : ReadCall
 reading = record { limit = plateLimit; file = bytes; out = replicate 27 (pos 7); answer = read.Done 1 0; out-then = words }
 
-examples : All Accepted sources × Contracts (map layerFrom sources) calls × (words ≡ archiveWords (held (map layerFrom sources) calls) (1 ∷ []))
+examples : All Accepted sources × Contracts (map layerFrom sources) calls × (words ≡ archiveWords (held (map layerFrom sources) calls) (2 ∷ []))
     × WordsHold plateLimit × WriteAccepted writing × (plateLimit ≤ plateLimit) × (reading .file ≡ bytesBy writing) × ReadRight reading
 unfolding _⊕_ _⊖_ _⊗_ ⊝_ orderOf before sized recordAt recordsFrom wordsOf unsigned signed wordOf bytesOf insert levels
     onGrid dx dy offset det numer crosses ratio meet heights rightOf below trapezoidOf trapezoidWords
     order oneSign horizontal lineOnGrid isLine belowBetween shapeVerdict verdict firstRefusal keep sum spans inside crossInside slabs upTo column columns sweep
-    commonLeft commonRight crossesInCommon overlapRight overlapFrom overlaps overlays.sides overlays.sideCrossings overlays.overlayEvents overlays.fills
+    commonLeft commonRight crossesInCommon overlapRight overlapFrom overlaps overlapPast overlays.sides overlays.sideCrossings overlays.overlayEvents overlays.fills
     overlays.tagAbove overlays.stack overlays.parts overlays.subdivision overlays.overlay overlays.tagged
     minus minusAll difference deoverlappedFrom minusStages minusAllStages differenceStages deoverlappedStages space
     fileSized nextOffset lengthRead numberFrom countOf pairLength endOf pairsFrom directoryOf lengthsFrom cut vertexOf vertexWords pairsOf layerFileWords
@@ -115,7 +115,7 @@ unfolding _⊕_ _⊖_ _⊗_ ⊝_ orderOf before sized recordAt recordsFrom words
     fractures.trapezoids fractures.fracture fractures.fractureAll
     fractureChecked combineChecked deoverlapChecked fractureOutcome outcomes.combined deoverlapOutcome outcomeOf called held Contracts
 examples = (
-  (record { fractured = record { kept = refl; accepted = tt }; lent = refl; deoverlapped = record { kept = refl; accepted = tt } }, tt),
+  (record { kept = refl; accepted = tt }, (record { fractured = record { kept = refl; accepted = tt }; lent = refl; deoverlapped = record { kept = refl; accepted = tt } }, tt)),
   (λ f g. refl, tt),
   refl,
   omega arith,

@@ -16,7 +16,7 @@ use Rattle.fracture.specs.Polygons.{windingNumber}
 use Rattle.fracture.specs.Statements.{Wound}
 use Rattle.files.specs.Formats.{fileWords}
 use Rattle.files.specs.Contents.{polygonsOf}
-use Rattle.archive.specs.Archive.{polygons, archived, anyWound, fileLayerAt, SentExact}
+use Rattle.archive.specs.Archive.{polygons, disjoint-polygons, archived, anyWound, fileLayerAt, SentExact}
 
 not-zero : (z : ℤ) → T (not (isZero z)) ↔ ¬ (z ≡ pos 0)
 not-zero z = go (isZero z) (zero-is z) (λ e. subst (λ (y : ℤ). T (isZero y)) (sym e) tt)
@@ -31,5 +31,6 @@ any-wound-exact P (polygon ∷ ps) =
     or-exact (not (isZero (windingNumber P polygon))) (anyWound P ps) (Wound P polygon) (Any (Wound P) ps) (not-zero (windingNumber P polygon)) (any-wound-exact P ps)
 
 pub sent-exact : SentExact
-sent-exact P (polygons f d) = any-wound-exact P (polygonsOf (f .edition) (fileWords (f .file)))
+sent-exact P (polygons f) = any-wound-exact P (polygonsOf (f .edition) (fileWords (f .file)))
+sent-exact P (disjoint-polygons f d) = any-wound-exact P (polygonsOf (f .edition) (fileWords (f .file)))
 sent-exact P (archived r n) = lies-in-layer-exact P (fileLayerAt (r .file) n)

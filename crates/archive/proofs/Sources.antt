@@ -1,13 +1,13 @@
--- The starting layers: they are disjoint, and a point lies in one exactly if it was sent.
+-- The starting layers: a point lies in one exactly if it was sent, and those that were deoverlapped are disjoint.
 use mathlib.Core.Path.{_≡_, refl, sym, _∙_, ap, subst}
 use mathlib.Core.List.{List, [], _∷_, map}
 use mathlib.Core.Logic.{_↔_}
-use Prim.Native.Nat.{ℕ, _/_, _<_}
+use Prim.Native.Nat.{ℕ, zero, suc, _/_, _<_}
 use native.Mathlib.Omega.{arith}
 use lib.Dec.{T}
 use lib.IntN.{ℤ}
 use lib.ListN.{length, take, getD}
-use Rattle.lists.specs.Lists.{All, Any}
+use Rattle.lists.specs.Lists.{All, Any, At}
 use Rattle.lists.proofs.Tests.{same-test}
 use Rattle.geometry.specs.declared.Trapezoid.{Trapezoid}
 use Rattle.geometry.specs.Points.{Point, IsPoint}
@@ -26,34 +26,34 @@ use Rattle.files.proofs.Words.{layer-at, read-pairs}
 use Rattle.files.specs.Outcomes.{Answer, isDone}
 use Rattle.calls.specs.Outcomes.{Outcome, recordsOf}
 use Rattle.calls.proofs.Exact.{fracture-file-exact, deoverlap-exact}
-use Rattle.chains.specs.Chains.{Layer, fed}
+use Rattle.chains.specs.Chains.{Layer, layerAt, fed}
 use Rattle.chains.specs.Statements.{DisjointLayer}
-use Rattle.archive.specs.Calls.{FractureCall, fracturedBy, DeoverlapCall, deoverlappedBy, ReadCall, wordsBy}
-use Rattle.archive.specs.Archive.{Source, polygons, archived, layerFrom, fileLayerAt, BothAccepted, LayerAccepted, Accepted, Sent, sent}
+use Rattle.archive.specs.Calls.{FractureCall, FractureAccepted, fracturedBy, DeoverlapCall, deoverlappedBy, ReadCall, wordsBy}
+use Rattle.archive.specs.Archive.{Source, polygons, disjoint-polygons, archived, layerFrom, fileLayerAt, BothAccepted, LayerAccepted, Accepted, DisjointSource, Sent, sent}
 use Rattle.archive.proofs.Points.{sent-exact}
 
--- ---- a polygon file, fractured and deoverlapped
+-- ---- a polygon file, fractured, and then deoverlapped
 -- what holds of the layer that the definition gives, where it gives one, holds of the layer that an accepted call wrote
 by-definition : (R : Layer → Type 0) (seen defined : Outcome Answer) → seen ≡ defined → T (isDone (seen .answer))
     → (T (isDone (defined .answer)) → R (recordsOf (defined .answer) (defined .out))) → R (recordsOf (seen .answer) (seen .out))
 by-definition R seen defined e t f =
     subst (λ (o : Outcome Answer). T (isDone (o .answer)) → R (recordsOf (o .answer) (o .out))) (sym e) f t
 
-module _ (f : FractureCall) (d : DeoverlapCall) (h : BothAccepted f d) where
-  fractured-points : (P : Point) → IsPoint P → LiesInLayer P (layerOf (fracturedBy f)) ↔ Any (Wound P) (polygonsOf (f .edition) (fileWords (f .file)))
-  fractured-points P hP =
-      by-definition (λ (A : Layer). LiesInLayer P (layerOf A) ↔ Any (Wound P) (polygonsOf (f .edition) (fileWords (f .file)))) _ _ (h .fractured .kept) (h .fractured .accepted)
-      (λ t. fracture-file-exact (f .edition) (f .limit) (f .file) (f .out) (f .scratch) t .1 P hP)
+fractured-points : (f : FractureCall) → FractureAccepted f → (P : Point) → IsPoint P → LiesInLayer P (layerOf (fracturedBy f)) ↔ Any (Wound P) (polygonsOf (f .edition) (fileWords (f .file)))
+fractured-points f h P hP =
+    by-definition (λ (A : Layer). LiesInLayer P (layerOf A) ↔ Any (Wound P) (polygonsOf (f .edition) (fileWords (f .file)))) _ _ (h .kept) (h .accepted)
+    (λ t. fracture-file-exact (f .edition) (f .limit) (f .file) (f .out) (f .scratch) t .1 P hP)
 
+module _ (f : FractureCall) (d : DeoverlapCall) (h : BothAccepted f d) where
   deoverlapped-right : DisjointLayer (deoverlappedBy d) × SamePoints (layerOf (deoverlappedBy d)) (layerOf (d .layer))
   deoverlapped-right =
       by-definition (λ (A : Layer). DisjointLayer A × SamePoints (layerOf A) (layerOf (d .layer))) _ _ (h .deoverlapped .kept) (h .deoverlapped .accepted)
-      (λ t. let k = deoverlap-exact (d .limit) (d .layer) (d .out) (d .scratch) t in (k .1, k .2))
+      (λ t. let k = deoverlap-exact (d .limit) (d .layer) (d .out) (d .scratch) t in (k .0 .disjoint, k .1))
 
   polygons-points : (P : Point) → IsPoint P → LiesInLayer P (layerOf (deoverlappedBy d)) ↔ Any (Wound P) (polygonsOf (f .edition) (fileWords (f .file)))
   polygons-points P hP =
       let k = deoverlapped-right .1 P hP in
-      let g = fractured-points P hP in (
+      let g = fractured-points f (h .fractured) P hP in (
         (λ x. g .0 (subst (λ (A : Layer). LiesInLayer P (layerOf A)) (h .lent) (k .0 x))),
         (λ y. k .1 (subst (λ (A : Layer). LiesInLayer P (layerOf A)) (sym (h .lent)) (g .1 y))),
       )
@@ -79,18 +79,22 @@ module _ (r : ReadCall) (n : ℕ) (h : LayerAccepted r n) where
       ∙ ap (λ (tss : List (List Trapezoid)). getD tss n []) layers-are
 
 -- ---- any source
-source-disjoint : (s : Source) → Accepted s → DisjointLayer (layerFrom s)
-source-disjoint (polygons f d) h = deoverlapped-right f d h .0
-source-disjoint (archived r n) h = h .disjoint
+source-disjoint : (s : Source) → Accepted s → DisjointSource s → DisjointLayer (layerFrom s)
+source-disjoint (polygons f) h k = k
+source-disjoint (disjoint-polygons f d) h k = deoverlapped-right f d h .0
+source-disjoint (archived r n) h k = k
 
 source-points : (P : Point) → IsPoint P → (s : Source) → Accepted s → LiesInLayer P (layerOf (layerFrom s)) ↔ Sent P s
-source-points P hP (polygons f d) h = polygons-points f d h P hP
+source-points P hP (polygons f) h = fractured-points f h P hP
+source-points P hP (disjoint-polygons f d) h = polygons-points f d h P hP
 source-points P hP (archived r n) h =
     let e = layer-is r n h in ((λ x. subst (LiesInLayer P) e x), (λ y. subst (LiesInLayer P) (sym e) y))
 
-pub sources-disjoint : (sources : List Source) → All Accepted sources → All DisjointLayer (map layerFrom sources)
-sources-disjoint [] h = tt
-sources-disjoint (s ∷ sources) h = (source-disjoint s (h .0), sources-disjoint sources (h .1))
+-- the starting layer with the number n
+pub starting-disjoint : (sources : List Source) → All Accepted sources → (n : ℕ) → At DisjointSource sources n → DisjointLayer (layerAt (map layerFrom sources) n)
+starting-disjoint [] h n k = absurd k
+starting-disjoint (s ∷ sources) h zero k = source-disjoint s (h .0) k
+starting-disjoint (s ∷ sources) h (suc n) k = starting-disjoint sources (h .1) n k
 
 -- ---- what the evaluation is fed
 source-fed : (P : Point) → IsPoint P → (s : Source) → Accepted s → liesInLayer P (layerOf (layerFrom s)) ≡ sent P s

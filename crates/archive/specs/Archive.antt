@@ -21,14 +21,16 @@ use Rattle.chains.specs.Chains.{Layer, layerAt}
 use Rattle.chains.specs.Statements.{DisjointLayer}
 use Rattle.archive.specs.Calls.{FractureCall, FractureAccepted, fracturedBy, DeoverlapCall, DeoverlapAccepted, deoverlappedBy, ReadCall, ReadAccepted, wordsBy}
 
--- ---- where a starting layer comes from: a polygon file that was fractured and then deoverlapped, or layer number n of a layer file that was read
+-- ---- where a starting layer comes from: a polygon file that was fractured, or fractured and then deoverlapped, or layer number n of a layer file that was read
 pub data Source : Type 0 where
-  polygons : (f : FractureCall) (d : DeoverlapCall) → Source
+  polygons : (f : FractureCall) → Source
+  disjoint-polygons : (f : FractureCall) (d : DeoverlapCall) → Source
   archived : (r : ReadCall) (n : ℕ) → Source
 
--- the layer's words: those that `deoverlap` wrote, or the layer's part of the words that `read_layers` wrote
+-- the layer's words: those that `fracture` or `deoverlap` wrote, or the layer's part of the words that `read_layers` wrote
 abbrev pub layerFrom : Source → Layer
-layerFrom (polygons f d) = deoverlappedBy d
+layerFrom (polygons f) = fracturedBy f
+layerFrom (disjoint-polygons f d) = deoverlappedBy d
 layerFrom (archived r n) = layerWordsAt (wordsBy r) n
 
 -- layer number n of a layer file's bytes
@@ -41,20 +43,27 @@ pub record BothAccepted (f : FractureCall) (d : DeoverlapCall) : Type 0 where
   pub lent : d .layer ≡ fracturedBy f
   pub deoverlapped : DeoverlapAccepted d
 
--- the layer file was accepted by `read_layers`, and its layer number n is disjoint
+-- the layer file was accepted by `read_layers`, and has a layer number n
 pub record LayerAccepted (r : ReadCall) (n : ℕ) : Type 0 where
   pub read : ReadAccepted r
   pub within : n < length (fileLayersOf (fileWords (r .file)))
-  pub disjoint : DisjointLayer (layerWordsAt (wordsBy r) n)
 
 abbrev pub Accepted : Source → Type 0
-Accepted (polygons f d) = BothAccepted f d
+Accepted (polygons f) = FractureAccepted f
+Accepted (disjoint-polygons f d) = BothAccepted f d
 Accepted (archived r n) = LayerAccepted r n
+
+-- no rational point lies in two trapezoids of the layer; of one that was deoverlapped nothing is asked, for none does
+abbrev pub DisjointSource : Source → Type 0
+DisjointSource (polygons f) = DisjointLayer (fracturedBy f)
+DisjointSource (disjoint-polygons f d) = Unit {0}
+DisjointSource (archived r n) = DisjointLayer (layerWordsAt (wordsBy r) n)
 
 -- ---- the points that were sent
 -- some polygon of the polygon file has a winding number other than zero at P; or P lies in that layer of the layer file
 abbrev pub Sent : Point → Source → Type 0
-Sent P (polygons f d) = Any (Wound P) (polygonsOf (f .edition) (fileWords (f .file)))
+Sent P (polygons f) = Any (Wound P) (polygonsOf (f .edition) (fileWords (f .file)))
+Sent P (disjoint-polygons f d) = Any (Wound P) (polygonsOf (f .edition) (fileWords (f .file)))
 Sent P (archived r n) = LiesInLayer P (fileLayerAt (r .file) n)
 
 -- the same as a yes or no
@@ -63,7 +72,8 @@ anyWound P [] = false
 anyWound P (polygon ∷ rest) = not (isZero (windingNumber P polygon)) || anyWound P rest
 
 abbrev pub sent : Point → Source → Bool
-sent P (polygons f d) = anyWound P (polygonsOf (f .edition) (fileWords (f .file)))
+sent P (polygons f) = anyWound P (polygonsOf (f .edition) (fileWords (f .file)))
+sent P (disjoint-polygons f d) = anyWound P (polygonsOf (f .edition) (fileWords (f .file)))
 sent P (archived r n) = liesInLayer P (fileLayerAt (r .file) n)
 
 -- the test says yes exactly if the point was sent (proofs/Points.antt: `sent-exact`)

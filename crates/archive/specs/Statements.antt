@@ -3,7 +3,7 @@ use mathlib.Core.Path.{_≡_}
 use mathlib.Core.List.{List, [], map}
 use Prim.Native.Nat.{ℕ, _<_, _≤_}
 use lib.ListN.{length, getD}
-use Rattle.lists.specs.Lists.{All}
+use Rattle.lists.specs.Lists.{All, At}
 use Rattle.geometry.specs.Points.{Point, IsPoint}
 use Rattle.geometry.specs.Trapezoids.{LiesInLayer, Disjoint}
 use Rattle.boolean.specs.Statements.{IsYes}
@@ -11,7 +11,7 @@ use Rattle.files.specs.Contents.{layersOf}
 use Rattle.files.specs.Statements.{WordsHold}
 use Rattle.chains.specs.Chains.{Call, held, Contracts, entryAt, evaluation}
 use Rattle.archive.specs.Calls.{WriteCall, WriteAccepted, bytesBy, ReadCall, ReadRight, ReadAccepted, wordsBy}
-use Rattle.archive.specs.Archive.{Source, layerFrom, Accepted, sent, chosen, archiveWords}
+use Rattle.archive.specs.Archive.{Source, layerFrom, Accepted, DisjointSource, sent, chosen, archiveWords}
 
 -- what is read from the file, of a chain from these sources and of the numbers of the layers that were put into it
 pub record OnFile (sources : List Source) (calls : List Call) (numbers : List ℕ) (r : ReadCall) : Type 0 where
@@ -22,10 +22,10 @@ pub record OnFile (sources : List Source) (calls : List Call) (numbers : List �
   -- a rational point lies in one exactly if the evaluation says so, fed for each starting layer whether the point was sent
   pub points : (P : Point) → IsPoint P → (i : ℕ) → i < length numbers
       → IsYes (entryAt (evaluation (map (sent P) sources) (map layerFrom sources) calls) (getD numbers i 0)) (LiesInLayer P (getD (layersOf (wordsBy r)) i []))
-  -- and no rational point lies in two trapezoids of one
-  pub disjoint : All Disjoint (layersOf (wordsBy r))
+  -- and no rational point lies in two trapezoids of one that is a result of the chain, or a starting layer that is disjoint
+  pub disjoint : (i : ℕ) → i < length numbers → (getD numbers i 0 < length sources → At DisjointSource sources (getD numbers i 0)) → Disjoint (getD (layersOf (wordsBy r)) i [])
 
--- From accepted sources, by any calls of the set operations, refused ones included, to a file that the writer wrote of any of the layers held, read back by any
+-- From accepted sources, disjoint or not, by any calls of the set operations, refused ones included, to a file that the writer wrote of any of the layers held, read back by any
 -- call with no smaller limit whose output has room (proofs/Archive.antt: `archive-exact`)
 abbrev pub ArchiveExact : Type 0
 ArchiveExact =

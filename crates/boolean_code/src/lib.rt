@@ -4,11 +4,10 @@ ghost use Prim.Native.Nat.{_<_, _≤_};
 ghost use lib.IntN.{pos};
 ghost use Rattle.records.specs.Limits.{maxRecords};
 ghost use Rattle.records.specs.Records.{Blank};
-ghost use Rattle.geometry.specs.Fitness.{FitLayer};
 ghost use Rattle.geometry.specs.Trapezoids.{layerOf};
 ghost use Rattle.boolean.specs.Operations.{union, symmetric-difference, codeAt};
 ghost use Rattle.trapezoids_code.specs.Tails.{Borrowed};
-ghost use Rattle.boxes_code.specs.Code.{BoxedLayer, RoomForBoxes};
+ghost use Rattle.boxes_code.specs.Code.{BoxedLayer};
 ghost use Rattle.remainder_code.specs.Code.{overlaysOfLayer, maxOverlays, OverlaysWithin, ScratchFor};
 ghost use Rattle.boolean_code.specs.Code.{ResultWritten};
 
@@ -95,7 +94,7 @@ fn symmetric_difference_into(
 }
 
 // The set operation with the code's number, by the boxes of both layers.
-fn combine_boxed(
+pub fn combine_boxed(
     code: u32,
     first: &[i32],
     first_boxes: &[i64],
@@ -150,62 +149,4 @@ fn combine_boxed(
         );
     }
     symmetric_difference_into(first, first_boxes, second, second_boxes, out, scratch, room)
-}
-
-// The same, where the boxes are yet to be worked out.
-fn combine_with(
-    code: u32,
-    first: &[i32],
-    first_boxes: &mut [i64],
-    second: &[i32],
-    second_boxes: &mut [i64],
-    out: &mut [i32],
-    scratch: &mut [i32],
-    room: usize,
-) -> Folded
-    requires { ⌜ (code < 5) × RoomForBoxes (now first) (now «first_boxes») × RoomForBoxes (now second) (now «second_boxes») ⌝ }
-    requires { ⌜ Borrowed (now out) room × (room ≤ maxRecords) ⌝ }
-    requires { ⌜ ScratchFor (now out) (now scratch) ⌝ }
-    ensures { λ r. ⌜ ResultWritten (codeAt code) (now (out .entry)) room (layerOf (now (first .entry))) (layerOf (now (second .entry))) r (now (out .exit)) ⌝ }
-    ensures { λ r. ⌜ OverlaysWithin maxOverlays r ⌝ }
-    ensures { λ _. ⌜ Blank (pos 0) (now (scratch .exit)) ⌝ }
-{
-    boxes_code::fill_boxes(first, first_boxes);
-    boxes_code::fill_boxes(second, second_boxes);
-    combine_boxed(
-        code,
-        first,
-        first_boxes,
-        second,
-        second_boxes,
-        out,
-        scratch,
-        room,
-    )
-}
-
-// The set operation with the code's number.
-pub fn combine_into(
-    code: u32,
-    first: &[i32],
-    second: &[i32],
-    out: &mut [i32],
-    scratch: &mut [i32],
-    room: usize,
-) -> Folded
-    requires { ⌜ (code < 5) × FitLayer (now first) × FitLayer (now second) ⌝ }
-    requires { ⌜ Borrowed (now out) room × (room ≤ maxRecords) ⌝ }
-    requires { ⌜ ScratchFor (now out) (now scratch) ⌝ }
-    ensures { λ r. ⌜ ResultWritten (codeAt code) (now (out .entry)) room (layerOf (now (first .entry))) (layerOf (now (second .entry))) r (now (out .exit)) ⌝ }
-    ensures { λ r. ⌜ OverlaysWithin maxOverlays r ⌝ }
-    ensures { λ _. ⌜ Blank (pos 0) (now (scratch .exit)) ⌝ }
-{
-    if boxes_code::both_small(first, second) {
-        let mut one = [0; boxes::FEW_WORDS];
-        let mut two = [0; boxes::FEW_WORDS];
-        return combine_with(code, first, &mut one, second, &mut two, out, scratch, room);
-    }
-    let mut one = [0; boxes::MOST_WORDS];
-    let mut two = [0; boxes::MOST_WORDS];
-    combine_with(code, first, &mut one, second, &mut two, out, scratch, room)
 }

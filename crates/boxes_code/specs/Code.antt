@@ -1,6 +1,6 @@
 -- What the functions require, and boxes in a slice, four words each.
 use mathlib.Core.Path.{_≡_}
-use mathlib.Core.Bool.{Bool, _&&_}
+use mathlib.Core.Bool.{Bool, true, false, _&&_}
 use mathlib.Core.List.{List, [], _∷_}
 use Prim.Native.Nat.{ℕ, _+_, _*_, _<_, _≤_}
 use lib.Dec.{leb}
@@ -65,6 +65,18 @@ pub record BoxedLayer (s d : List ℤ) : Type 0 where
 pub record RoomForBoxes (s d : List ℤ) : Type 0 where
   pub layer : FitLayer s
   pub room : boxWidth * count trapezoidCodec s ≤ length d
+
+-- ---- the next box that is near, by one of the tests of two boxes
+-- the boxes of the words d from number j on and before number r are apart from e; r is at most i
+pub record Skipped (apart : Box → Box → Bool) (e : Box) (d : List ℤ) (j i r : ℕ) : Type 0 where
+  pub from : j ≤ r
+  pub upto : r ≤ i
+  pub passed : (k : ℕ) → j ≤ k → k < r → apart e (boxAt d k) ≡ true
+
+-- and box number r is not, or r is i
+pub record NextBox (apart : Box → Box → Bool) (e : Box) (d : List ℤ) (j i r : ℕ) : Type 0 where
+  pub skipped : Skipped apart e d j i r
+  pub found : r < i → apart e (boxAt d r) ≡ false
 
 -- ---- small layers
 -- the words of 16 trapezoids

@@ -21,7 +21,7 @@ ghost use Rattle.geometry.specs.Trapezoids.{trapezoidCodec, layerOf};
 ghost use Rattle.boxes.specs.Whole.{floor as floorOf, ceiling as ceilingOf};
 ghost use Rattle.boxes.specs.Boxes.{heightBelow, heightAbove, lowest as lowestOf, highest as highestOf, boxOf, boxesApart, boxesDisjoint};
 ghost use Rattle.trapezoids_code.specs.Placed.{PlacedAs};
-ghost use Rattle.boxes_code.specs.Code.{Sizes, boxWidth, boxWords, boxAt, FirstBoxes, BoxesOf, bothSmall};
+ghost use Rattle.boxes_code.specs.Code.{Sizes, boxWidth, boxWords, boxAt, FirstBoxes, BoxesOf, NextBox, bothSmall};
 
 // Words of a box in a slice.
 pub const WIDTH: usize = 4;
@@ -151,7 +151,7 @@ fn put(boxes: &mut [i64], i: usize, a: Int)
     boxes[i] = x;
 }
 
-pub fn set_box(boxes: &mut [i64], i: usize, e: Box)
+fn set_box(boxes: &mut [i64], i: usize, e: Box)
     requires { ⌜ boxWidth * i + boxWidth ≤ length (now boxes) ⌝ }
     ensures { λ _. ⌜ now (boxes .exit) ≡ sets (now (boxes .entry)) (boxWidth * i) (boxWords e) ⌝ }
 {
@@ -227,6 +227,36 @@ pub fn boxes_disjoint(e: Box, boxes: &[i64], i: usize) -> bool
 {
     let f = load_box(boxes, i);
     is_disjoint(e, f)
+}
+
+// The first of the boxes from number j on, before number i, that is not apart from a box; i if there is none.
+pub fn next_near(e: Box, boxes: &[i64], j: usize, i: usize) -> usize
+    requires { ⌜ (j ≤ i) × (boxWidth * i ≤ length (now boxes)) ⌝ }
+    ensures { λ r. ⌜ NextBox boxesApart e (now (boxes .entry)) j i r ⌝ }
+{
+    let mut k = j;
+    while k < i {
+        if !boxes_apart(e, boxes, k) {
+            return k;
+        }
+        k += 1;
+    }
+    i
+}
+
+// The first of them that is not disjoint from it.
+pub fn next_overlapping(e: Box, boxes: &[i64], j: usize, i: usize) -> usize
+    requires { ⌜ (j ≤ i) × (boxWidth * i ≤ length (now boxes)) ⌝ }
+    ensures { λ r. ⌜ NextBox boxesDisjoint e (now (boxes .entry)) j i r ⌝ }
+{
+    let mut k = j;
+    while k < i {
+        if !boxes_disjoint(e, boxes, k) {
+            return k;
+        }
+        k += 1;
+    }
+    i
 }
 
 // The box of trapezoid number i of a layer.

@@ -101,6 +101,12 @@ combine-ready L code a b out scratch e =
       buffers = both-buffers L a b out scratch (h .0) (k .1);
     }
 
+-- as the functions that go on from there ask it
+pub combine-buffers : (L code : ℕ) (a b : List ℤ) (out scratch : ℕ) → combineChecked L code a b out scratch ≡ Passed → buffersSized out scratch ≡ true
+unfolding combineChecked
+combine-buffers L code a b out scratch e =
+    and-right (sized (length b)) _ (and-right (sized (length a)) _ (row-passed 1 (sized (length a) && (sized (length b) && buffersSized out scratch)) (row 2 (isCode code) (bothChecked L a b)) e .0))
+
 pub record DeoverlapReady (L : ℕ) (a : List ℤ) (out scratch : ℕ) : Type 0 where
   pub layer : LayerFor L a
   pub buffers : Buffers out scratch
@@ -124,6 +130,11 @@ unfolding equalChecked
 equal-ready L a b out scratch e =
     let h = row-passed 1 (sized (length a) && (sized (length b) && buffersSized out scratch)) (bothChecked L a b) e in
     record { first = first-ready L a b out scratch (h .0) (h .1); second = second-ready L a b out scratch (h .0) (h .1); buffers = both-buffers L a b out scratch (h .0) (h .1) }
+
+pub equal-buffers : (L : ℕ) (a b : List ℤ) (out scratch : ℕ) → equalChecked L a b out scratch ≡ Passed → buffersSized out scratch ≡ true
+unfolding equalChecked
+equal-buffers L a b out scratch e =
+    and-right (sized (length b)) _ (and-right (sized (length a)) _ (row-passed 1 (sized (length a) && (sized (length b) && buffersSized out scratch)) (bothChecked L a b) e .0))
 
 pub record ContainsReady (L : ℕ) (P : Point) (a b : List ℤ) (code : ℕ) : Type 0 where
   pub is-code : code < 5

@@ -8,12 +8,12 @@ use Rattle.lists.specs.Lists.{All, Any}
 use Rattle.geometry.specs.declared.Trapezoid.{Trapezoid}
 use Rattle.geometry.specs.declared.Checked.{Checked}
 use Rattle.geometry.specs.declared.Checked.the-variants.{Passed, Refused}
-use Rattle.geometry.specs.Trapezoids.{layerOf, LiesInLayer, liesInLayer, Disjoint}
+use Rattle.geometry.specs.Trapezoids.{layerOf, LiesInLayer, liesInLayer}
 use Rattle.geometry.proofs.Layers.{lies-in-layer-exact}
 use Rattle.boolean.specs.Operations.{codeAt, result, says}
 use Rattle.boolean.specs.Statements.{IsYes, SamePoints}
 use Rattle.boolean.proofs.Results.{result-exact}
-use Rattle.boolean.proofs.Deoverlapping.{deoverlapped-exact, deoverlapped-disjoint}
+use Rattle.boolean.proofs.Deoverlapping.{deoverlapped-exact}
 use Rattle.fracture.specs.Statements.{Wound, SidesOfOne}
 use Rattle.fracture.proofs.Points.{fracture-exact}
 use Rattle.fracture.proofs.Fitness.{fracture-all-sides}
@@ -51,7 +51,6 @@ pub deoverlap-exact : DeoverlapExact
 deoverlap-exact L a out scratch h =
     let k = deoverlap-accepted L a out scratch h in (
       k .fit,
-      subst Disjoint (sym (k .is)) (deoverlapped-disjoint L (layerOf a) (k .layer)),
       subst (λ (ts : List Trapezoid). SamePoints ts (layerOf a)) (sym (k .is)) (deoverlapped-exact L (layerOf a) (k .layer)),
     )
 

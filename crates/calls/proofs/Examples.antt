@@ -17,7 +17,8 @@ use Rattle.geometry.specs.Limit.{onGrid}
 use Rattle.geometry.specs.Lines.{dx, dy, offset, det, numer}
 use Rattle.geometry.specs.Positions.{crosses, ratio, meet, heights, rightOf, below}
 use Rattle.geometry.specs.Standing.{oneSign, horizontal}
-use Rattle.geometry.specs.Trapezoids.{trapezoidOf, trapezoidWords}
+use Rattle.geometry.specs.Points.{orientation, under}
+use Rattle.geometry.specs.Trapezoids.{trapezoidOf, trapezoidWords, liesIn}
 use Rattle.geometry.specs.Fitness.{lineOnGrid, isLine, belowBetween, shapeVerdict, verdict, firstRefusal}
 use Rattle.geometry.specs.Polygons.{vertexOnGrid}
 use Rattle.sweep.specs.Sums.{sum}
@@ -25,10 +26,10 @@ use Rattle.sweep.specs.Segments.{spans, inside, crossInside}
 use Rattle.sweep.specs.Columns.{slabs, upTo, column}
 use Rattle.sweep.specs.Sweep.{columns, sweep}
 use Rattle.geometry.specs.Ranges.{commonLeft, commonRight}
-use Rattle.overlay.specs.Overlaps.{crossesInCommon, overlapRight, overlapFrom, overlaps}
+use Rattle.overlay.specs.Overlaps.{crossesInCommon, overlapRight, overlapFrom, overlaps, overlapPast}
 use Rattle.overlay.specs.Overlay as overlays
-use Rattle.boolean.specs.Operations.{minus, minusAll, difference}
-use Rattle.boolean.specs.Space.{minusStages, minusAllStages, differenceStages, space}
+use Rattle.boolean.specs.Operations.{minus, minusAll, difference, deoverlappedFrom}
+use Rattle.boolean.specs.Space.{minusStages, minusAllStages, differenceStages, deoverlappedStages, space}
 use Rattle.connectivity.specs.Touching.{notAbove, touchesRight, touchesFrom, touchesAlong, lowerAt, touchesUpright, touches}
 use Rattle.connectivity.specs.Components.{ownNumbers, relabelled, joinedNumbers, joinedFirst, joinedAll, touchingAt, componentNumbers}
 use Rattle.extraction.specs.Shapes.{havingNumber, shapeOf, shapeNumbers}
@@ -44,11 +45,11 @@ use Rattle.files.specs.Rows.{firstOffGrid, polygonFileChecked, layersChecked, l
 use Rattle.files.specs.Outcomes as files
 use Rattle.files.specs.Outcomes.{refused, done}
 use Rattle.calls.specs.Components as connectivity
-use Rattle.calls.specs.Answers.{refused-equality, refused-point}
+use Rattle.calls.specs.Answers.{refused-equality, refused-point, yes}
 use Rattle.calls.specs.Rows.{plateLimit, pointPasses, fractureChecked, combineChecked, deoverlapChecked, equalChecked, containsChecked}
 use Rattle.calls.specs.Outcomes.{observed, fractureOutcome, combined, deoverlapOutcome, equalOutcome, containsAnswer}
 use Rattle.calls.specs.Transistors.{transistorsChecked, observedTransistors, transistorsOutcome}
-use Rattle.calls.specs.Table.{box, Q, layer, q, lent, cleared, vertex, fileOf, point}
+use Rattle.calls.specs.Table.{box, Q, R, S, layer, q, lent, cleared, vertex, fileOf, point}
 
 -- ---- "Rows are checked downward": each input below breaks two rows or more
 -- no height (row 11), and beyond the grid (row 7)
@@ -142,7 +143,7 @@ Bytes =
 examples : Written × Combined × Places × Asked × Others × Polygons × LeftOut × Layers × Bytes
 unfolding _⊕_ _⊖_ _⊗_ ⊝_ orderOf before sized recordAt recordsFrom wordsOf unsigned signed wordOf bytesOf insert levels
     onGrid dx dy offset det numer crosses ratio meet heights rightOf below trapezoidOf trapezoidWords
-    order oneSign horizontal lineOnGrid isLine belowBetween shapeVerdict verdict firstRefusal keep sum spans inside crossInside slabs upTo column columns sweep space difference differenceStages
+    order oneSign horizontal lineOnGrid isLine belowBetween shapeVerdict verdict firstRefusal overlapPast keep sum spans inside crossInside slabs upTo column columns sweep space difference differenceStages
     fileSized nextOffset lengthRead numberFrom countOf pairLength endOf pairsFrom directoryOf lengthsFrom cut vertexOf vertexWords vertexOnGrid firstOffGrid polygonFileChecked
     layersChecked layerFileChecked files.readLayers files.writeLayers
     edge edgesFrom edges fractures.mark fractures.marks fractures.edgeCrossingsWith fractures.edgeCrossings fractures.polygonEvents
@@ -184,9 +185,45 @@ transistor-examples : Listed
 unfolding each keep _⊕_ _⊖_ _⊗_ ⊝_ orderOf before sized recordAt recordsFrom wordsOf insert levels
     onGrid dx dy offset det numer crosses ratio meet heights rightOf below trapezoidOf trapezoidWords
     order oneSign horizontal lineOnGrid isLine belowBetween shapeVerdict verdict firstRefusal sum spans inside crossInside slabs upTo column columns sweep
-    commonLeft commonRight crossesInCommon overlapRight overlapFrom overlaps overlays.sides overlays.sideCrossings overlays.overlayEvents overlays.fills
+    commonLeft commonRight crossesInCommon overlapRight overlapFrom overlaps overlapPast overlays.sides overlays.sideCrossings overlays.overlayEvents overlays.fills
     overlays.tagAbove overlays.stack overlays.parts overlays.subdivision overlays.overlay overlays.tagged
     notAbove touchesRight touchesFrom touchesAlong lowerAt touchesUpright touches ownNumbers relabelled joinedNumbers joinedFirst joinedAll touchingAt componentNumbers
     minus minusAll difference minusStages minusAllStages differenceStages space
     havingNumber shapeOf shapeNumbers shapeEncloses triples enclosingStages transistorsChecked transistorsOutcome
 transistor-examples = (refl, refl, refl, refl, refl, refl)
+
+-- ---- row 13, paper 02 (vi): "taken by its later piece and then its earlier"; "13, overlap, place the later piece, checked after 11 and before 12, A before B"
+abbrev twice : List ℤ
+twice = layer (Q ∷ Q ∷ [])
+
+abbrev Overlapping : Type 0
+Overlapping =
+    -- two pairs, 1 with 2 and 0 with 3; no room for either
+    (combined plateLimit 0 (layer (Q ∷ S ∷ S ∷ Q ∷ [])) [] [] [] .answer ≡ refused 13 2)
+    -- both layers have a pair; only B has one
+    × (combined plateLimit 0 (layer (Q ∷ R ∷ [])) (layer (S ∷ Q ∷ R ∷ [])) [] [] .answer ≡ refused 13 1)
+    × (combined plateLimit 0 (layer (Q ∷ S ∷ [])) (layer (S ∷ Q ∷ R ∷ [])) [] [] .answer ≡ refused 13 4)
+    -- row 2 comes before, and so does row 7 of B
+    × (combined plateLimit 5 twice q [] [] .answer ≡ refused 2 0)
+    × (combined plateLimit 0 twice (layer (far ∷ [])) [] [] .answer ≡ refused 7 2)
+    -- nothing changes
+    × (combined plateLimit 0 twice q (lent 1) (lent 1) ≡ observed (refused 13 1) (lent 1) (lent 1))
+    × (equalOutcome plateLimit q twice (lent 1) (lent 1) ≡ observed (refused-equality 13 2) (lent 1) (lent 1))
+    × (connectivity.componentsOutcome plateLimit twice (7 ∷ 7 ∷ []) ≡ connectivity.observedComponents (connectivity.refused-components 13 1) (7 ∷ 7 ∷ []))
+    × (transistorsOutcome plateLimit q q twice (9 ∷ []) (lent 1) (lent 1) ≡ observedTransistors (refused 13 3) (9 ∷ []) (lent 1) (lent 1))
+    × (transistorsOutcome plateLimit q twice twice [] [] [] .answer ≡ refused 13 2)
+
+-- "Disjointing and the point question still take overlaps."
+abbrev Taken : Type 0
+Taken = (deoverlapOutcome plateLimit twice (lent 1) (lent 1) .answer ≡ done 1 1) × (containsAnswer plateLimit (point 0 0 1) twice [] 0 ≡ yes)
+
+overlap-examples : Overlapping × Taken
+unfolding keep _⊕_ _⊖_ _⊗_ ⊝_ orderOf before sized recordAt recordsFrom wordsOf insert levels
+    onGrid dx dy offset det numer crosses ratio meet heights rightOf below orientation under trapezoidOf trapezoidWords liesIn
+    order oneSign horizontal lineOnGrid isLine belowBetween shapeVerdict verdict firstRefusal sum spans inside crossInside slabs upTo column columns sweep
+    commonLeft commonRight crossesInCommon overlapRight overlapFrom overlaps overlapPast overlays.sides overlays.sideCrossings overlays.overlayEvents overlays.fills
+    overlays.tagAbove overlays.stack overlays.parts overlays.subdivision overlays.overlay overlays.tagged
+    minus minusAll difference deoverlappedFrom minusStages minusAllStages differenceStages deoverlappedStages space
+    connectivity.listsSized connectivity.componentsChecked connectivity.componentsOutcome
+    pointPasses combineChecked deoverlapChecked equalChecked containsChecked combined deoverlapOutcome equalOutcome containsAnswer transistorsChecked transistorsOutcome
+overlap-examples = ((refl, refl, refl, refl, refl, refl, refl, refl, refl, refl), (refl, refl))

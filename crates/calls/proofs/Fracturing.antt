@@ -22,10 +22,10 @@ use Rattle.files.proofs.Grid.{checked-grid}
 use Rattle.files.specs.Outcomes.{isDone}
 use Rattle.calls.specs.Rows.{buffersSized, fractureChecked}
 use Rattle.calls.specs.Outcomes.{roomOf, recordsOf, fracturedOf, fractureOutcome}
-use Rattle.calls.specs.Statements.{FitAsInput}
+use Rattle.calls.specs.Statements.{WellFormed}
 use Rattle.calls.proofs.Checks.{Buffers, row-passed, buffers-ready, small-row}
 use Rattle.calls.proofs.Room.{addition-room}
-use Rattle.calls.proofs.Success.{passed, outcome-wrote, layer-words, words-fit}
+use Rattle.calls.proofs.Success.{passed, outcome-wrote, layer-words, words-formed}
 
 pub record FractureReady (edition : Edition) (L : ℕ) (file : List ℕ) (out scratch : ℕ) : Type 0 where
   pub rows : polygonFileChecked edition L file ≡ Passed
@@ -44,7 +44,7 @@ fracture-refused edition L file out scratch = small-row 1 (omega arith) (buffers
 -- ---- a success, with the records R
 pub record Fractures (edition : Edition) (L : ℕ) (file : List ℕ) (R : List ℤ) : Type 0 where
   pub is : layerOf R ≡ fracturedOf edition L file
-  pub fit : 0 < L → FitAsInput L R
+  pub fit : 0 < L → WellFormed L R
 
 pub fracture-accepted : (edition : Edition) (L : ℕ) (file : List ℕ) (out scratch : List ℤ) → T (isDone (fractureOutcome edition L file out scratch .answer))
     → Fractures edition L file (recordsOf (fractureOutcome edition L file out scratch .answer) (fractureOutcome edition L file out scratch .out))
@@ -56,4 +56,4 @@ fracture-accepted edition L file out scratch h =
     let r = fracture-ready edition L file (length out) (length scratch) (passed checked out scratch ts ms h) in
     let w = outcome-wrote checked out scratch ts ms h in
     let l : length ts ≤ maxRecords = omega (arith, addition-room (roomOf out) (length ts) (w .room), r .buffers .few) in
-    record { is = ap layerOf (w .is) ∙ layer-words ts; fit = λ p. subst (FitAsInput L) (sym (w .is)) (words-fit L ts (fracture-fit L (polygonsOf edition (fileWords file)) p (checked-grid edition L file (r .rows))) l) }
+    record { is = ap layerOf (w .is) ∙ layer-words ts; fit = λ p. subst (WellFormed L) (sym (w .is)) (words-formed L ts (fracture-fit L (polygonsOf edition (fileWords file)) p (checked-grid edition L file (r .rows))) l) }

@@ -9,16 +9,17 @@ use lib.ListN.{length}
 use Rattle.geometry.specs.declared.Trapezoid.{Trapezoid}
 use Rattle.geometry.specs.declared.Checked.{Checked}
 use Rattle.geometry.specs.declared.Checked.the-variants.{Passed, Refused}
-use Rattle.geometry.specs.Trapezoids.{layerOf}
+use Rattle.geometry.specs.Trapezoids.{layerOf, Disjoint}
 use Rattle.boolean.specs.Operations.{difference}
 use Rattle.boolean.specs.Space.{Space, enough, no-room, space, equalityStages}
 use Rattle.boolean.specs.Statements.{IsYes}
 use Rattle.boolean.proofs.Equality.{equality-exact, difference-some}
-use Rattle.calls.specs.Rows.{equalChecked}
+use Rattle.calls.specs.Rows.{andThen, bothDisjoint, equalChecked}
 use Rattle.calls.specs.Answers.{EqualityAnswer, isRefused, isSame, isOperand}
 use Rattle.calls.specs.Outcomes.{roomOf, compared, comparedIn, equalityOutcome, equalOutcome}
 use Rattle.calls.specs.Statements.{Compares}
-use Rattle.calls.proofs.Checks.{equal-ready}
+use Rattle.calls.proofs.Checks.{EqualReady, equal-ready}
+use Rattle.calls.proofs.Overlaps.{and-passed, both-passed}
 use Rattle.calls.proofs.Success.{FitTrapezoids}
 
 abbrev Empty : List Trapezoid → Type 0
@@ -90,14 +91,34 @@ compares L answer A B hA hB k =
     }
 
 -- ---- the test
-pub equal-exactly : (L : ℕ) (A B out scratch : List ℤ) → T (not (isRefused (equalOutcome L A B out scratch .answer))) → Compares (equalOutcome L A B out scratch .answer) (layerOf A) (layerOf B)
-unfolding equalOutcome
-equal-exactly L A B out scratch h =
-    let ts = difference (layerOf A) (layerOf B) in
-    let us = difference (layerOf B) (layerOf A) in
-    let s = space (roomOf out) (equalityStages (layerOf A) (layerOf B)) in
-    let p = passes (equalChecked L A B (length out) (length scratch)) out scratch (comparedIn ts us s) h in
-    let f = equal-ready L A B (length out) (length scratch) (p .passed) in
-    let k = compared-in-by ts us s (subst (λ (answer : EqualityAnswer). T (not (isRefused answer))) (p .answers) h) in
-    subst (λ (answer : EqualityAnswer). Compares answer (layerOf A) (layerOf B)) (sym (p .answers))
-    (compares L (comparedIn ts us s) (layerOf A) (layerOf B) (f .first .fit) (f .second .fit) k)
+module _ (L : ℕ) (A B out scratch : List ℤ) where
+  abbrev rows : Checked
+  rows = equalChecked L A B (length out) (length scratch)
+
+  abbrev answer : EqualityAnswer
+  answer = comparedIn (difference (layerOf A) (layerOf B)) (difference (layerOf B) (layerOf A)) (space (roomOf out) (equalityStages (layerOf A) (layerOf B)))
+
+  module _ (h : T (not (isRefused (equalOutcome L A B out scratch .answer)))) where
+    lets-pass : Passes (andThen rows (bothDisjoint A B)) out scratch answer
+    unfolding equalOutcome
+    lets-pass = passes (andThen rows (bothDisjoint A B)) out scratch answer h
+
+    both : (rows ≡ Passed) × (bothDisjoint A B ≡ Passed)
+    both = and-passed rows (bothDisjoint A B) (lets-pass .passed)
+
+    fit : EqualReady L A B (length out) (length scratch)
+    fit = equal-ready L A B (length out) (length scratch) (both .0)
+
+    pub equal-disjoint : Disjoint (layerOf A) × Disjoint (layerOf B)
+    equal-disjoint = both-passed L A B (fit .first .fit) (fit .second .fit) (both .1)
+
+    pub equal-exactly : Compares (equalOutcome L A B out scratch .answer) (layerOf A) (layerOf B)
+    unfolding equalOutcome
+    equal-exactly =
+        let ts = difference (layerOf A) (layerOf B) in
+        let us = difference (layerOf B) (layerOf A) in
+        let s = space (roomOf out) (equalityStages (layerOf A) (layerOf B)) in
+        let e = lets-pass .answers in
+        let k = compared-in-by ts us s (subst (λ (a : EqualityAnswer). T (not (isRefused a))) e h) in
+        subst (λ (a : EqualityAnswer). Compares a (layerOf A) (layerOf B)) (sym e)
+        (compares L answer (layerOf A) (layerOf B) (fit .first .fit) (fit .second .fit) k)

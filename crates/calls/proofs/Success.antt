@@ -1,4 +1,4 @@
--- What a success gives: the layers that it was lent are fit, and its records are the words of the result, which is fit too.
+-- What a success gives: the layers that it was lent are fit and, where row 13 is checked, disjoint, and its records are the words of the result, which is fit too.
 use mathlib.Core.Path.{_≡_, refl, sym, _∙_, ap, subst}
 use mathlib.Core.List.{List, []}
 use Prim.Native.Nat.{ℕ, _*_, _%_, _≤_}
@@ -17,19 +17,22 @@ use Rattle.records.proofs.Buffer.{image-take}
 use Rattle.geometry.specs.declared.Trapezoid.{Trapezoid}
 use Rattle.geometry.specs.declared.Checked.{Checked}
 use Rattle.geometry.specs.declared.Checked.the-variants.{Passed, Refused}
-use Rattle.geometry.specs.Trapezoids.{trapezoidCodec, layerOf}
+use Rattle.geometry.specs.Trapezoids.{trapezoidCodec, layerOf, Disjoint}
 use Rattle.geometry.specs.Fitness.{FitFor, firstRefusal}
 use Rattle.geometry.proofs.Fitness.{layer-exact}
 use Rattle.geometry.proofs.Trapezoids.{trapezoid-faithful}
 use Rattle.boolean.specs.Operations.{Code, codeAt, result, deoverlapped}
 use Rattle.boolean.specs.Space.{Stage, Space, enough, no-room, space, stages, deoverlappedStages}
 use Rattle.boolean.proofs.Kept.{result-fit, deoverlapped-fit}
+use Rattle.boolean.proofs.Results.{result-disjoint}
+use Rattle.boolean.proofs.Deoverlapping.{deoverlapped-disjoint}
 use Rattle.files.specs.Outcomes.{isDone}
-use Rattle.calls.specs.Rows.{combineChecked, deoverlapChecked}
+use Rattle.calls.specs.Rows.{andThen, bothDisjoint, combineChecked, deoverlapChecked}
 use Rattle.calls.specs.Outcomes.{roomOf, recordsOf, written, outcome, combined, deoverlapOutcome}
-use Rattle.calls.specs.Statements.{FitAsInput}
+use Rattle.calls.specs.Statements.{WellFormed, FitAsInput}
 use Rattle.calls.proofs.Room.{isEnough, result-room, deoverlapped-room}
 use Rattle.calls.proofs.Checks.{combine-ready, deoverlap-ready}
+use Rattle.calls.proofs.Overlaps.{and-passed, both-passed}
 
 abbrev pub FitTrapezoids : ℕ → List Trapezoid → Type 0
 FitTrapezoids L ts = All (FitFor L) ts
@@ -63,17 +66,22 @@ few-sized n h =
     (subst (λ (k : ℕ). T (eqb k 0)) (sym (mul-mod-right memoryWidth n)) (eqb-refl 0))
     (le→leb (memoryWidth * n) maxWords (omega arith))
 
-pub words-fit : (L : ℕ) (ts : List Trapezoid) → FitTrapezoids L ts → length ts ≤ maxRecords → FitAsInput L (wordsOf trapezoidCodec ts)
-words-fit L ts h l =
+pub words-formed : (L : ℕ) (ts : List Trapezoid) → FitTrapezoids L ts → length ts ≤ maxRecords → WellFormed L (wordsOf trapezoidCodec ts)
+words-formed L ts h l =
     record {
       size = subst (λ (n : ℕ). T (sized n)) (sym (length-words trapezoidCodec trapezoid-faithful ts)) (few-sized (length ts) l);
       rows = ap (firstRefusal L 0) (layer-words ts) ∙ layer-exact L 0 ts .1 h;
     }
 
+words-fit : (L : ℕ) (ts : List Trapezoid) → FitTrapezoids L ts → Disjoint ts → length ts ≤ maxRecords → FitAsInput L (wordsOf trapezoidCodec ts)
+words-fit L ts h d l = record { formed = words-formed L ts h l; disjoint = subst Disjoint (sym (layer-words ts)) d }
+
 -- ---- a call of code c on A and B with the records R
 pub record Accepted (L : ℕ) (c : Code) (A B R : List ℤ) : Type 0 where
   pub first : FitTrapezoids L (layerOf A)
   pub second : FitTrapezoids L (layerOf B)
+  pub first-disjoint : Disjoint (layerOf A)
+  pub second-disjoint : Disjoint (layerOf B)
   pub is : layerOf R ≡ result c (layerOf A) (layerOf B)
   pub fit : FitAsInput L R
 
@@ -84,15 +92,20 @@ combined-accepted L code A B out scratch h =
     let c = codeAt code in
     let ts = result c (layerOf A) (layerOf B) in
     let ms = stages c (layerOf A) (layerOf B) in
-    let checked = combineChecked L code A B (length out) (length scratch) in
-    let r = combine-ready L code A B (length out) (length scratch) (passed checked out scratch ts ms h) in
+    let rows = combineChecked L code A B (length out) (length scratch) in
+    let checked = andThen rows (bothDisjoint A B) in
+    let p = and-passed rows (bothDisjoint A B) (passed checked out scratch ts ms h) in
+    let r = combine-ready L code A B (length out) (length scratch) (p .0) in
+    let d = both-passed L A B (r .first .fit) (r .second .fit) (p .1) in
     let w = outcome-wrote checked out scratch ts ms h in
     let l : length ts ≤ maxRecords = omega (arith, result-room (roomOf out) c (layerOf A) (layerOf B) (w .room), r .buffers .few) in
     record {
       first = r .first .fit;
       second = r .second .fit;
+      first-disjoint = d .0;
+      second-disjoint = d .1;
       is = ap layerOf (w .is) ∙ layer-words ts;
-      fit = subst (FitAsInput L) (sym (w .is)) (words-fit L ts (result-fit L (layerOf A) (layerOf B) (r .first .fit) (r .second .fit) c) l);
+      fit = subst (FitAsInput L) (sym (w .is)) (words-fit L ts (result-fit L (layerOf A) (layerOf B) (r .first .fit) (r .second .fit) c) (result-disjoint L (layerOf A) (layerOf B) (r .first .fit) (r .second .fit) (d .0) (d .1) c) l);
     }
 
 -- ---- a call that deoverlaps A, with the records R
@@ -114,5 +127,5 @@ deoverlap-accepted L A out scratch h =
     record {
       layer = r .layer .fit;
       is = ap layerOf (w .is) ∙ layer-words ts;
-      fit = subst (FitAsInput L) (sym (w .is)) (words-fit L ts (deoverlapped-fit L (layerOf A) (r .layer .fit)) l);
+      fit = subst (FitAsInput L) (sym (w .is)) (words-fit L ts (deoverlapped-fit L (layerOf A) (r .layer .fit)) (deoverlapped-disjoint L (layerOf A) (r .layer .fit)) l);
     }

@@ -16,7 +16,7 @@ use Rattle.records.specs.Records.{image}
 use Rattle.records.proofs.Buffer.{image-records}
 use Rattle.geometry.specs.declared.Checked.{Checked}
 use Rattle.geometry.specs.declared.Checked.the-variants.{Passed, Refused}
-use Rattle.geometry.specs.Trapezoids.{layerOf}
+use Rattle.geometry.specs.Trapezoids.{layerOf, Disjoint}
 use Rattle.geometry.specs.Fitness.{FitFor}
 use Rattle.geometry.proofs.Refusals.{SmallChecked, small-first}
 use Rattle.geometry.proofs.Fitness.{layer-exact}
@@ -27,10 +27,11 @@ use Rattle.extraction.specs.Statements.{TransistorsOf}
 use Rattle.extraction.proofs.Codec.{triples-faithful}
 use Rattle.extraction.proofs.Triples.{transistors-exact}
 use Rattle.files.specs.Outcomes.{refused, done}
-use Rattle.calls.specs.Rows.{buffersSized}
+use Rattle.calls.specs.Rows.{andThen, buffersSized}
 use Rattle.calls.specs.Outcomes.{zeros, roomOf}
-use Rattle.calls.specs.Transistors.{threeChecked, transistorsChecked, observedTransistors, extractedIn, listFits, transistorsOutcomeOf, transistorsOutcome, firstTriples, ExtractedExact}
+use Rattle.calls.specs.Transistors.{threeChecked, threeDisjoint, transistorsChecked, TransistorsOutcome, observedTransistors, extractedIn, listFits, transistorsOutcomeOf, transistorsOutcome, firstTriples, ExtractedExact}
 use Rattle.calls.proofs.Checks.{row-passed, small-row, LayerFor, layer-ready, layer-length, Buffers, buffers-ready}
+use Rattle.calls.proofs.Overlaps.{and-passed, three-passed}
 
 -- ---- passed
 pub record TransistorsReady (L : ℕ) (c b e : List ℤ) (out scratch : ℕ) : Type 0 where
@@ -67,6 +68,10 @@ module _ (L : ℕ) (c b e : List ℤ) (out scratch : ℕ) where
         buffers = buffers-ready out scratch (and-right (sized (length e)) _ (third-and-buffers s));
       }
 
+  pub transistors-buffers : transistorsChecked L c b e out scratch ≡ Passed → buffersSized out scratch ≡ true
+  unfolding transistorsChecked
+  transistors-buffers p = and-right (sized (length e)) _ (third-and-buffers (row-passed 1 lengths (threeChecked L c b e) p .0))
+
   -- ---- refused
   pub transistors-refused : SmallChecked (transistorsChecked L c b e out scratch)
   unfolding transistorsChecked
@@ -86,26 +91,27 @@ none-listed n ts true (no-room k) out scratch h = refl
 none-listed n ts false (enough k) out scratch h = refl
 none-listed n ts false (no-room k) out scratch h = refl
 
-module _ (L : ℕ) (c b e : List ℤ) (list : List ℕ) (out scratch : List ℤ) where
+module _ (c b e : List ℤ) (list : List ℕ) (out scratch : List ℤ) where
   abbrev found : List Triple
   found = triples (layerOf c) (layerOf b) (layerOf e)
 
   abbrev needed : Space
   needed = space (roomOf out) (extractionStages (layerOf c) (layerOf b) (layerOf e))
 
-  pub transistors-refuses : {n p : ℕ} → transistorsChecked L c b e (length out) (length scratch) ≡ Refused n p
-      → observedTransistors (refused n p) list out scratch ≡ transistorsOutcome L c b e list out scratch
-  unfolding transistorsOutcome
-  transistors-refuses h = rw h
+  -- what row 13 makes of it
+  abbrev pub searched : TransistorsOutcome
+  searched = transistorsOutcomeOf (threeDisjoint c b e) found needed list out scratch
 
-  module _ (p : transistorsChecked L c b e (length out) (length scratch) ≡ Passed) where
-    passes : extractedIn (length list) found (listFits (length list) found) needed (length out) (length scratch) ≡ transistorsOutcome L c b e list out scratch
-    unfolding transistorsOutcome
+  pub searched-refused : {n p : ℕ} → threeDisjoint c b e ≡ Refused n p → observedTransistors (refused n p) list out scratch ≡ searched
+  searched-refused h = rw h
+
+  module _ (p : threeDisjoint c b e ≡ Passed) where
+    passes : extractedIn (length list) found (listFits (length list) found) needed (length out) (length scratch) ≡ searched
     passes = rw p
 
     module _ (d : List ℕ) (o s : List ℤ) (y : o ≡ zeros (length out)) (z : s ≡ zeros (length scratch)) where
       pub transistors-no-room : T (isNoRoom needed) ⊎ (length list < 3 * length found) → d ≡ replicate (length list) 0
-          → observedTransistors (refused 12 0) d o s ≡ transistorsOutcome L c b e list out scratch
+          → observedTransistors (refused 12 0) d o s ≡ searched
       transistors-no-room h x = (λ j. observedTransistors (refused 12 0) (x j) (y j) (z j)) ∙ none-listed (length list) found (listFits (length list) found) needed (length out) (length scratch) (go h) ∙ passes
         where
           go : T (isNoRoom needed) ⊎ (length list < 3 * length found) → T (isNoRoom needed) ⊎ (listFits (length list) found ≡ false)
@@ -113,12 +119,21 @@ module _ (L : ℕ) (c b e : List ℤ) (list : List ℕ) (out scratch : List ℤ)
           go (inr k) = inr (lt-leb (3 * length found) (length list) k)
 
       pub transistors-done : {k n : ℕ} → needed ≡ enough n → k ≡ length found → 3 * k ≤ length list → d ≡ image tripleCodec (length list) found
-          → observedTransistors (done k n) d o s ≡ transistorsOutcome L c b e list out scratch
+          → observedTransistors (done k n) d o s ≡ searched
       transistors-done {k} {n} g l m x =
           let f = le-leb (3 * length found) (length list) (omega (arith, l, m)) in
           let w : observedTransistors (done (length found) n) (image tripleCodec (length list) found) (zeros (length out)) (zeros (length scratch)) ≡ extractedIn (length list) found (listFits (length list) found) needed (length out) (length scratch)
           = rw (f, g) in
           (λ j. observedTransistors (done (l j) n) (x j) (y j) (z j)) ∙ w ∙ passes
+
+  module _ (L : ℕ) where
+    pub transistors-refuses : {n p : ℕ} → transistorsChecked L c b e (length out) (length scratch) ≡ Refused n p → observedTransistors (refused n p) list out scratch ≡ transistorsOutcome L c b e list out scratch
+    unfolding transistorsOutcome
+    transistors-refuses h = rw h
+
+    pub transistors-past : transistorsChecked L c b e (length out) (length scratch) ≡ Passed → searched ≡ transistorsOutcome L c b e list out scratch
+    unfolding transistorsOutcome
+    transistors-past h = rw h
 
 -- ---- what a success means
 success : (m : ℕ) (ts : List Triple) (fits : Bool) (s : Space) (out scratch n overlays : ℕ) → extractedIn m ts fits s out scratch .answer ≡ done n overlays
@@ -130,9 +145,31 @@ success m ts true (no-room k) out scratch n overlays h = let z : _≡_ {A = ℕ}
 success m ts false (enough k) out scratch n overlays h = let z : _≡_ {A = ℕ} 0 1 = cc in absurd (omega arith)
 success m ts false (no-room k) out scratch n overlays h = let z : _≡_ {A = ℕ} 0 1 = cc in absurd (omega arith)
 
+module _ (L : ℕ) (c b e : List ℤ) (list : List ℕ) (out scratch : List ℤ) (n overlays : ℕ) where
+  abbrev rows : Checked
+  rows = transistorsChecked L c b e (length out) (length scratch)
+
+  abbrev outcomeOf : Checked → TransistorsOutcome
+  outcomeOf v = transistorsOutcomeOf v (found c b e list out scratch) (needed c b e list out scratch) list out scratch
+
+  let-pass : (v : Checked) → outcomeOf v .answer ≡ done n overlays → v ≡ Passed
+  let-pass Passed g = refl
+  let-pass (Refused number place) g = let z : _≡_ {A = ℕ} 0 1 = cc in absurd (omega arith)
+
+  module _ (h : transistorsOutcome L c b e list out scratch .answer ≡ done n overlays) where
+    both : (rows ≡ Passed) × (threeDisjoint c b e ≡ Passed)
+    unfolding transistorsOutcome
+    both = and-passed rows (threeDisjoint c b e) (let-pass (andThen rows (threeDisjoint c b e)) h)
+
+    ready : TransistorsReady L c b e (length out) (length scratch)
+    ready = transistors-ready L c b e (length out) (length scratch) (both .0)
+
+    pub transistors-disjoint : Disjoint (layerOf c) × Disjoint (layerOf b) × Disjoint (layerOf e)
+    transistors-disjoint = three-passed L c b (ready .collectors .fit) (ready .bases .fit) e (ready .emitters .fit) (both .1)
+
 pub extracted-exact : ExtractedExact
 unfolding transistorsOutcome
-extracted-exact L c b e list out scratch n overlays h = go (transistorsChecked L c b e (length out) (length scratch)) refl h
+extracted-exact L c b e list out scratch n overlays h = go checked (let-pass L c b e list out scratch n overlays checked h) h
   where
     ts : List Triple
     ts = triples (layerOf c) (layerOf b) (layerOf e)
@@ -140,10 +177,13 @@ extracted-exact L c b e list out scratch n overlays h = go (transistorsChecked L
     s : Space
     s = space (roomOf out) (extractionStages (layerOf c) (layerOf b) (layerOf e))
 
-    go : (v : Checked) → transistorsChecked L c b e (length out) (length scratch) ≡ v → transistorsOutcomeOf v ts s list out scratch .answer ≡ done n overlays
+    checked : Checked
+    checked = andThen (transistorsChecked L c b e (length out) (length scratch)) (threeDisjoint c b e)
+
+    go : (v : Checked) → v ≡ Passed → transistorsOutcomeOf v ts s list out scratch .answer ≡ done n overlays
         → TransistorsOf (layerOf c) (layerOf b) (layerOf e) (firstTriples n (transistorsOutcomeOf v ts s list out scratch .list))
     go Passed p g =
-        let r = transistors-ready L c b e (length out) (length scratch) p in
+        let r = ready L c b e list out scratch n overlays h in
         subst (TransistorsOf (layerOf c) (layerOf b) (layerOf e)) (sym (success (length list) ts (listFits (length list) ts) s (length out) (length scratch) n overlays g))
         (transistors-exact L (layerOf c) (layerOf b) (layerOf e) (r .collectors .fit) (r .bases .fit) (r .emitters .fit))
     go (Refused number place) p g = let z : _≡_ {A = ℕ} 0 1 = cc in absurd (omega arith)

@@ -12,10 +12,11 @@ use Rattle.geometry.specs.declared.Checked.{Checked}
 use Rattle.geometry.specs.declared.Checked.the-variants.{Passed, Refused}
 use Rattle.geometry.specs.Trapezoids.{trapezoidCodec, layerOf}
 use Rattle.geometry.specs.Fitness.{SmallRefusal, firstRefusal}
+use Rattle.overlay.specs.Overlaps.{firstOverlap}
 use Rattle.connectivity.specs.Components.{componentNumbers, componentCount, ComponentsOf}
 use Rattle.calls.specs.declared.Connected.{Connected}
 use Rattle.calls.specs.declared.Connected.the-variants as connected
-use Rattle.calls.specs.Rows.{row}
+use Rattle.calls.specs.Rows.{row, andThen}
 
 -- ---- the rows
 -- row 1: "layer, output or work area for pieces not a multiple of 24 words or above 12,288; work area unlike output; component list not one entry per piece"
@@ -49,13 +50,15 @@ pub record ComponentsOutcome : Type 0 where
 abbrev pub observedComponents : ComponentsAnswer → List ℕ → ComponentsOutcome
 observedComponents answer numbers = record { answer = answer; numbers = numbers }
 
--- "1 to 11 change nothing."
+-- "1 to 11 change nothing.", and neither does 13
 abbrev pub countOutcome : Checked → ComponentsOutcome → List ℕ → ComponentsOutcome
 countOutcome (Refused number place) done numbers = observedComponents (refused-components number place) numbers
 countOutcome Passed done numbers = done
 
+-- row 13 comes below the others
 unfoldable pub componentsOutcome : ℕ → List ℤ → List ℕ → ComponentsOutcome
-componentsOutcome L a numbers = countOutcome (componentsChecked L a (length numbers)) (observedComponents (counted (componentCount (layerOf a))) (componentNumbers (layerOf a))) numbers
+componentsOutcome L a numbers =
+    countOutcome (andThen (componentsChecked L a (length numbers)) (firstOverlap 0 (layerOf a))) (observedComponents (counted (componentCount (layerOf a))) (componentNumbers (layerOf a))) numbers
 
 -- ---- what a success means, for words of any number and content (proofs/Components.antt: `outcome-exact`)
 abbrev pub OutcomeExact : Type 0

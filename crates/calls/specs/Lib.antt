@@ -7,6 +7,7 @@ pub mod Transistors
 pub mod Packed
 pub mod Contracts
 pub mod Statements
+pub mod Disjoint
 pub mod Editions
 pub mod PackedApart
 pub mod Table

@@ -19,7 +19,7 @@ use Rattle.files.specs.Formats.{fileWords}
 use Rattle.files.specs.Contents.{polygonsOf}
 use Rattle.files.specs.Outcomes.{Answer, refused, done}
 use Rattle.calls.specs.Answers.{EqualityAnswer, refused-equality, same, differs, PointAnswer, refused-point, yes, no}
-use Rattle.calls.specs.Rows.{fractureChecked, combineChecked, deoverlapChecked, equalChecked, containsChecked}
+use Rattle.calls.specs.Rows.{andThen, bothDisjoint, fractureChecked, combineChecked, deoverlapChecked, equalChecked, containsChecked}
 
 pub record Outcome (A : Type 0) : Type 0 where
   pub answer : A
@@ -49,7 +49,7 @@ abbrev pub written : ℕ → List Trapezoid → Space → Outcome Answer
 written n ts (enough overlays) = record { answer = done (length ts) overlays; out = image trapezoidCodec n ts; scratch = zeros n }
 written n ts (no-room overlays) = record { answer = refused 12 0; out = zeros n; scratch = zeros n }
 
--- "1 to 11 change nothing."
+-- "1 to 11 change nothing.", and neither does 13
 abbrev pub outcome : Checked → List ℤ → List ℤ → List Trapezoid → List Stage → Outcome Answer
 outcome (Refused number place) out scratch ts ms = record { answer = refused number place; out = out; scratch = scratch }
 outcome Passed out scratch ts ms = written (length out) ts (space (roomOf out) ms)
@@ -62,12 +62,12 @@ unfoldable pub fractureOutcome : Edition → ℕ → List ℕ → List ℤ → L
 fractureOutcome edition L file out scratch =
     outcome (fractureChecked edition L file (length out) (length scratch)) out scratch (fracturedOf edition L file) (addition (length (fracturedOf edition L file)) ∷ [])
 
--- the five set operations, by the code's number
+-- the five set operations, by the code's number. Paper 02 (vi): "Each layer given to a set operation, sameness, components or the extraction is refused at the first overlapping pair".
 unfoldable pub combined : ℕ → ℕ → List ℤ → List ℤ → List ℤ → List ℤ → Outcome Answer
 combined L code a b out scratch =
-    outcome (combineChecked L code a b (length out) (length scratch)) out scratch (result (codeAt code) (layerOf a) (layerOf b)) (stages (codeAt code) (layerOf a) (layerOf b))
+    outcome (andThen (combineChecked L code a b (length out) (length scratch)) (bothDisjoint a b)) out scratch (result (codeAt code) (layerOf a) (layerOf b)) (stages (codeAt code) (layerOf a) (layerOf b))
 
--- deoverlapping (paper 01: disjointing)
+-- deoverlapping (paper 01: disjointing): "Disjointing and the point question still take overlaps."
 unfoldable pub deoverlapOutcome : ℕ → List ℤ → List ℤ → List ℤ → Outcome Answer
 deoverlapOutcome L a out scratch = outcome (deoverlapChecked L a (length out) (length scratch)) out scratch (deoverlapped (layerOf a)) (deoverlappedStages [] (layerOf a))
 
@@ -89,7 +89,7 @@ equalityOutcome Passed out scratch answer = record { answer = answer; out = zero
 
 unfoldable pub equalOutcome : ℕ → List ℤ → List ℤ → List ℤ → List ℤ → Outcome EqualityAnswer
 equalOutcome L a b out scratch =
-    equalityOutcome (equalChecked L a b (length out) (length scratch)) out scratch
+    equalityOutcome (andThen (equalChecked L a b (length out) (length scratch)) (bothDisjoint a b)) out scratch
     (comparedIn (difference (layerOf a) (layerOf b)) (difference (layerOf b) (layerOf a)) (space (roomOf out) (equalityStages (layerOf a) (layerOf b))))
 
 -- ---- whether a point lies in the result (paper 01: point question)

@@ -9,11 +9,12 @@ use lib.Signed.{leZ}
 use Rattle.integer.specs.Integer.{⊝_, _⊗_}
 use Rattle.records.specs.Limits.{sized}
 use Rattle.geometry.specs.declared.Checked.{Checked}
-use Rattle.geometry.specs.declared.Checked.the-variants.{Refused}
+use Rattle.geometry.specs.declared.Checked.the-variants.{Passed, Refused}
 use Rattle.geometry.specs.Limit.{maxDenominator}
 use Rattle.geometry.specs.Points.{Point}
 use Rattle.geometry.specs.Trapezoids.{layerOf}
 use Rattle.geometry.specs.Fitness.{firstRefusal}
+use Rattle.overlay.specs.Overlaps.{firstOverlap}
 use Rattle.boolean.specs.Operations.{isCode}
 use Rattle.files.specs.declared.Edition.{Edition}
 use Rattle.files.specs.Rows.{polygonFileChecked}
@@ -27,6 +28,11 @@ plateLimit = 2048
 abbrev pub row : ℕ → Bool → Checked → Checked
 row number true below = below
 row number false below = Refused number 0
+
+-- rows below others: what the upper ones find, or else what the lower ones find
+abbrev pub andThen : Checked → Checked → Checked
+andThen Passed below = below
+andThen (Refused number place) below = Refused number place
 
 -- row 1: "layer, output or work area for pieces not a multiple of 24 words or above 12,288; work area unlike output"
 -- of an output and a scratch area of so many words
@@ -48,7 +54,11 @@ pointPasses L P = (leZ (pos 1) (P .D) && leZ (P .D) (pos maxDenominator)) && (wi
 abbrev pub bothChecked : ℕ → List ℤ → List ℤ → Checked
 bothChecked L a b = firstRefusal L 0 (layerOf a ++ layerOf b)
 
--- ---- the rows of each call, under a coordinate limit, with an output and a scratch area of so many words
+-- row 13: "checked after 11 and before 12, A before B", numbered on from A. Where a call has it, crates/calls/specs/Outcomes.antt puts it below the call's other rows.
+abbrev pub bothDisjoint : List ℤ → List ℤ → Checked
+bothDisjoint a b = andThen (firstOverlap 0 (layerOf a)) (firstOverlap (length (layerOf a)) (layerOf b))
+
+-- ---- rows 1 to 11 of each call, under a coordinate limit, with an output and a scratch area of so many words
 unfoldable pub fractureChecked : Edition → ℕ → List ℕ → ℕ → ℕ → Checked
 fractureChecked edition L file out scratch = row 1 (buffersSized out scratch) (polygonFileChecked edition L file)
 

@@ -25,21 +25,26 @@ use Rattle.files.specs.Outcomes.{isDone}
 use Rattle.calls.specs.Answers.{EqualityAnswer, isRefused, isSame, isOperand, isAnswered, isYes}
 use Rattle.calls.specs.Outcomes.{recordsOf, fractureOutcome, combined, deoverlapOutcome, equalOutcome, containsAnswer}
 
--- "fit as input if row 1 accepts its length and rows 7 to 11 find nothing in its pieces", under the limit of the call that made it or takes it
-pub record FitAsInput (L : ℕ) (a : List ℤ) : Type 0 where
+-- "row 1 accepts its length and rows 7 to 11 find nothing in its pieces", under the limit of the call that made it or takes it; it may hold overlaps
+pub record WellFormed (L : ℕ) (a : List ℤ) : Type 0 where
   pub size : T (sized (length a))
   pub rows : firstRefusal L 0 (layerOf a) ≡ Passed
+
+-- paper 02 (vi): "to be fit as input is now also to hold no overlap"
+pub record FitAsInput (L : ℕ) (a : List ℤ) : Type 0 where
+  pub formed : WellFormed L a
+  pub disjoint : Disjoint (layerOf a)
 
 -- the words that a success of `fracture`, or of `fracture_first_edition`, wrote
 abbrev pub fracturedLayer : Edition → ℕ → List ℕ → List ℤ → List ℤ → List ℤ
 fracturedLayer edition L file out scratch = recordsOf (fractureOutcome edition L file out scratch .answer) (fractureOutcome edition L file out scratch .out)
 
--- they are fit, a rational point lies in them exactly if the winding number of some polygon of the file is not zero there, and every side is a line of an
--- edge of a polygon of the file
+-- they are well formed, a rational point lies in them exactly if the winding number of some polygon of the file is not zero there, and every side is a line
+-- of an edge of a polygon of the file. Polygons may overlap, and so may what is written.
 abbrev pub FractureFileExact : Type 0
 FractureFileExact =
     (edition : Edition) (L : ℕ) (file : List ℕ) (out scratch : List ℤ) → T (isDone (fractureOutcome edition L file out scratch .answer))
-    → (0 < L → FitAsInput L (fracturedLayer edition L file out scratch))
+    → (0 < L → WellFormed L (fracturedLayer edition L file out scratch))
     × ((P : Point) → IsPoint P → LiesInLayer P (layerOf (fracturedLayer edition L file out scratch)) ↔ Any (Wound P) (polygonsOf edition (fileWords file)))
     × All (SidesOfOne (polygonsOf edition (fileWords file))) (layerOf (fracturedLayer edition L file out scratch))
 
@@ -47,7 +52,7 @@ FractureFileExact =
 abbrev pub combinedLayer : ℕ → ℕ → List ℤ → List ℤ → List ℤ → List ℤ → List ℤ
 combinedLayer L code a b out scratch = recordsOf (combined L code a b out scratch .answer) (combined L code a b out scratch .out)
 
--- they are fit, and a rational point lies in them exactly if the set words say so, whether the layers are disjoint or not
+-- they are fit, and a rational point lies in them exactly if the set words say so
 abbrev pub CombineExact : Type 0
 CombineExact =
     (L code : ℕ) (a b out scratch : List ℤ) → T (isDone (combined L code a b out scratch .answer))
@@ -59,11 +64,11 @@ CombineExact =
 abbrev pub deoverlappedLayer : ℕ → List ℤ → List ℤ → List ℤ → List ℤ
 deoverlappedLayer L a out scratch = recordsOf (deoverlapOutcome L a out scratch .answer) (deoverlapOutcome L a out scratch .out)
 
--- they are fit and disjoint, and hold the same points
+-- they are fit, and hold the same points
 abbrev pub DeoverlapExact : Type 0
 DeoverlapExact =
     (L : ℕ) (a out scratch : List ℤ) → T (isDone (deoverlapOutcome L a out scratch .answer))
-    → FitAsInput L (deoverlappedLayer L a out scratch) × Disjoint (layerOf (deoverlappedLayer L a out scratch)) × SamePoints (layerOf (deoverlappedLayer L a out scratch)) (layerOf a)
+    → FitAsInput L (deoverlappedLayer L a out scratch) × SamePoints (layerOf (deoverlappedLayer L a out scratch)) (layerOf a)
 
 -- what an answer of the equality test says of two layers
 pub record Compares (answer : EqualityAnswer) (A B : List Trapezoid) : Type 0 where

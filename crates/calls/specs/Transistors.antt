@@ -2,7 +2,7 @@
 use mathlib.Core.Path.{_≡_}
 use mathlib.Core.Bool.{Bool, true, false, _&&_}
 use mathlib.Core.List.{List, _++_}
-use Prim.Native.Nat.{ℕ, _*_}
+use Prim.Native.Nat.{ℕ, _+_, _*_}
 use lib.Dec.{leb}
 use lib.ListN.{length, replicate}
 use lib.IntN.{ℤ}
@@ -12,13 +12,14 @@ use Rattle.geometry.specs.declared.Checked.{Checked}
 use Rattle.geometry.specs.declared.Checked.the-variants.{Passed, Refused}
 use Rattle.geometry.specs.Trapezoids.{layerOf}
 use Rattle.geometry.specs.Fitness.{firstRefusal}
+use Rattle.overlay.specs.Overlaps.{firstOverlap}
 use Rattle.boolean.specs.Space.{Space, enough, no-room, space}
 use Rattle.extraction.specs.Extraction.{Triple, triples, extractionStages, tripleCodec}
 use Rattle.extraction.specs.Statements.{TransistorsOf}
 use Rattle.files.specs.Outcomes.{Answer, refused, done}
 use Rattle.calls.specs.declared.Extracted.{Extracted}
 use Rattle.calls.specs.declared.Extracted.the-variants as extracted
-use Rattle.calls.specs.Rows.{row, buffersSized}
+use Rattle.calls.specs.Rows.{row, andThen, buffersSized, bothDisjoint}
 use Rattle.calls.specs.Outcomes.{zeros, roomOf}
 
 -- ---- the rows
@@ -30,6 +31,10 @@ threeChecked L c b e = firstRefusal L 0 (layerOf c ++ (layerOf b ++ layerOf e))
 unfoldable pub transistorsChecked : ℕ → List ℤ → List ℤ → List ℤ → ℕ → ℕ → Checked
 transistorsChecked L c b e out scratch =
     row 1 (sized (length c) && (sized (length b) && (sized (length e) && buffersSized out scratch))) (threeChecked L c b e)
+
+-- row 13, numbered on in the same way
+abbrev pub threeDisjoint : List ℤ → List ℤ → List ℤ → Checked
+threeDisjoint c b e = andThen (bothDisjoint c b) (firstOverlap (length (layerOf c) + length (layerOf b)) (layerOf e))
 
 -- ---- the answer: "the answer counts triples and cuts", triples in the place of pieces
 abbrev pub extractedAnswer : Extracted → Answer
@@ -57,14 +62,14 @@ extractedIn n ts fits (no-room overlays) out scratch = observedTransistors (refu
 abbrev pub listFits : ℕ → List Triple → Bool
 listFits n ts = leb (3 * length ts) n
 
--- "1 to 11 change nothing."
+-- "1 to 11 change nothing.", and neither does 13
 abbrev pub transistorsOutcomeOf : Checked → List Triple → Space → List ℕ → List ℤ → List ℤ → TransistorsOutcome
 transistorsOutcomeOf (Refused number place) ts s list out scratch = observedTransistors (refused number place) list out scratch
 transistorsOutcomeOf Passed ts s list out scratch = extractedIn (length list) ts (listFits (length list) ts) s (length out) (length scratch)
 
 unfoldable pub transistorsOutcome : ℕ → List ℤ → List ℤ → List ℤ → List ℕ → List ℤ → List ℤ → TransistorsOutcome
 transistorsOutcome L c b e list out scratch =
-    transistorsOutcomeOf (transistorsChecked L c b e (length out) (length scratch)) (triples (layerOf c) (layerOf b) (layerOf e))
+    transistorsOutcomeOf (andThen (transistorsChecked L c b e (length out) (length scratch)) (threeDisjoint c b e)) (triples (layerOf c) (layerOf b) (layerOf e))
     (space (roomOf out) (extractionStages (layerOf c) (layerOf b) (layerOf e))) list out scratch
 
 -- ---- what a success means, for words of any number and content (proofs/Transistors.antt: `extracted-exact`)

@@ -12,7 +12,7 @@ use Rattle.boolean.specs.Statements.{IsYes, SamePoints}
 use Rattle.calls.specs.Statements.{FitAsInput}
 use Rattle.chains.specs.Chains.{Layer, layerAt, run, limits, Step, told, evaluate, Call, stepsOf, held, Contracts, entryAt, fed, evaluation, merged}
 use Rattle.chains.specs.Statements.{DisjointLayer, startingTrapezoids, Each, Agree, NeverDiffers, Promised, Joined, EveryChain}
-use Rattle.chains.proofs.Steps.{run-disjoint, found-fit}
+use Rattle.chains.proofs.Steps.{found-fit, found-disjoint}
 use Rattle.chains.proofs.Calls.{held-runs, calls-defined, held-kept}
 use Rattle.chains.proofs.Points.{run-points, evaluate-length}
 use Rattle.chains.proofs.Lines.{LayerLines, run-lines}
@@ -40,8 +40,8 @@ agreed : (start : List Layer) (one two : List Call) → Contracts start one → 
 agreed start one two h k m n agree = never-differs (layerAt (held start one) m) (layerAt (held start two) n) (agree-points start one two h k m n agree)
 
 -- ---- one chain
-promised : (start : List Layer) → All DisjointLayer start → (calls : List Call) → Contracts start calls → Promised start calls
-promised start disjoint calls h =
+promised : (start : List Layer) (calls : List Call) → Contracts start calls → Promised start calls
+promised start calls h =
     let are = held-runs start calls h in
     record {
       defined = calls-defined start calls h;
@@ -49,7 +49,7 @@ promised start disjoint calls h =
       unchanged = held-kept start calls h;
       points = held-points start calls h;
       entries = λ ys e. evaluate-length ys start (stepsOf calls) e ∙ ap length (sym are);
-      disjoint = subst (All DisjointLayer) (sym are) (run-disjoint start (stepsOf calls) disjoint);
+      disjoint = subst (λ (now : List Layer). All DisjointLayer (drop (length start) now)) (sym are) (found-disjoint start (stepsOf calls));
       lines = subst (All (LayerLines (startingTrapezoids start))) (sym are) (run-lines start (stepsOf calls));
       fit = subst (λ (now : List Layer). Each FitAsInput (limits start (stepsOf calls)) (drop (length start) now)) (sym are) (found-fit start (stepsOf calls));
       same = λ m n. same-exactly (layerAt (held start calls) m) (layerAt (held start calls) n);
@@ -79,11 +79,11 @@ module _ (start : List Layer) (one two : List Call) (h : Contracts start one) (k
   evaluation-both : (ys : List Bool) → evaluation ys start both ≡ evaluate ys (told start steps)
   evaluation-both ys = ap (λ (ss : List Step). evaluate ys (told start ss)) (merged-steps start one two h)
 
-  joined : All DisjointLayer start → Joined start one two
-  joined disjoint =
+  joined : Joined start one two
+  joined =
       record {
         contracts = contracts;
-        promised = promised start disjoint both contracts;
+        promised = promised start both contracts;
         holds = rw (held-both, held-one, held-two) (merged-holds start (stepsOf one) (stepsOf two));
         first-layer = λ n l. rw (held-both, held-one) (first-layer start (stepsOf one) (stepsOf two) n (rw held-one at l));
         second-layer = λ n. rw (held-both, held-one, held-two) (second-layer start (stepsOf one) (stepsOf two) n);
@@ -94,4 +94,4 @@ module _ (start : List Layer) (one two : List Call) (h : Contracts start one) (k
       }
 
 pub every-chain : EveryChain
-every-chain start disjoint = (promised start disjoint, λ one two h k. joined start one two h k disjoint)
+every-chain start = (promised start, joined start)

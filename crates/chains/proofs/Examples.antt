@@ -24,7 +24,7 @@ use Rattle.geometry.specs.Fitness.{lineOnGrid, isLine, belowBetween, shapeVerdi
 use Rattle.geometry.specs.Ranges.{commonLeft, commonRight}
 use Rattle.sweep.specs.Segments.{spans}
 use Rattle.sweep.specs.Sweep.{columns, sweep}
-use Rattle.overlay.specs.Overlaps.{crossesInCommon, overlapRight, overlapFrom, overlaps}
+use Rattle.overlay.specs.Overlaps.{crossesInCommon, overlapRight, overlapFrom, overlaps, overlapPast}
 use Rattle.overlay.specs.Overlay.{sides, sideCrossings, overlayEvents, fills, tagAbove, stack, parts, subdivision, overlay, tagged}
 use Rattle.boolean.specs.Operations.{minus, minusAll, difference, common, intersection, codes}
 use Rattle.boolean.specs.Space.{minusStages, minusAllStages, differenceStages, commonStages, intersectionStages, space}
@@ -32,7 +32,7 @@ use Rattle.calls.specs.declared.Combined.{Combined}
 use Rattle.calls.specs.declared.Combined.the-variants.{Refused, Done}
 use Rattle.calls.specs.Rows.{plateLimit, combineChecked}
 use Rattle.calls.specs.Outcomes.{combined}
-use Rattle.calls.specs.Table.{line, baseAt, layer, q, r, lent, cleared}
+use Rattle.calls.specs.Table.{line, baseAt, Q, R, layer, q, r, lent, cleared}
 use Rattle.chains.specs.Chains.{Layer, Step, outcomeOf, called, run, limits, Call, stepsOf, held, Contracts, Told, told, evaluate, merged}
 use Rattle.chains.specs.Memberships.{Membership, memberships, membershipAt}
 
@@ -101,6 +101,16 @@ Made = Contracts start one × Contracts start two
 abbrev Limits : Type 0
 Limits = limits start (stepsOf one ++ (record { limit = 5; code = 2; first = 0; second = 0; out = lent 1; scratch = lent 1 } ∷ [])) ≡ plateLimit ∷ 5 ∷ []
 
+-- "a call lent an overlapping one is refused": Q and R in one layer, united with Q; the call changes nothing, and adds nothing
+abbrev overlapping : List Layer
+overlapping = layer (Q ∷ R ∷ []) ∷ q ∷ []
+
+abbrev refusing : Call
+refusing = call 0 0 1 2 (Refused 13 1) (lent 2) (lent 2)
+
+abbrev Overlap : Type 0
+Overlap = Contracts overlapping (refusing ∷ []) × (held overlapping (refusing ∷ []) ≡ overlapping) × (told overlapping (stepsOf (refusing ∷ [])) ≡ tell 0 0 1 false ∷ [])
+
 -- a number that is the length of a list is not in it
 absent : (n : ℕ) → n < n → ⊥
 absent n h = omega arith
@@ -113,11 +123,11 @@ Numbers =
     × (told start (stepsOf (itself ∷ [])) ≡ tell 2 0 0 true ∷ [])
     × (told start (stepsOf (no-first ∷ no-second ∷ [])) ≡ tell 0 2 0 false ∷ tell 0 0 2 false ∷ [])
 
-chains : Made × Holds one (q-r ∷ []) × Holds two (q∩r ∷ q-r ∷ []) × Holds both (q-r ∷ q∩r ∷ q-r ∷ []) × (told start (stepsOf both) ≡ tells) × Limits × Numbers
+chains : Made × Holds one (q-r ∷ []) × Holds two (q∩r ∷ q-r ∷ []) × Holds both (q-r ∷ q∩r ∷ q-r ∷ []) × (told start (stepsOf both) ≡ tells) × Limits × Numbers × Overlap
 unfolding _⊕_ _⊖_ _⊗_ ⊝_ orderOf before sized recordAt recordsFrom wordsOf insert levels
     onGrid dx dy offset det numer crosses ratio meet heights rightOf below trapezoidOf trapezoidWords
     order oneSign horizontal lineOnGrid isLine belowBetween shapeVerdict verdict firstRefusal keep spans columns sweep
-    commonLeft commonRight crossesInCommon overlapRight overlapFrom overlaps sides sideCrossings overlayEvents fills tagAbove stack parts subdivision overlay tagged
+    commonLeft commonRight crossesInCommon overlapRight overlapFrom overlaps overlapPast sides sideCrossings overlayEvents fills tagAbove stack parts subdivision overlay tagged
     minus minusAll difference common intersection minusStages minusAllStages differenceStages commonStages intersectionStages space
     combineChecked combined outcomeOf called run limits held Contracts told
 chains = (
@@ -133,6 +143,7 @@ chains = (
     refl,
     refl,
   ),
+  ((λ f g. refl, tt), refl, refl),
 )
 
 -- the first step alone: no success, and no layer more

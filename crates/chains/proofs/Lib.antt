@@ -9,5 +9,6 @@ pub mod Merged
 pub mod Contracts
 pub mod Same
 pub mod Chains
+pub mod Disjoint
 pub mod Memberships
 mod Examples

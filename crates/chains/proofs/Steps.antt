@@ -8,9 +8,7 @@ use lib.ListN.{length, drop}
 use lib.Seq.{drop-append-seam}
 use Rattle.lists.specs.Lists.{All}
 use Rattle.lists.proofs.Lists.{all-append, all-at}
-use Rattle.geometry.specs.Trapezoids.{Disjoint, layerOf}
 use Rattle.boolean.specs.Operations.{Code, codeAt}
-use Rattle.boolean.proofs.Results.{result-disjoint}
 use Rattle.calls.specs.Statements.{FitAsInput}
 use Rattle.calls.proofs.Success.{Accepted}
 use Rattle.chains.specs.Chains.{Layer, layerAt, Step, succeeds, added, resultOf, stepped, run, limits}
@@ -24,7 +22,7 @@ module _ (R : Layer → Type 0) (keeps : (L : ℕ) (c : Code) (A B C : Layer) �
       let k = success-gives layers s t in
       keeps (s .limit) (codeAt (s .code)) (layerAt layers (s .first)) (layerAt layers (s .second)) (resultOf layers s) (k .call) (all-at R layers (s .first) [] h (k .first)) (all-at R layers (s .second) [] h (k .second))
 
-  stepped-keeps : (layers : List Layer) (s : Step) → All R layers → All R (stepped layers s)
+  pub stepped-keeps : (layers : List Layer) (s : Step) → All R layers → All R (stepped layers s)
   stepped-keeps layers s h = go (succeeds layers s) (result-keeps layers s h)
     where
       go : (b : Bool) → (T b → R (resultOf layers s)) → All R (added b layers (resultOf layers s))
@@ -36,10 +34,12 @@ module _ (R : Layer → Type 0) (keeps : (L : ℕ) (c : Code) (A B C : Layer) �
   run-keeps layers [] h = h
   run-keeps layers (s ∷ steps) h = run-keeps (stepped layers s) steps (stepped-keeps layers s h)
 
+-- a result is disjoint, and so is each layer from disjoint ones
+pub stepped-disjoint : (layers : List Layer) (s : Step) → All DisjointLayer layers → All DisjointLayer (stepped layers s)
+stepped-disjoint = stepped-keeps DisjointLayer (λ L c A B C h dA dB. h .fit .disjoint)
+
 pub run-disjoint : (start : List Layer) (steps : List Step) → All DisjointLayer start → All DisjointLayer (run start steps)
-run-disjoint =
-    run-keeps DisjointLayer
-    (λ L c A B C h dA dB. subst Disjoint (sym (h .is)) (result-disjoint L (layerOf A) (layerOf B) (h .first) (h .second) dA dB c))
+run-disjoint = run-keeps DisjointLayer (λ L c A B C h dA dB. h .fit .disjoint)
 
 -- ---- the results
 -- the layers past the starting ones
@@ -75,3 +75,13 @@ run-kept start steps = run-grows start steps .is ∙ ap (λ (more : List Layer).
 
 pub found-fit : (start : List Layer) (steps : List Step) → Each FitAsInput (limits start steps) (found start steps)
 found-fit start steps = subst (Each FitAsInput (limits start steps)) (sym (found-are start steps)) (run-grows start steps .fit)
+
+-- every result is disjoint
+each-disjoint : (under : List ℕ) (layers : List Layer) → Each FitAsInput under layers → All DisjointLayer layers
+each-disjoint [] [] h = tt
+each-disjoint [] (A ∷ layers) h = absurd h
+each-disjoint (L ∷ under) [] h = absurd h
+each-disjoint (L ∷ under) (A ∷ layers) h = (h .0 .disjoint, each-disjoint under layers (h .1))
+
+pub found-disjoint : (start : List Layer) (steps : List Step) → All DisjointLayer (found start steps)
+found-disjoint start steps = each-disjoint (limits start steps) (found start steps) (found-fit start steps)

@@ -1,4 +1,4 @@
--- Demand 3: what is proved of chains of any length, from disjoint starting layers. The theorem is `every-chain` in proofs/Chains.antt.
+-- Demand 3: what is proved of chains of any length, from any starting layers. The theorem is `every-chain` in proofs/Chains.antt.
 use mathlib.Core.Path.{_≡_}
 use mathlib.Core.Bool.{Bool, not}
 use mathlib.Core.List.{List, [], _∷_, _++_}
@@ -10,9 +10,10 @@ use Rattle.geometry.specs.declared.Trapezoid.{Trapezoid}
 use Rattle.geometry.specs.Points.{Point, IsPoint}
 use Rattle.geometry.specs.Trapezoids.{layerOf, LiesInLayer, Disjoint}
 use Rattle.boolean.specs.Statements.{IsYes, LinesFrom}
-use Rattle.calls.specs.Answers.{equalityAnswer, isRefused, isSame}
+use Rattle.files.specs.Outcomes.{refused}
+use Rattle.calls.specs.Answers.{combinedAnswer, equalityAnswer, refused-equality, isRefused, isSame}
 use Rattle.calls.specs.Statements.{FitAsInput, Compares}
-use Rattle.chains.specs.Chains.{Layer, layerAt, Step, stepped, run, limits, Call, stepsOf, KeptIfCalled, held, results, Contracts, entryAt, fed, evaluation, raised, merged, Test, Tested}
+use Rattle.chains.specs.Chains.{Layer, layerAt, Step, stepped, run, limits, Call, stepsOf, KeptIfCalled, grown, held, results, Contracts, entryAt, fed, evaluation, raised, merged, Test, Tested}
 
 -- of a layer's words: no rational point lies in two of its trapezoids
 abbrev pub DisjointLayer : Layer → Type 0
@@ -60,7 +61,8 @@ pub record Promised (start : List Layer) (calls : List Call) : Type 0 where
   pub points : (P : Point) → IsPoint P → (n : ℕ) → IsYes (entryAt (evaluation (fed P start) start calls) n) (LiesInLayer P (layerOf (layerAt (held start calls) n)))
   -- the evaluation has an entry for each held layer
   pub entries : (entries : List Bool) → length entries ≡ length start → length (evaluation entries start calls) ≡ length (held start calls)
-  pub disjoint : All DisjointLayer (held start calls)
+  -- every result is disjoint, whatever the starting layers are: a call lent an overlapping one is refused
+  pub disjoint : All DisjointLayer (results start calls)
   -- every line in a held layer is a line of a starting trapezoid, word for word
   pub lines : All (λ (A : Layer). LinesFrom (startingTrapezoids start) (layerOf A)) (held start calls)
   -- no result is unfit as input, under the limit of the call that made it
@@ -87,11 +89,28 @@ pub record Joined (start : List Layer) (one two : List Call) : Type 0 where
   pub same : (m n : ℕ) → SameExactly (layerAt (held start one) m) (layerAt (held start two) n)
   pub agreed : (m n : ℕ) → Agree start one two m n → NeverDiffers (layerAt (held start one) m) (layerAt (held start two) n)
 
--- ---- the theorem: chains of any length from disjoint layers, and any two of them, over whatever the calls answered and wrote
+-- ---- the theorem: chains of any length from any layers, and any two of them, over whatever the calls answered and wrote
 abbrev pub EveryChain : Type 0
 EveryChain =
-    (start : List Layer) → All DisjointLayer start
+    (start : List Layer)
     → ((calls : List Call) → Contracts start calls → Promised start calls) × ((one two : List Call) → Contracts start one → Contracts start two → Joined start one two)
+
+-- ---- paper 02 (vi): "A chain begun with disjoint layers never meets this refusal"
+-- no call that was made is refused with this number
+unfoldable pub NeverRefused : ℕ → List Layer → List Call → Type 0
+NeverRefused number layers [] = Unit {0}
+NeverRefused number layers (c ∷ calls) =
+    (c .step .first < length layers → c .step .second < length layers → (place : ℕ) → combinedAnswer (c .answer) ≡ refused number place → ⊥) × NeverRefused number (grown layers c) calls
+
+-- every layer held is disjoint, no call is refused with 13, and no equality test between two of the layers is
+pub record WithoutOverlap (start : List Layer) (calls : List Call) : Type 0 where
+  pub disjoint : All DisjointLayer (held start calls)
+  pub calls-taken : NeverRefused 13 start calls
+  pub tests-taken : (m n : ℕ) (t : Test) → Tested (layerAt (held start calls) m) (layerAt (held start calls) n) t → (place : ℕ) → equalityAnswer (t .answer) ≡ refused-equality 13 place → ⊥
+
+-- (proofs/Disjoint.antt: `disjoint-chain`)
+abbrev pub DisjointChain : Type 0
+DisjointChain = (start : List Layer) → All DisjointLayer start → (calls : List Call) → Contracts start calls → WithoutOverlap start calls
 
 -- ---- and there are such calls: for every start and every list of steps, calls that keep the contracts, which end in the layers that paper 01 defines
 pub record Possible (start : List Layer) (steps : List Step) : Type 0 where

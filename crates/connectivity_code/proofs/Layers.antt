@@ -2,14 +2,14 @@
 use mathlib.Core.Path.{_≡_, refl, sym, _∙_, ap, ap₂, subst}
 use mathlib.Core.Bool.{Bool, true, false}
 use mathlib.Core.List.{List}
-use Prim.Native.Nat.{ℕ, zero, suc, _+_, _<_, _≤_}
+use Prim.Native.Nat.{ℕ, zero, suc, _+_, _<_}
 use native.Mathlib.Omega.{arith}
-use lib.Dec.{T, ltb, ltb→lt, nltb→le}
+use lib.Dec.{T}
 use lib.ListN.{length}
 use lib.IntN.{ℤ}
 use Rattle.lists.specs.Lists.{All}
 use Rattle.lists.specs.Tests.{testAt}
-use Rattle.lists.proofs.Tests.{is-true, is-false}
+use Rattle.lists.proofs.Tests.{is-true}
 use Rattle.records.specs.Records.{recordAt, recordsFrom, count}
 use Rattle.records.proofs.Records.{length-from}
 use Rattle.geometry.specs.declared.Trapezoid.{Trapezoid}
@@ -23,8 +23,7 @@ use Rattle.connectivity.proofs.Joining.{length-own}
 use Rattle.boxes.specs.declared.Box.{Box}
 use Rattle.boxes.specs.Boxes.{boxOf, boxesApart}
 use Rattle.boxes.proofs.Rejecting.{no-touch}
-use Rattle.boxes_code.specs.Code.{boxAt, FirstBoxes}
-use Rattle.connectivity_code.specs.Code.{Skipped, NextNear}
+use Rattle.boxes_code.specs.Code.{boxAt, BoxesOf}
 use Rattle.connectivity_code.proofs.Loops.{length-all}
 
 test-from : (f : Trapezoid → Bool) (n : ℕ) (s : List ℤ) (k i : ℕ) → i < n → testAt f (recordsFrom trapezoidCodec n s k) i ≡ f (recordAt trapezoidCodec s (k + i))
@@ -41,32 +40,15 @@ unfolding touchingAt
 touching-record s i j l m = sym (test-record (λ (t : Trapezoid). testAt (touches t) (layerOf s) j) s i l ∙ test-record (touches (recordAt trapezoidCodec s i)) s j m)
 
 -- ---- boxes
-pub fewer-boxes : {s d : List ℤ} {i : ℕ} → FirstBoxes (i + 1) s d → FirstBoxes i s d
-fewer-boxes f = record { room = f .room; each = λ k l. f .each k (omega (arith, l)) }
-
 -- where the boxes are apart the two do not touch
 pub apart-record : (s d : List ℤ) (i j : ℕ) {e : Box} → All (FitFor coordinateLimit) (layerOf s) → i < count trapezoidCodec s → j < i
-    → e ≡ boxOf (recordAt trapezoidCodec s i) → FirstBoxes i s d → boxesApart e (boxAt d j) ≡ true → false ≡ touchingAt (layerOf s) i j
+    → e ≡ boxOf (recordAt trapezoidCodec s i) → BoxesOf s d → boxesApart e (boxAt d j) ≡ true → false ≡ touchingAt (layerOf s) i j
 apart-record s d i j {e} fit l m b f g =
     let n : j < count trapezoidCodec s = omega (arith, l, m) in
     let first = all-record (FitFor coordinateLimit) s i fit l in
     let second = all-record (FitFor coordinateLimit) s j fit n in
-    let apart = subst T (ap₂ boxesApart b (f .each j m)) (is-true g) in
+    let apart = subst T (ap₂ boxesApart b (f .each j n)) (is-true g) in
     sym (no-touch coordinateLimit (omega arith) (recordAt trapezoidCodec s i) (recordAt trapezoidCodec s j) first second apart) ∙ touching-record s i j l n
-
--- boxes passed over
-pub skip-start : {e : Box} {d : List ℤ} {j i : ℕ} → j ≤ i → Skipped e d j i j
-skip-start l = record { from = omega arith; upto = l; apart = λ k m n. absurd (omega (arith, m, n)) }
-
-pub skip-more : {e : Box} {d : List ℤ} {j i r : ℕ} → Skipped e d j i r → r < i → boxesApart e (boxAt d r) ≡ true → Skipped e d j i (r + 1)
-skip-more {e} {d} {j} {i} {r} h l g = record { from = omega (arith, h .from); upto = omega (arith, l); apart = λ k m n. go k m n (ltb k r) refl }
-  where
-    go : (k : ℕ) → j ≤ k → k < r + 1 → (t : Bool) → ltb k r ≡ t → boxesApart e (boxAt d k) ≡ true
-    go k m n true z = h .apart k m (ltb→lt k r (is-true z))
-    go k m n false z = let o = nltb→le k r (is-false z) in subst (λ (x : ℕ). boxesApart e (boxAt d x) ≡ true) (omega (arith, n, o)) g
-
-pub skip-stop : {e : Box} {d : List ℤ} {j i r : ℕ} → Skipped e d j i r → i ≤ r → NextNear e d j i i
-skip-stop h l = record { skipped = subst (Skipped _ _ _ _) (omega (arith, h .upto, l)) h; near = λ k. absurd (omega (arith, k)) }
 
 -- ---- the component numbers of a layer's words, as the function makes them
 length-layer : (s : List ℤ) → length (layerOf s) ≡ count trapezoidCodec s

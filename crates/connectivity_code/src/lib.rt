@@ -25,8 +25,8 @@ ghost use Rattle.boxes.specs.Boxes.{boxOf};
 ghost use Rattle.geometry_code.specs.Code.{fractionOf, SmallPosition};
 ghost use Rattle.trapezoids_code.specs.Placed.{Pair, PlacedAs, CommonLeft, CommonRight};
 ghost use Rattle.overlaps_code.specs.Code.{crossBetween};
-ghost use Rattle.boxes_code.specs.Code.{boxWidth, FirstBoxes};
-ghost use Rattle.connectivity_code.specs.Code.{Numbering, NextNear};
+ghost use Rattle.boxes_code.specs.Code.{boxWidth, BoxesOf, BoxedLayer};
+ghost use Rattle.connectivity_code.specs.Code.{Numbering};
 
 // Right of a position a line is at or below another.
 fn not_above(l: Line, m: Line, p: Position) -> bool
@@ -182,49 +182,33 @@ fn join_if(numbers: &mut [u32], wanted: bool, i: usize, j: usize)
     }
 }
 
-// The first of the boxes from number j on, before number i, that is not apart from a box; i if there is none.
-fn next_near(e: Box, boxes: &[i64], j: usize, i: usize) -> usize
-    requires { ⌜ (j ≤ i) × (boxWidth * i ≤ length (now boxes)) ⌝ }
-    ensures { λ r. ⌜ NextNear e (now (boxes .entry)) j i r ⌝ }
-{
-    let mut k = j;
-    while k < i {
-        if !boxes_code::boxes_apart(e, boxes, k) {
-            return k;
-        }
-        k += 1;
-    }
-    i
-}
-
 // The trapezoid with number i of a layer is joined with each before it that it touches. Where the boxes are apart it does not, and
 // where the numbers agree nothing is to be done.
 fn join_earlier(layer: &[i32], boxes: &[i64], a: Placed, e: Box, i: usize, numbers: &mut [u32])
-    requires { ⌜ Numbering (now layer) (now numbers) × FirstBoxes i (now layer) (now boxes) ⌝ }
+    requires { ⌜ Numbering (now layer) (now numbers) × BoxesOf (now layer) (now boxes) ⌝ }
     requires { ⌜ (i < count trapezoidCodec (now layer)) × PlacedAs (recordAt trapezoidCodec (now layer) i) a × (e ≡ boxOf (recordAt trapezoidCodec (now layer) i)) ⌝ }
     ensures { λ _. ⌜ now (numbers .exit) ≡ joinedFirst (touchingAt (layerOf (now (layer .entry)))) i i (now (numbers .entry)) ⌝ }
 {
-    let mut j = next_near(e, boxes, 0, i);
+    let mut j = boxes_code::next_near(e, boxes, 0, i);
     while j < i {
         if numbers[i] != numbers[j] {
             let t = touching_at(layer, a, j);
             join_if(numbers, t, i, j);
         }
-        j = next_near(e, boxes, j + 1, i);
+        j = boxes_code::next_near(e, boxes, j + 1, i);
     }
 }
 
 // Each trapezoid of a layer in turn is joined with those before it that it touches.
-fn join_all(layer: &[i32], boxes: &mut [i64], numbers: &mut [u32])
-    requires { ⌜ Numbering (now layer) (now numbers) × (boxWidth * count trapezoidCodec (now layer) ≤ length (now boxes)) ⌝ }
+fn join_all(layer: &[i32], boxes: &[i64], numbers: &mut [u32])
+    requires { ⌜ Numbering (now layer) (now numbers) × BoxesOf (now layer) (now boxes) ⌝ }
     ensures { λ _. ⌜ now (numbers .exit) ≡ joinedAll (touchingAt (layerOf (now (layer .entry)))) (count trapezoidCodec (now (layer .entry))) (now (numbers .entry)) ⌝ }
 {
     let n = layer.len() / records::MEMORY_WIDTH;
     let mut i = 0;
     while i < n {
         let a = trapezoids_code::placed_at(layer, i);
-        let e = boxes_code::box_of(a);
-        boxes_code::set_box(boxes, i, e);
+        let e = boxes_code::load_box(boxes, i);
         join_earlier(layer, boxes, a, e, i, numbers);
         i += 1;
     }
@@ -256,27 +240,13 @@ fn count_own(numbers: &[u32]) -> usize
     n
 }
 
-// The component numbers of a layer of fit trapezoids, with `boxes` for the boxes of the layer.
-pub fn components_with(layer: &[i32], boxes: &mut [i64], numbers: &mut [u32]) -> usize
-    requires { ⌜ Numbering (now layer) (now numbers) × (length (now numbers) ≤ maxRecords) × (boxWidth * length (now numbers) ≤ length (now boxes)) ⌝ }
+// The component numbers of a layer of fit trapezoids, by its boxes; answers the number of components.
+pub fn components_boxed(layer: &[i32], boxes: &[i64], numbers: &mut [u32]) -> usize
+    requires { ⌜ BoxedLayer (now layer) (now boxes) × (length (now numbers) ≡ count trapezoidCodec (now layer)) ⌝ }
     ensures { λ r. ⌜ now (numbers .exit) ≡ componentNumbers (layerOf (now (layer .entry))) ⌝ }
     ensures { λ r. ⌜ (r ≡ componentCount (layerOf (now (layer .entry)))) × (r ≤ maxRecords) ⌝ }
 {
     number_each(numbers);
     join_all(layer, boxes, numbers);
     count_own(numbers)
-}
-
-// The component numbers of a layer of fit trapezoids; answers the number of components.
-pub fn components_into(layer: &[i32], numbers: &mut [u32]) -> usize
-    requires { ⌜ Numbering (now layer) (now numbers) × (length (now numbers) ≤ maxRecords) ⌝ }
-    ensures { λ r. ⌜ now (numbers .exit) ≡ componentNumbers (layerOf (now (layer .entry))) ⌝ }
-    ensures { λ r. ⌜ (r ≡ componentCount (layerOf (now (layer .entry)))) × (r ≤ maxRecords) ⌝ }
-{
-    if numbers.len() <= boxes::FEW {
-        let mut boxes = [0; boxes::FEW_WORDS];
-        return components_with(layer, &mut boxes, numbers);
-    }
-    let mut boxes = [0; boxes::MOST_WORDS];
-    components_with(layer, &mut boxes, numbers)
 }

@@ -5,10 +5,9 @@ ghost use Prim.Native.Nat.{_≤_};
 ghost use lib.IntN.{pos};
 ghost use Rattle.records.specs.Limits.{maxRecords};
 ghost use Rattle.records.specs.Records.{Blank};
-ghost use Rattle.geometry.specs.Fitness.{FitLayer};
 ghost use Rattle.geometry.specs.Trapezoids.{layerOf};
 ghost use Rattle.trapezoids_code.specs.Tails.{Borrowed};
-ghost use Rattle.boxes_code.specs.Code.{BoxedLayer, RoomForBoxes};
+ghost use Rattle.boxes_code.specs.Code.{BoxedLayer};
 ghost use Rattle.remainder_code.specs.Code.{maxOverlays, ScratchFor};
 ghost use Rattle.equality_code.specs.Code.{ComparedAs, ComparedWithin, NothingLeft};
 
@@ -57,8 +56,8 @@ fn second_difference(
     }
 }
 
-// The equality test, by the boxes of both layers.
-fn equal_boxed(
+// Whether no point lies in one of the layers and not in the other, by the boxes of both.
+pub fn equal_boxed(
     first: &[i32],
     first_boxes: &[i64],
     second: &[i32],
@@ -107,51 +106,4 @@ fn equal_boxed(
             }
         }
     }
-}
-
-// The same, where the boxes are yet to be worked out.
-fn equal_with(
-    first: &[i32],
-    first_boxes: &mut [i64],
-    second: &[i32],
-    second_boxes: &mut [i64],
-    out: &mut [i32],
-    scratch: &mut [i32],
-    room: usize,
-) -> Compared
-    requires { ⌜ RoomForBoxes (now first) (now «first_boxes») × RoomForBoxes (now second) (now «second_boxes») ⌝ }
-    requires { ⌜ Borrowed (now out) room × (room ≤ maxRecords) ⌝ }
-    requires { ⌜ ScratchFor (now out) (now scratch) ⌝ }
-    ensures { λ r. ⌜ ComparedAs room (layerOf (now (first .entry))) (layerOf (now (second .entry))) r ⌝ }
-    ensures { λ r. ⌜ ComparedWithin maxOverlays r ⌝ }
-    ensures { λ _. ⌜ Blank (pos 0) (now (out .exit)) × Blank (pos 0) (now (scratch .exit)) ⌝ }
-{
-    boxes_code::fill_boxes(first, first_boxes);
-    boxes_code::fill_boxes(second, second_boxes);
-    equal_boxed(first, first_boxes, second, second_boxes, out, scratch, room)
-}
-
-// Whether no point lies in one of the layers and not in the other.
-pub fn equal_into(
-    first: &[i32],
-    second: &[i32],
-    out: &mut [i32],
-    scratch: &mut [i32],
-    room: usize,
-) -> Compared
-    requires { ⌜ FitLayer (now first) × FitLayer (now second) ⌝ }
-    requires { ⌜ Borrowed (now out) room × (room ≤ maxRecords) ⌝ }
-    requires { ⌜ ScratchFor (now out) (now scratch) ⌝ }
-    ensures { λ r. ⌜ ComparedAs room (layerOf (now (first .entry))) (layerOf (now (second .entry))) r ⌝ }
-    ensures { λ r. ⌜ ComparedWithin maxOverlays r ⌝ }
-    ensures { λ _. ⌜ Blank (pos 0) (now (out .exit)) × Blank (pos 0) (now (scratch .exit)) ⌝ }
-{
-    if boxes_code::both_small(first, second) {
-        let mut one = [0; boxes::FEW_WORDS];
-        let mut two = [0; boxes::FEW_WORDS];
-        return equal_with(first, &mut one, second, &mut two, out, scratch, room);
-    }
-    let mut one = [0; boxes::MOST_WORDS];
-    let mut two = [0; boxes::MOST_WORDS];
-    equal_with(first, &mut one, second, &mut two, out, scratch, room)
 }

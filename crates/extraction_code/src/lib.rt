@@ -8,15 +8,15 @@ ghost use lib.ListN.{length};
 ghost use lib.IntN.{pos};
 ghost use Rattle.records.specs.Limits.{maxRecords};
 ghost use Rattle.records.specs.Records.{count, Blank};
-ghost use Rattle.geometry.specs.Fitness.{FitLayer};
 ghost use Rattle.geometry.specs.Trapezoids.{trapezoidCodec, layerOf};
 ghost use Rattle.trapezoids_code.specs.Tails.{Borrowed};
+ghost use Rattle.boxes_code.specs.Code.{BoxedLayer};
 ghost use Rattle.remainder_code.specs.Code.{ScratchFor};
 ghost use Rattle.marked_layers_code.specs.Code.{BothTried, BothWithin};
 ghost use Rattle.extraction_code.specs.Code.{ListedAs, ListedWithin, allSmall};
 
 // Whether three layers are small.
-fn all_small(a: &[i32], b: &[i32], c: &[i32]) -> bool
+pub fn all_small(a: &[i32], b: &[i32], c: &[i32]) -> bool
     ensures { λ r. ⌜ r ≡ allSmall (now (a .entry)) (now (b .entry)) (now (c .entry)) ⌝ }
 {
     if a.len() <= boxes_code::SMALL_WORDS {
@@ -28,15 +28,18 @@ fn all_small(a: &[i32], b: &[i32], c: &[i32]) -> bool
 // Bases and emitters marked.
 fn mark_layers(
     collectors: &[i32],
+    collector_boxes: &mut [i64],
     bases: &[i32],
+    base_boxes: &mut [i64],
     emitters: &[i32],
+    emitter_boxes: &mut [i64],
     base_marks: &mut [u32],
     emitter_marks: &mut [u32],
     out: &mut [i32],
     scratch: &mut [i32],
     room: usize,
 ) -> Enclosed
-    requires { ⌜ FitLayer (now collectors) × FitLayer (now bases) × FitLayer (now emitters) ⌝ }
+    requires { ⌜ BoxedLayer (now collectors) (now «collector_boxes») × BoxedLayer (now bases) (now «base_boxes») × BoxedLayer (now emitters) (now «emitter_boxes») ⌝ }
     requires { ⌜ (length (now «base_marks») ≡ count trapezoidCodec (now bases)) × (length (now «emitter_marks») ≡ count trapezoidCodec (now emitters)) ⌝ }
     requires { ⌜ Borrowed (now out) room × (room ≤ maxRecords) ⌝ }
     requires { ⌜ ScratchFor (now out) (now scratch) ⌝ }
@@ -46,17 +49,16 @@ fn mark_layers(
 {
     if all_small(collectors, bases, emitters) {
         let mut words = [0; boxes_code::SMALL_WORDS];
-        let mut boxes = [0; boxes::FEW_WORDS];
         let mut base_words = [0; boxes_code::SMALL_WORDS];
-        let mut base_boxes = [0; boxes::FEW_WORDS];
         return marked_layers_code::mark_with(
             collectors,
+            collector_boxes,
             bases,
+            base_boxes,
             emitters,
+            emitter_boxes,
             &mut words,
-            &mut boxes,
             &mut base_words,
-            &mut base_boxes,
             base_marks,
             emitter_marks,
             out,
@@ -65,17 +67,16 @@ fn mark_layers(
         );
     }
     let mut words = [0; records::MAX_WORDS];
-    let mut boxes = [0; boxes::MOST_WORDS];
     let mut base_words = [0; records::MAX_WORDS];
-    let mut base_boxes = [0; boxes::MOST_WORDS];
     marked_layers_code::mark_with(
         collectors,
+        collector_boxes,
         bases,
+        base_boxes,
         emitters,
+        emitter_boxes,
         &mut words,
-        &mut boxes,
         &mut base_words,
-        &mut base_boxes,
         base_marks,
         emitter_marks,
         out,
@@ -84,17 +85,21 @@ fn mark_layers(
     )
 }
 
-// The triples of collector, base and emitter, written to `list`, which is blank. `out` and `scratch` are left blank.
+// The triples of collector, base and emitter, by the boxes of the layers, written to `list`, which is blank. `out` and `scratch` are
+// left blank; the boxes are not kept.
 pub fn extract_into(
     collectors: &[i32],
+    collector_boxes: &mut [i64],
     bases: &[i32],
+    base_boxes: &mut [i64],
     emitters: &[i32],
+    emitter_boxes: &mut [i64],
     list: &mut [u32],
     out: &mut [i32],
     scratch: &mut [i32],
     room: usize,
 ) -> Listed
-    requires { ⌜ FitLayer (now collectors) × FitLayer (now bases) × FitLayer (now emitters) × Blank 0 (now list) ⌝ }
+    requires { ⌜ BoxedLayer (now collectors) (now «collector_boxes») × BoxedLayer (now bases) (now «base_boxes») × BoxedLayer (now emitters) (now «emitter_boxes») × Blank 0 (now list) ⌝ }
     requires { ⌜ Borrowed (now out) room × (room ≤ maxRecords) ⌝ }
     requires { ⌜ ScratchFor (now out) (now scratch) ⌝ }
     ensures { λ r. ⌜ ListedAs room (layerOf (now (collectors .entry))) (layerOf (now (bases .entry))) (layerOf (now (emitters .entry))) (length (now (list .entry))) r (now (list .exit)) ⌝ }
@@ -107,8 +112,11 @@ pub fn extract_into(
     let n = emitters.len() / records::MEMORY_WIDTH;
     let f = mark_layers(
         collectors,
+        collector_boxes,
         bases,
+        base_boxes,
         emitters,
+        emitter_boxes,
         &mut base_marks[..m],
         &mut emitter_marks[..n],
         out,

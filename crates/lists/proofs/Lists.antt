@@ -1,5 +1,6 @@
 -- Laws of `All`, `Any`, `Pairs` and `SomePair`.
-use mathlib.Core.Bool.{Bool}
+use mathlib.Core.Path.{_≡_, refl}
+use mathlib.Core.Bool.{Bool, true, false, not, _||_, true≢false}
 use mathlib.Core.List.{List, [], _∷_, _++_}
 use mathlib.Core.Logic.{_⊎_, inl, inr, _↔_}
 use Prim.Native.Nat.{ℕ, zero, suc, _<_}
@@ -8,7 +9,8 @@ use lib.Dec.{T}
 use lib.ListN.{length, getD, take, drop}
 use mir.Facts.{and-yes, yes-and}
 use Rattle.lists.specs.Lists.{All, Any, Pairs, SomePair}
-use Rattle.lists.specs.Tests.{all}
+use Rattle.lists.specs.Tests.{all, any}
+use Rattle.lists.proofs.Tests.{false-is, or-exact}
 
 module _ {A : Type 0} (P : A → Type 0) where
   -- what holds of everything
@@ -102,11 +104,31 @@ all-exact f P e (x ∷ xs) = (
   (λ h. yes-and (f x) (all f xs) (e x .1 (h .0)) (all-exact f P e xs .1 (h .1))),
 )
 
+-- and `any`
+pub any-exact : {A : Type 0} (f : A → Bool) (xs : List A) → T (any f xs) ↔ Any (λ (x : A). T (f x)) xs
+any-exact f [] = ((λ t. t), (λ h. h))
+any-exact {A} f (x ∷ xs) = or-exact (f x) (any f xs) (T (f x)) (Any (λ (y : A). T (f y)) xs) ((λ t. t), (λ t. t)) (any-exact f xs)
+
+neither : (a b : Bool) → a || b ≡ false → T (not a) × (b ≡ false)
+neither true b e = absurd (true≢false e)
+neither false b e = (tt, e)
+
+pub any-none : {A : Type 0} (f : A → Bool) (xs : List A) → (any f xs ≡ false) ↔ All (λ (x : A). T (not (f x))) xs
+any-none f [] = ((λ e. tt), (λ h. refl))
+any-none f (x ∷ xs) = (
+  (λ e. let h = neither (f x) (any f xs) e in (h .0, any-none f xs .0 (h .1))),
+  (λ h. let e : f x ≡ false = false-is (h .0) in rw e (any-none f xs .1 (h .1))),
+)
+
 -- ---- pairs
 -- each pair within the one, within the other, and across
 pub pairs-append : {A : Type 0} (R : A → A → Type 0) (xs ys : List A) → Pairs R xs → Pairs R ys → All (λ (x : A). All (R x) ys) xs → Pairs R (xs ++ ys)
 pairs-append R [] ys h k a = k
 pairs-append R (x ∷ xs) ys h k a = (all-append (R x) xs ys (h .0) (a .0), pairs-append R xs ys (h .1) k (a .1))
+
+pub pairs-across : {A : Type 0} (R : A → A → Type 0) (xs ys : List A) → Pairs R (xs ++ ys) → All (λ (x : A). All (R x) ys) xs
+pairs-across R [] ys h = tt
+pairs-across R (x ∷ xs) ys h = (all-right (R x) xs ys (h .0), pairs-across R xs ys (h .1))
 
 -- what holds of each pair, from what else holds of it and of each of the two
 pub pairs-with : {A : Type 0} {G : A → Type 0} {R S : A → A → Type 0} → ((x y : A) → G x → G y → R x y → S x y) → (xs : List A) → All G xs → Pairs R xs → Pairs S xs

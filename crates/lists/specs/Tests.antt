@@ -1,5 +1,5 @@
--- Tests of the elements of a list: whether all pass, those that do, how many they are; and sums over a list.
-use mathlib.Core.Bool.{Bool, true, false, cond, _&&_}
+-- Tests of the elements of a list: whether all or any pass, those that do, how many they are; and sums over a list.
+use mathlib.Core.Bool.{Bool, true, false, cond, _&&_, _||_}
 use mathlib.Core.List.{List, [], _∷_}
 use Prim.Native.Nat.{ℕ, zero, suc, _+_}
 
@@ -10,6 +10,10 @@ always x = true
 abbrev pub all : {A : Type 0} → (A → Bool) → List A → Bool
 all f [] = true
 all f (x ∷ xs) = f x && all f xs
+
+abbrev pub any : {A : Type 0} → (A → Bool) → List A → Bool
+any f [] = false
+any f (x ∷ xs) = f x || any f xs
 
 -- the list has an element with number i, and the test says yes of it
 abbrev pub testAt : {A : Type 0} → (A → Bool) → List A → ℕ → Bool

@@ -1,6 +1,5 @@
 // The public interface, points: set operations, deoverlapping, equality and the point question of layers of trapezoids, for every
 // input. The other public functions are in `loxurfa_files` and `loxurfa_shapes`.
-use boolean::Compared;
 use boolean::Folded;
 use calls::Combined;
 use calls::Containment;
@@ -35,26 +34,7 @@ pub fn combine(code: u32, a: &[i32], b: &[i32], out: &mut [i32], scratch: &mut [
         }
         Checked::Passed => {}
     }
-    let room = out.len() / records::MEMORY_WIDTH;
-    records_code::clear_both(out, scratch);
-    let f = boolean_code::combine_into(code, a, b, out, scratch, room);
-    match f {
-        Folded::NoRoom(_) => {
-            return Combined::Refused {
-                number: 12,
-                place: 0,
-            };
-        }
-        Folded::Done {
-            trapezoids,
-            overlays,
-        } => {
-            return Combined::Done {
-                pieces: trapezoids,
-                overlays,
-            };
-        }
-    }
+    searched_code::combine_searched(code, a, b, out, scratch)
 }
 
 // The trapezoids of a without overlaps, written to `out`. `scratch` is as long as `out`.
@@ -103,23 +83,7 @@ pub fn equal(a: &[i32], b: &[i32], out: &mut [i32], scratch: &mut [i32]) -> Equa
         }
         Checked::Passed => {}
     }
-    let room = out.len() / records::MEMORY_WIDTH;
-    records_code::clear_both(out, scratch);
-    let f = equality_code::equal_into(a, b, out, scratch, room);
-    match f {
-        Compared::NoRoom(_) => {
-            return Equality::Refused {
-                number: 12,
-                place: 0,
-            };
-        }
-        Compared::Same(overlays) => {
-            return Equality::Same { overlays };
-        }
-        Compared::Differs { operand, overlays } => {
-            return Equality::Differs { operand, overlays };
-        }
-    }
+    searched_code::equal_searched(a, b, out, scratch)
 }
 
 // The point question, of numbers.

@@ -17,20 +17,21 @@ ghost use Rattle.marked_layers_code.specs.Code.{BothTried, BothWithin};
 // Bases and emitters marked, the shapes of the bases being there.
 fn mark_both(
     collectors: &[i32],
+    collector_boxes: &mut [i64],
     bases: &[i32],
-    emitters: &[i32],
-    words: &mut [i32],
-    boxes: &mut [i64],
     base_ends: &[u32],
     base_words: &[i32],
     base_boxes: &[i64],
+    emitters: &[i32],
+    emitter_boxes: &mut [i64],
+    words: &mut [i32],
     base_marks: &mut [u32],
     emitter_marks: &mut [u32],
     out: &mut [i32],
     scratch: &mut [i32],
     room: usize,
 ) -> Enclosed
-    requires { ⌜ RoomForShapes (now collectors) (now words) (now boxes) × RoomForShapes (now emitters) (now words) (now boxes) × FitLayer (now bases) ⌝ }
+    requires { ⌜ RoomForShapes (now collectors) (now words) (now «collector_boxes») × RoomForShapes (now emitters) (now words) (now «emitter_boxes») × FitLayer (now bases) ⌝ }
     requires { ⌜ ShapesIn (layerOf (now bases)) (now «base_ends») (now «base_words») (now «base_boxes») × (length (now «base_marks») ≡ count trapezoidCodec (now bases)) × (length (now «emitter_marks») ≡ count trapezoidCodec (now emitters)) ⌝ }
     requires { ⌜ Borrowed (now out) room × (room ≤ maxRecords) ⌝ }
     requires { ⌜ ScratchFor (now out) (now scratch) ⌝ }
@@ -41,7 +42,7 @@ fn mark_both(
     let f = marking_code::mark_bases(
         collectors,
         words,
-        boxes,
+        collector_boxes,
         bases,
         base_ends,
         base_words,
@@ -57,7 +58,7 @@ fn mark_both(
     let g = marking_code::mark_emitters(
         emitters,
         words,
-        boxes,
+        emitter_boxes,
         bases,
         base_ends,
         base_words,
@@ -76,19 +77,20 @@ fn mark_both(
 // The same, where the shapes of the bases are yet to be worked out.
 pub fn mark_with(
     collectors: &[i32],
+    collector_boxes: &mut [i64],
     bases: &[i32],
-    emitters: &[i32],
-    words: &mut [i32],
-    boxes: &mut [i64],
-    base_words: &mut [i32],
     base_boxes: &mut [i64],
+    emitters: &[i32],
+    emitter_boxes: &mut [i64],
+    words: &mut [i32],
+    base_words: &mut [i32],
     base_marks: &mut [u32],
     emitter_marks: &mut [u32],
     out: &mut [i32],
     scratch: &mut [i32],
     room: usize,
 ) -> Enclosed
-    requires { ⌜ RoomForShapes (now collectors) (now words) (now boxes) × RoomForShapes (now emitters) (now words) (now boxes) × RoomForShapes (now bases) (now «base_words») (now «base_boxes») ⌝ }
+    requires { ⌜ RoomForShapes (now collectors) (now words) (now «collector_boxes») × RoomForShapes (now emitters) (now words) (now «emitter_boxes») × RoomForShapes (now bases) (now «base_words») (now «base_boxes») ⌝ }
     requires { ⌜ (length (now «base_marks») ≡ count trapezoidCodec (now bases)) × (length (now «emitter_marks») ≡ count trapezoidCodec (now emitters)) ⌝ }
     requires { ⌜ Borrowed (now out) room × (room ≤ maxRecords) ⌝ }
     requires { ⌜ ScratchFor (now out) (now scratch) ⌝ }
@@ -102,13 +104,14 @@ pub fn mark_with(
     shapes_code::shapes_into(bases, &mut ends[..n], &mut base_words[..end], base_boxes);
     mark_both(
         collectors,
+        collector_boxes,
         bases,
-        emitters,
-        words,
-        boxes,
         &ends[..n],
         &base_words[..end],
         base_boxes,
+        emitters,
+        emitter_boxes,
+        words,
         base_marks,
         emitter_marks,
         out,

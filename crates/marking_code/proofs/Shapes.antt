@@ -45,8 +45,8 @@ shapes-back {ts} {ends} {s} {d} h n e q r l k = rw (take-at ends q n l, take-at 
 pub ends-length : (t : List ℤ) {ends : List ℕ} {s d : List ℤ} → ShapesIn (layerOf t) ends s d → length ends ≡ count trapezoidCodec t
 ends-length t h = h .one-each ∙ layer-length t
 
-pub room-kept : {t s d s′ d′ : List ℤ} → RoomForShapes t s d → length s′ ≡ length s → length d′ ≡ length d → RoomForShapes t s′ d′
-room-kept h l k = record { layer = h .layer; words = omega (arith, h .words, l); boxes = omega (arith, h .boxes, k) }
+pub room-kept : {t s d s′ : List ℤ} → RoomForShapes t s d → length s′ ≡ length s → RoomForShapes t s′ d
+room-kept h l = record { boxed = h .boxed; words = omega (arith, h .words, l) }
 
 -- ---- output and scratch area, blank again
 pub borrowed-again : {d d′ : List ℤ} {room : ℕ} → Borrowed d room → Blank (pos 0) d′ → length d′ ≡ length d → Borrowed d′ room

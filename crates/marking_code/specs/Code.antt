@@ -10,7 +10,6 @@ use lib.IntN.{ℤ}
 use Rattle.records.specs.Limits.{memoryWidth, maxRecords}
 use Rattle.records.specs.Records.{count}
 use Rattle.geometry.specs.declared.Trapezoid.{Trapezoid}
-use Rattle.geometry.specs.Fitness.{FitLayer}
 use Rattle.geometry.specs.Trapezoids.{trapezoidCodec}
 use Rattle.boolean.specs.Space.{enough, space}
 use Rattle.boolean.specs.Counts.{isNoRoom}
@@ -18,7 +17,7 @@ use Rattle.extraction.specs.declared.Enclosed.{Enclosed}
 use Rattle.extraction.specs.declared.Enclosed.the-variants as enclosed
 use Rattle.extraction.specs.Shapes.{shapeOf, isSome}
 use Rattle.extraction.specs.Extraction.{enclosesAt, enclosingStages}
-use Rattle.boxes_code.specs.Code.{boxWidth}
+use Rattle.boxes_code.specs.Code.{BoxedLayer}
 
 -- ---- marks
 -- shapes with the numbers i and j of the layers ts and us: both have trapezoids, and the first encloses the second
@@ -43,8 +42,7 @@ abbrev pub TriedWithin : Enclosed → Type 0
 TriedWithin enclosed.NoRoom = Unit {0}
 TriedWithin (enclosed.Done overlays) = overlays ≤ overlaysOfShapes
 
--- ---- a buffer for the trapezoids of a layer, and one for their boxes
+-- ---- a layer of fit trapezoids with the box of each, and a buffer for the trapezoids
 pub record RoomForShapes (t s d : List ℤ) : Type 0 where
-  pub layer : FitLayer t
+  pub boxed : BoxedLayer t d
   pub words : memoryWidth * count trapezoidCodec t ≤ length s
-  pub boxes : boxWidth * count trapezoidCodec t ≤ length d

@@ -13,7 +13,8 @@ ghost use Rattle.remainder_code.specs.Code.{ScratchFor};
 ghost use Rattle.shapes_code.specs.Code.{ShapesIn};
 ghost use Rattle.marking_code.specs.Code.{Tried, TriedWithin, RoomForShapes};
 
-// The shapes of the collectors tried with those of the bases, which are there. `words` and `boxes` are for the collectors' shapes.
+// The shapes of the collectors tried with those of the bases, which are there. `boxes` are the collectors'; `words` and `boxes` are
+// left with their shapes.
 pub fn mark_bases(
     collectors: &[i32],
     words: &mut [i32],
@@ -53,7 +54,8 @@ pub fn mark_bases(
     )
 }
 
-// The shapes of the bases, which are there, tried with those of the emitters. `words` and `boxes` are for the emitters' shapes.
+// The shapes of the bases, which are there, tried with those of the emitters. `boxes` are the emitters'; `words` and `boxes` are left
+// with their shapes.
 pub fn mark_emitters(
     emitters: &[i32],
     words: &mut [i32],

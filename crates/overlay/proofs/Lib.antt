@@ -1,6 +1,7 @@
 pub mod Ranges
 pub mod Entering
 pub mod Overlaps
+pub mod Search
 pub mod Events
 pub mod Stack
 pub mod Count

@@ -11,14 +11,10 @@ use Rattle.geometry.specs.declared.Verdict.the-variants.{Fit, Row}
 use Rattle.geometry.specs.declared.Checked.{Checked}
 use Rattle.geometry.specs.declared.Checked.the-variants.{Passed, Refused}
 use Rattle.geometry.specs.Fitness.{verdict, refuse, firstRefusal}
+use Rattle.calls.specs.Rows.{andThen}
 
 -- ---- two lists in a row
--- the second list decides where the first is let pass
-abbrev then : Checked → Checked → Checked
-then Passed c = c
-then (Refused n i) c = Refused n i
-
-then-refuse : (v : Verdict) (i : ℕ) (c d : Checked) → then (refuse v i c) d ≡ refuse v i (then c d)
+then-refuse : (v : Verdict) (i : ℕ) (c d : Checked) → andThen (refuse v i c) d ≡ refuse v i (andThen c d)
 then-refuse Fit i c d = refl
 then-refuse (Row n) i c d = refl
 
@@ -30,16 +26,16 @@ first-one : (L i : ℕ) (t : Trapezoid) (ts : List Trapezoid) → firstRefusal L
 unfolding firstRefusal
 first-one L i t ts = refl
 
-first-append : (L i : ℕ) (ts us : List Trapezoid) → firstRefusal L i (ts ++ us) ≡ then (firstRefusal L i ts) (firstRefusal L (i + length ts) us)
+first-append : (L i : ℕ) (ts us : List Trapezoid) → firstRefusal L i (ts ++ us) ≡ andThen (firstRefusal L i ts) (firstRefusal L (i + length ts) us)
 first-append L i [] us = rw (first-none L i, add-zero i)
 first-append L i (t ∷ ts) us =
     first-one L i t (ts ++ us) ∙ ap (refuse (verdict L t) i) (first-append L (i + 1) ts us)
     ∙ sym (then-refuse (verdict L t) i (firstRefusal L (i + 1) ts) (firstRefusal L (i + 1 + length ts) us))
-    ∙ ap (λ (n : ℕ). then (refuse (verdict L t) i (firstRefusal L (i + 1) ts)) (firstRefusal L n us)) (omega arith)
-    ∙ ap (λ (c : Checked). then c (firstRefusal L (i + length (t ∷ ts)) us)) (sym (first-one L i t ts))
+    ∙ ap (λ (n : ℕ). andThen (refuse (verdict L t) i (firstRefusal L (i + 1) ts)) (firstRefusal L n us)) (omega arith)
+    ∙ ap (λ (c : Checked). andThen c (firstRefusal L (i + length (t ∷ ts)) us)) (sym (first-one L i t ts))
 
 pub first-passed : (L : ℕ) (ts us : List Trapezoid) → firstRefusal L 0 ts ≡ Passed → firstRefusal L (length ts) us ≡ firstRefusal L 0 (ts ++ us)
-first-passed L ts us e = let n : 0 + length ts ≡ length ts = omega arith in sym (first-append L 0 ts us ∙ ap (λ (c : Checked). then c (firstRefusal L (0 + length ts) us)) e ∙ ap (λ (i : ℕ). firstRefusal L i us) n)
+first-passed L ts us e = let n : 0 + length ts ≡ length ts = omega arith in sym (first-append L 0 ts us ∙ ap (λ (c : Checked). andThen c (firstRefusal L (0 + length ts) us)) e ∙ ap (λ (i : ℕ). firstRefusal L i us) n)
 
 pub first-refused : (L : ℕ) (ts us : List Trapezoid) {n p : ℕ} → firstRefusal L 0 ts ≡ Refused n p → Refused n p ≡ firstRefusal L 0 (ts ++ us)
-first-refused L ts us e = sym (first-append L 0 ts us ∙ ap (λ (c : Checked). then c (firstRefusal L (0 + length ts) us)) e)
+first-refused L ts us e = sym (first-append L 0 ts us ∙ ap (λ (c : Checked). andThen c (firstRefusal L (0 + length ts) us)) e)

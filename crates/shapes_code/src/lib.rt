@@ -5,9 +5,8 @@ ghost use lib.ListN.{length};
 ghost use lib.IntN.{pos};
 ghost use Rattle.records.specs.Limits.{memoryWidth, maxRecords};
 ghost use Rattle.records.specs.Records.{count, Blank};
-ghost use Rattle.geometry.specs.Fitness.{FitLayer};
 ghost use Rattle.geometry.specs.Trapezoids.{trapezoidCodec, layerOf};
-ghost use Rattle.boxes_code.specs.Code.{boxWidth};
+ghost use Rattle.boxes_code.specs.Code.{BoxedLayer};
 ghost use Rattle.shapes_code.specs.Code.{GroupedBelow, GroupedAs, ShapesIn};
 
 // `grouped` holds the n trapezoids of a layer with numbers below k: those with the number k behind them; answers how many it holds then.
@@ -43,7 +42,7 @@ fn group(layer: &[i32], numbers: &[u32], ends: &mut [u32], grouped: &mut [i32])
     }
 }
 
-// The shapes of a layer, with their ends and boxes; `numbers` for the component numbers.
+// The shapes of a layer, with their ends, and their boxes in the place of the layer's; `numbers` for the component numbers.
 fn shapes_with(
     layer: &[i32],
     numbers: &mut [u32],
@@ -51,20 +50,20 @@ fn shapes_with(
     grouped: &mut [i32],
     boxes: &mut [i64],
 )
-    requires { ⌜ FitLayer (now layer) × (length (now numbers) ≡ count trapezoidCodec (now layer)) × (length (now ends) ≡ count trapezoidCodec (now layer)) ⌝ }
-    requires { ⌜ (length (now grouped) ≡ memoryWidth * count trapezoidCodec (now layer)) × (boxWidth * count trapezoidCodec (now layer) ≤ length (now boxes)) ⌝ }
+    requires { ⌜ BoxedLayer (now layer) (now boxes) × (length (now numbers) ≡ count trapezoidCodec (now layer)) ⌝ }
+    requires { ⌜ (length (now ends) ≡ count trapezoidCodec (now layer)) × (length (now grouped) ≡ memoryWidth * count trapezoidCodec (now layer)) ⌝ }
     ensures { λ _. ⌜ ShapesIn (layerOf (now (layer .entry))) (now (ends .exit)) (now (grouped .exit)) (now (boxes .exit)) ⌝ }
 {
-    let _ = connectivity_code::components_with(layer, boxes, numbers);
+    let _ = connectivity_code::components_boxed(layer, boxes, numbers);
     records_code::clear(grouped);
     group(layer, numbers, ends, grouped);
     boxes_code::fill_boxes(grouped, boxes);
 }
 
-// The shapes of a layer, with their ends and boxes.
+// The shapes of a layer, with their ends, and their boxes in the place of the layer's.
 pub fn shapes_into(layer: &[i32], ends: &mut [u32], grouped: &mut [i32], boxes: &mut [i64])
-    requires { ⌜ FitLayer (now layer) × (length (now ends) ≡ count trapezoidCodec (now layer)) ⌝ }
-    requires { ⌜ (length (now grouped) ≡ memoryWidth * count trapezoidCodec (now layer)) × (boxWidth * count trapezoidCodec (now layer) ≤ length (now boxes)) ⌝ }
+    requires { ⌜ BoxedLayer (now layer) (now boxes) ⌝ }
+    requires { ⌜ (length (now ends) ≡ count trapezoidCodec (now layer)) × (length (now grouped) ≡ memoryWidth * count trapezoidCodec (now layer)) ⌝ }
     ensures { λ _. ⌜ ShapesIn (layerOf (now (layer .entry))) (now (ends .exit)) (now (grouped .exit)) (now (boxes .exit)) ⌝ }
 {
     let mut numbers = [0u32; records::MAX_RECORDS];

@@ -13,11 +13,20 @@ pub fn rows() {
             (Code::Intersection, 22),
             (Code::AMinusB, 22),
             (Code::Union, 12),
+            (Code::Union, 16),
             (Code::SymmetricDifference, 12),
         ] {
             let [a, b] = apart.layers(side);
             Operation::Combine(code).row(&apart.name(side), &a, &b, 512);
         }
+    }
+    // The search for overlaps, and nothing else: no overlay is made.
+    for apart in Apart::ALL {
+        let union = Operation::Combine(Code::Union);
+        let kind = format!("apart, {}, B empty", apart.shape());
+        union.row(&kind, &apart.longest(), &[], 512);
+        let kind = format!("overlap at the end, {}", apart.shape());
+        union.refused_row(&kind, &apart.overlap_at_the_end(), &[], 512);
     }
     for code in Code::ALL {
         let [a, b] = Apart::Grid.layers(2);

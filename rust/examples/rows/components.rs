@@ -1,7 +1,7 @@
 //! Rows for connected components.
 
-use super::deoverlap::two_and_two;
-use super::layers::Apart;
+use super::layers::{touching, Apart};
+use super::operation::overlap;
 use super::print;
 use super::timing::{in_turn, Timed};
 use crate::reference::{self, WORDS};
@@ -26,11 +26,22 @@ pub fn rows() {
     row("snake in random order", &reordered(&snake(), &order));
     let [a, _] = Apart::Grid.layers(2);
     row("apart, 2 by 2", &a);
-    row("overlapping, two and two", &two_and_two());
+    row("touching, two and two", &touching());
+    let last = Apart::Grid.overlap_at_the_end();
+    let timed = time_any(&last);
+    let kind = format!("overlap at the end, {}", Apart::Grid.shape());
+    print(&kind, "components", &[512], overlap(&timed), &timed);
 }
 
 /// Times both. They must write the same.
 pub fn time(layer: &[i32]) -> Timed {
+    let timed = time_any(layer);
+    assert!(timed.answer >> 63 == 0, "refused");
+    timed
+}
+
+/// The same of a layer that is refused or not.
+fn time_any(layer: &[i32]) -> Timed {
     let mut numbers = vec![1; layer.len() / WORDS];
     let mut right = numbers.clone();
     let timed = in_turn(
@@ -38,7 +49,6 @@ pub fn time(layer: &[i32]) -> Timed {
         || reference::components::components(black_box(layer), &mut right),
     );
     assert!(numbers == right, "they disagree");
-    assert!(timed.answer >> 63 == 0, "refused");
     timed
 }
 

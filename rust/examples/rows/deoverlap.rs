@@ -23,7 +23,7 @@ pub fn rows() {
 }
 
 /// Two rectangles, and two that overlap them.
-pub fn two_and_two() -> Vec<i32> {
+fn two_and_two() -> Vec<i32> {
     overlapping()
         .map(|layer| layer[..2 * WORDS].to_vec())
         .concat()

@@ -1,6 +1,6 @@
 //! Layers for the rows.
 
-use crate::reference::Line;
+use crate::reference::{Line, WORDS};
 use crate::support::{mark, rectangle, six_lines};
 
 /// Rectangles with gaps: where those of A stand and, in the gaps, those of B.
@@ -42,11 +42,50 @@ impl Apart {
         }
         [a, b]
     }
+
+    /// How 512 of them stand.
+    pub fn shape(self) -> &'static str {
+        match self {
+            Apart::Row => "in a row",
+            Apart::Grid => "32 by 16",
+        }
+    }
+
+    /// 512 rectangles.
+    pub fn longest(self) -> Vec<i32> {
+        let one = |k: i32| match self {
+            Apart::Row => rectangle(8 * k - 2048, 8 * k - 2045, 0, 100),
+            Apart::Grid => {
+                let (x, y) = (120 * (k % 32) - 1920, 120 * (k / 32) - 960);
+                rectangle(x, x + 90, y, y + 70)
+            }
+        };
+        (0..512).flat_map(one).collect()
+    }
+
+    /// The same, but for the last one, which overlaps the one before it.
+    pub fn overlap_at_the_end(self) -> Vec<i32> {
+        let mut words = self.longest();
+        words.copy_within(510 * WORDS..511 * WORDS, 511 * WORDS);
+        words
+    }
 }
 
 /// The corner of cell k of a grid, row by row.
 pub fn corner(side: i32, k: i32) -> (i32, i32) {
     (180 * (k % side) - 1980, 180 * (k / side) - 1980)
+}
+
+/// Two rectangles, and two beside them.
+pub fn touching() -> Vec<i32> {
+    let mut words = Vec::new();
+    for side in 0..2 {
+        for k in 0..2 {
+            let (x, y) = corner(2, k);
+            words.extend(rectangle(x + 50 * side, x + 50 + 50 * side, y, y + 70));
+        }
+    }
+    words
 }
 
 /// A and B of 4 rectangles each. Each of A overlaps one of B.

@@ -26,6 +26,7 @@ pub fn table() {
     println!("n: trapezoids of A, of B; for transistors of each layer; for fracture polygons, vertices of each.");
     println!("Outputs have 512 records; for 4 trapezoids and for one cell 16, for one overlay 5.");
     println!("One overlay: A - B and B - A in turn, the result is that of both.");
+    println!("B empty: the search for overlaps in A, and no overlay. Overlap at the end: the last two trapezoids of A are the same, and the call is refused.");
     println!("contains, direct: beside a direct version, where the Rust program works out the whole result.");
     println!();
     println!("| kind                            | call                   |        n | result         | library | Rust program | library / Rust |");

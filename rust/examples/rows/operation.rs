@@ -15,6 +15,12 @@ pub enum Operation {
     Equal,
 }
 
+/// What a row says of a call that is refused for overlaps.
+pub fn overlap(timed: &Timed) -> &'static str {
+    assert!(timed.answer >> 32 == 1 << 31 | 13, "not refused with 13");
+    "refused 13"
+}
+
 /// Output and scratch area.
 #[derive(PartialEq)]
 pub struct Area {
@@ -66,14 +72,27 @@ impl Operation {
 
     /// Times both with an output of so many records. They must write the same.
     pub fn time(self, a: &[i32], b: &[i32], records: usize) -> Timed {
+        let timed = self.time_any(a, b, records);
+        assert!(timed.answer >> 63 == 0, "refused");
+        timed
+    }
+
+    /// The same of a call that is refused or not.
+    fn time_any(self, a: &[i32], b: &[i32], records: usize) -> Timed {
         let (mut area, mut right) = (Area::new(records), Area::new(records));
         let timed = in_turn(
             || self.library(a, b, &mut area),
             || self.reference(a, b, &mut right),
         );
         assert!(area == right, "they disagree");
-        assert!(timed.answer >> 63 == 0, "refused");
         timed
+    }
+
+    /// A row of a call that is refused for overlaps.
+    pub fn refused_row(self, kind: &str, a: &[i32], b: &[i32], records: usize) {
+        let timed = self.time_any(a, b, records);
+        let counts = [a.len() / WORDS, b.len() / WORDS];
+        print(kind, self.name(), &counts, overlap(&timed), &timed);
     }
 
     /// A row.

@@ -11,7 +11,7 @@ mod c {
     }
 }
 
-/// The value is the number of connected components.
+/// The value is the number of connected components. A layer with overlaps is refused with 13.
 pub fn components(a: &[i32], numbers: &mut [u32]) -> u64 {
     // SAFETY: each pointer and length is one Rust slice, alive during the call. The library reads a
     // and writes only within numbers, which overlaps nothing.

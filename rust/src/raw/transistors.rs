@@ -19,7 +19,7 @@ mod c {
     }
 }
 
-/// The value is the number of triples.
+/// The value is the number of triples. Layers with overlaps are refused with 13.
 pub fn transistors(
     collectors: &[i32],
     bases: &[i32],

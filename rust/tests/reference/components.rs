@@ -1,6 +1,6 @@
 //! Touching trapezoids and connected components.
 
-use super::{accepted, bad_length, read_layer, refuse_if, refused, rows_7_to_11};
+use super::{accepted, bad_length, fit_layers, refuse_if, refused};
 use super::{Fraction, Line, Point, Trapezoid, WORDS};
 use std::cmp::Ordering;
 
@@ -80,11 +80,12 @@ pub fn component_numbers(layer: &[Trapezoid]) -> Vec<u32> {
 
 pub fn components(a: &[i32], numbers: &mut [u32]) -> u64 {
     let bad = bad_length(a) || numbers.len() != a.len() / WORDS;
-    let rows = refuse_if(bad, 1, 0).and_then(|()| rows_7_to_11(&[a]));
-    if let Err(refusal) = rows {
-        return refused(refusal);
-    }
-    let right = component_numbers(&read_layer(a));
+    let rows = refuse_if(bad, 1, 0).and_then(|()| fit_layers([a]));
+    let [a] = match rows {
+        Err(refusal) => return refused(refusal),
+        Ok(layers) => layers,
+    };
+    let right = component_numbers(&a);
     numbers.copy_from_slice(&right);
     let own = right.iter().enumerate();
     let count = own.filter(|&(n, &number)| n as u32 == number).count();

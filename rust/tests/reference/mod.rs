@@ -237,12 +237,8 @@ pub struct Part {
 
 /// The overlay of A and B, put into `parts` in place of what it held.
 pub fn overlay(a: &Trapezoid, b: &Trapezoid, parts: &mut Vec<Part>) {
-    parts.clear();
-    if !plainly_apart(a, b) {
-        divide(a, b, parts);
-    }
     // No rational point in both: A, then B, whole.
-    if !parts.iter().any(|part| part.tag == 3) {
+    if !overlap(a, b, parts) {
         parts.clear();
         parts.push(Part {
             tag: 1,
@@ -253,6 +249,15 @@ pub fn overlay(a: &Trapezoid, b: &Trapezoid, parts: &mut Vec<Part>) {
             trapezoid: *b,
         });
     }
+}
+
+/// Whether a rational point lies in both. If one does, `parts` are those of the overlay.
+fn overlap(a: &Trapezoid, b: &Trapezoid, parts: &mut Vec<Part>) -> bool {
+    parts.clear();
+    if !plainly_apart(a, b) {
+        divide(a, b, parts);
+    }
+    parts.iter().any(|part| part.tag == 3)
 }
 
 /// A quick way out: no common range, or one lies wholly below the other over the common range.
@@ -604,6 +609,39 @@ fn rows_7_to_11(layers: &[&[i32]]) -> Result<(), Refusal> {
     Ok(())
 }
 
+/// The first overlapping pair of a layer, taken by its later trapezoid and then its earlier, of the first
+/// layer that has one: the number of the later trapezoid, those of later layers numbered on.
+pub fn first_overlap(layers: &[Vec<Trapezoid>]) -> Option<usize> {
+    let mut parts = Vec::new();
+    let mut place = None;
+    let mut before = 0;
+    'search: for layer in layers {
+        for later in 0..layer.len() {
+            for earlier in 0..later {
+                if overlap(&layer[later], &layer[earlier], &mut parts) {
+                    place = Some(before + later);
+                    break 'search;
+                }
+            }
+        }
+        before += layer.len();
+    }
+    place
+}
+
+/// The trapezoids of layers that pass rows 7 to 11, all of them, and then row 13.
+fn fit_layers<const N: usize>(layers: [&[i32]; N]) -> Result<[Vec<Trapezoid>; N], Refusal> {
+    rows_7_to_11(&layers)?;
+    let layers = layers.map(read_layer);
+    match first_overlap(&layers) {
+        None => Ok(layers),
+        Some(place) => Err(Refusal {
+            number: 13,
+            place: place as u32,
+        }),
+    }
+}
+
 // ---------------------------------------------------------------------------------------------
 // Calls: answers as 64 bits, output and scratch area as the paper leaves them
 
@@ -638,12 +676,13 @@ fn finish(run: Run, space: Result<(), NoRoom>, out: &mut [i32], scratch: &mut [i
 pub fn combine(code: u32, a: &[i32], b: &[i32], out: &mut [i32], scratch: &mut [i32]) -> u64 {
     let rows = row_1(&[a, b], out, scratch)
         .and_then(|()| row_2(code))
-        .and_then(|()| rows_7_to_11(&[a, b]));
-    if let Err(refusal) = rows {
-        return refused(refusal);
-    }
+        .and_then(|()| fit_layers([a, b]));
+    let [a, b] = match rows {
+        Err(refusal) => return refused(refusal),
+        Ok(layers) => layers,
+    };
     let mut run = Run::new(out.len() / WORDS);
-    let space = run.combine(code, &read_layer(a), &read_layer(b));
+    let space = run.combine(code, &a, &b);
     finish(run, space, out, scratch)
 }
 
@@ -658,12 +697,13 @@ pub fn deoverlap(a: &[i32], out: &mut [i32], scratch: &mut [i32]) -> u64 {
 }
 
 pub fn equal(a: &[i32], b: &[i32], out: &mut [i32], scratch: &mut [i32]) -> u64 {
-    let rows = row_1(&[a, b], out, scratch).and_then(|()| rows_7_to_11(&[a, b]));
-    if let Err(refusal) = rows {
-        return refused(refusal);
-    }
+    let rows = row_1(&[a, b], out, scratch).and_then(|()| fit_layers([a, b]));
+    let [a, b] = match rows {
+        Err(refusal) => return refused(refusal),
+        Ok(layers) => layers,
+    };
     let mut run = Run::new(out.len() / WORDS);
-    let outcome = run.equal(&read_layer(a), &read_layer(b));
+    let outcome = run.equal(&a, &b);
     out.fill(0);
     scratch.fill(0);
     match outcome {

@@ -1,7 +1,7 @@
 //! Transistors from three layers.
 
 use super::components::component_numbers;
-use super::{accepted, read_layer, refused, row_1, rows_7_to_11};
+use super::{accepted, fit_layers, refused, row_1};
 use super::{NoRoom, Run, Trapezoid, NO_SPACE, WORDS};
 
 /// A component with its number.
@@ -105,12 +105,12 @@ pub fn transistors(
     scratch: &mut [i32],
 ) -> u64 {
     let layers = [collectors, bases, emitters];
-    let rows = row_1(&layers, out, scratch).and_then(|()| rows_7_to_11(&layers));
-    if let Err(refusal) = rows {
-        return refused(refusal);
-    }
+    let rows = row_1(&layers, out, scratch).and_then(|()| fit_layers(layers));
+    let [collectors, bases, emitters] = match rows {
+        Err(refusal) => return refused(refusal),
+        Ok(layers) => layers,
+    };
     let room = out.len() / WORDS;
-    let [collectors, bases, emitters] = layers.map(read_layer);
     let extraction = extract(room, &collectors, &bases, &emitters);
     list.fill(0);
     out.fill(0);

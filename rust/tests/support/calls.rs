@@ -47,14 +47,15 @@ impl Function {
         }
     }
 
-    /// The rows of the table that may refuse it.
+    /// The rows of the table that may refuse it, in the order in which they are checked.
     pub fn rows(self) -> &'static [usize] {
         match self {
             Fracture | FractureFirstEdition => &[1, 4, 5, 6, 7, 12],
-            Combine => &[1, 2, 7, 8, 9, 10, 11, 12],
-            Deoverlap | Equal | Transistors => &[1, 7, 8, 9, 10, 11, 12],
+            Combine => &[1, 2, 7, 8, 9, 10, 11, 13, 12],
+            Deoverlap => &[1, 7, 8, 9, 10, 11, 12],
+            Equal | Transistors => &[1, 7, 8, 9, 10, 11, 13, 12],
             Contains => &[1, 2, 3, 7, 8, 9, 10, 11],
-            Components => &[1, 7, 8, 9, 10, 11],
+            Components => &[1, 7, 8, 9, 10, 11, 13],
             ReadLayers => &[4, 5, 6, 7, 8, 9, 10, 11, 12],
             WriteLayers => &[5, 6, 7, 8, 9, 10, 11, 12],
         }
@@ -184,9 +185,13 @@ impl Call {
     }
 }
 
-/// A layer: fit, damaged, of an odd length, or empty.
-fn any_layer(random: &mut Random, scene: &Scene) -> Vec<i32> {
-    let mut layer = scene.layer(random, 6);
+/// A layer: fit, damaged, of an odd length, or empty; mostly disjoint for a call that refuses overlaps.
+fn any_layer(random: &mut Random, scene: &Scene, function: Function) -> Vec<i32> {
+    let mut layer = if function.rows().contains(&13) {
+        scene.mostly_disjoint_layer(random, 6)
+    } else {
+        scene.layer(random, 6)
+    };
     match random.below(12) {
         0 | 1 => damage(random, &mut layer),
         2 => {
@@ -273,6 +278,7 @@ pub fn any_call(random: &mut Random, function: Function) -> Call {
         _ => random.below(5) as u32,
     };
     let mut point = [0, 0, 1];
+    let layer = |random: &mut Random| any_layer(random, &scene, function);
     let buffers = match function {
         Fracture | FractureFirstEdition => {
             let mut polygons = any_polygons(random);
@@ -293,21 +299,21 @@ pub fn any_call(random: &mut Random, function: Function) -> Call {
             vec![bytes(random, &words), out, scratch]
         }
         Combine | Equal => {
-            let (a, b) = (any_layer(random, &scene), any_layer(random, &scene));
+            let (a, b) = (layer(random), layer(random));
             let [out, scratch] = room(random);
             vec![Buffer::Words(a), Buffer::Words(b), out, scratch]
         }
         Deoverlap => {
             let [out, scratch] = room(random);
-            vec![Buffer::Words(any_layer(random, &scene)), out, scratch]
+            vec![Buffer::Words(layer(random)), out, scratch]
         }
         Contains => {
-            let (a, b) = (any_layer(random, &scene), any_layer(random, &scene));
+            let (a, b) = (layer(random), layer(random));
             point = any_point(random, &a, &b);
             vec![Buffer::Words(a), Buffer::Words(b)]
         }
         Components => {
-            let a = any_layer(random, &scene);
+            let a = layer(random);
             let count = match random.below(8) {
                 0 => random.below(10),
                 _ => a.len() / WORDS,
@@ -318,12 +324,12 @@ pub fn any_call(random: &mut Random, function: Function) -> Call {
         Transistors => {
             let mut layers = cells(random);
             match random.below(8) {
-                0 => layers = [(); 3].map(|()| any_layer(random, &scene)),
+                0 => layers = [(); 3].map(|()| layer(random)),
                 1 | 2 => {
                     let unfit = random.below(3);
                     damage(random, &mut layers[unfit]);
                 }
-                3 => layers[random.below(3)] = any_layer(random, &scene),
+                3 => layers[random.below(3)] = layer(random),
                 _ => {}
             }
             let list = random.below(3 * layers[2].len() / WORDS + 4);

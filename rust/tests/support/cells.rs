@@ -1,7 +1,7 @@
-//! Layers of collectors, bases and emitters, mostly within each other.
+//! Layers of collectors, bases and emitters, mostly within each other and mostly disjoint.
 
 use super::shapes::reordered;
-use super::{level, mark, rectangle, six_lines, Random, Scene};
+use super::{level, mark, mostly_disjoint, rectangle, six_lines, Random, Scene};
 use crate::reference::{self, layer_words, read_layer, Line, WORDS};
 
 /// The three layers, their trapezoids now and then in another order.
@@ -11,6 +11,7 @@ pub fn cells(random: &mut Random) -> [Vec<i32>; 3] {
         _ => on_grid(random),
     };
     layers.map(|layer| {
+        let layer = mostly_disjoint(random, layer);
         let mut order: Vec<usize> = (0..layer.len() / WORDS).collect();
         if random.once_in(2) {
             random.shuffle(&mut order);

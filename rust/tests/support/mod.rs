@@ -283,13 +283,13 @@ impl Scene {
 
     /// A disjoint layer of at most 512 trapezoids.
     pub fn disjoint_layer(&self, random: &mut Random, most: usize) -> Vec<i32> {
-        loop {
-            let words = self.layer(random, most);
-            let result = reference::deoverlapped(&reference::read_layer(&words));
-            if result.len() <= 512 {
-                return reference::layer_words(&result);
-            }
-        }
+        disjoint(&self.layer(random, most))
+    }
+
+    /// A layer for a call that refuses overlaps.
+    pub fn mostly_disjoint_layer(&self, random: &mut Random, most: usize) -> Vec<i32> {
+        let words = self.layer(random, most);
+        mostly_disjoint(random, words)
     }
 
     /// A layer, disjoint half the time.
@@ -301,7 +301,7 @@ impl Scene {
         }
     }
 
-    /// A layer with the same points as this one, or nearly.
+    /// A layer with the same points as this one, or nearly: disjoint if this one is.
     pub fn kin(&self, random: &mut Random, words: &[i32]) -> Vec<i32> {
         let layer = reference::read_layer(words);
         let mut kin = match random.below(6) {
@@ -309,14 +309,14 @@ impl Scene {
             1 => reference::deoverlapped(&layer),
             // A cut by another layer, and put together again.
             2..=4 => {
-                let other = reference::read_layer(&self.layer(random, 4));
+                let other = reference::read_layer(&self.disjoint_layer(random, 4));
                 let mut all = reference::result(1, &layer, &other);
                 all.extend(reference::result(2, &layer, &other));
                 all
             }
             // A and B - A.
             _ => {
-                let other = reference::read_layer(&self.layer(random, 2));
+                let other = reference::read_layer(&self.disjoint_layer(random, 2));
                 reference::result(0, &layer, &other)
             }
         };
@@ -329,6 +329,22 @@ impl Scene {
         }
         kin.truncate(512);
         reference::layer_words(&kin)
+    }
+}
+
+/// The layer without overlaps, as far as the 512th trapezoid.
+pub fn disjoint(words: &[i32]) -> Vec<i32> {
+    let mut layer = reference::deoverlapped(&reference::read_layer(words));
+    layer.truncate(512);
+    reference::layer_words(&layer)
+}
+
+/// The layer for a call that refuses overlaps: without them, or one time in 12 as it is.
+pub fn mostly_disjoint(random: &mut Random, words: Vec<i32>) -> Vec<i32> {
+    if random.once_in(12) {
+        words
+    } else {
+        disjoint(&words)
     }
 }
 
@@ -356,6 +372,14 @@ fn fan(random: &mut Random) -> Vec<Line> {
         if lines.iter().all(on_grid) {
             return lines;
         }
+    }
+}
+
+/// Puts one trapezoid of a layer at its end once more, if it has any: they overlap.
+pub fn repeat_one(random: &mut Random, layer: &mut Vec<i32>) {
+    if layer.len() >= WORDS {
+        let again = WORDS * random.below(layer.len() / WORDS);
+        layer.extend_from_within(again..again + WORDS);
     }
 }
 

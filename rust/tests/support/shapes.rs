@@ -67,16 +67,17 @@ pub fn chequers(columns: i32, rows: i32) -> Vec<i32> {
     words
 }
 
-/// Triangles with one tip, which is no grid point: where two lines cross.
+/// Triangles with one tip, which is no grid point: where two lines cross. Then what is above them, in two.
 pub fn fans() -> Vec<i32> {
     let line = |words: [i32; 4]| Line::new(&words);
     // They cross at (4/3, 4/3).
     let (low, high) = (line([0, 0, 4, 4]), line([0, 2, 4, 0]));
     let to_the_right = six_lines([low, high], mark(4), high, low);
     let to_the_left = six_lines(mark(0), [high, low], low, high);
-    // Its bottom goes through the same point.
-    let above = six_lines(mark(1), mark(2), line([1, 1, 2, 2]), line([0, 9, 1, 9]));
-    [to_the_right, to_the_left, above].concat()
+    // Their bottoms go through the same point.
+    let above_the_right = six_lines([high, low], mark(4), low, level(9));
+    let above_the_left = six_lines(mark(0), [low, high], high, level(9));
+    [to_the_right, to_the_left, above_the_right, above_the_left].concat()
 }
 
 /// The layer with its trapezoids in another order: `order` numbers the old ones.

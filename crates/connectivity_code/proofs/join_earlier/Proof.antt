@@ -11,7 +11,8 @@ use Rattle.geometry.specs.Trapezoids.{trapezoidCodec, layerOf}
 use Rattle.connectivity.specs.Touching.{touches}
 use Rattle.connectivity.specs.Components.{touchingAt}
 use Rattle.trapezoids_code.proofs.Placed.{placed-own}
-use Rattle.connectivity_code.specs.Code.{NextNear}
+use Rattle.boxes.specs.Boxes.{boxesApart}
+use Rattle.boxes_code.specs.Code.{NextBox}
 use Rattle.connectivity_code.proofs.Layers.{touching-record, apart-record}
 use Rattle.connectivity_code.proofs.Loops.{Earlier, earlier-start, earlier-turn, earlier-agree, earlier-skip, earlier-stop}
 use Rattle.connectivity_code.proofs.join_earlier.Statement.{statement}
@@ -28,13 +29,13 @@ module _ (c : tie.Start Inv-loop μ-loop) where
   Before d₀ d j = Earlier (touchingAt (layerOf (c .args .layer .now))) (c .args .i) d₀ d j
 
   -- those whose boxes are apart are passed over
-  passed : {d₀ d : List ℕ} {j r : ℕ} → Before d₀ d j → NextNear (c .args .e) (c .args .boxes .now) j (c .args .i) r → Before d₀ d r
+  passed : {d₀ d : List ℕ} {j r : ℕ} → Before d₀ d j → NextBox boxesApart (c .args .e) (c .args .boxes .now) j (c .args .i) r → Before d₀ d r
   passed inv n =
       let s = c .args in
       let h = c .pre in
       let m = n .skipped in
       earlier-skip (touchingAt (layerOf (s .layer .now))) inv (m .from) (m .upto)
-      (λ k u v. apart-record (s .layer .now) (s .boxes .now) (s .i) k (h .0 .0 .fit) (h .1 .0) (omega (arith, v, m .upto)) (h .1 .2) (h .0 .1) (m .apart k u v))
+      (λ k u v. apart-record (s .layer .now) (s .boxes .now) (s .i) k (h .0 .0 .fit) (h .1 .0) (omega (arith, v, m .upto)) (h .1 .2) (h .0 .1) (m .passed k u v))
 
 next-near-requires : tie.Need-next-near-requires Inv-loop μ-loop
 next-near-requires c κs =

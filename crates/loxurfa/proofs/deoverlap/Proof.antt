@@ -12,7 +12,8 @@ use Rattle.calls.specs.Rows.{plateLimit, deoverlapChecked}
 use Rattle.calls.specs.Outcomes.{zeros, roomOf}
 use Rattle.calls.proofs.Checks.{DeoverlapReady, deoverlap-ready, deoverlap-refused, layer-of, plate-carried}
 use Rattle.rows_code.proofs.Cleared.{small-refused, cleared-length, cleared-borrowed, blank-zeros, no-room-small}
-use Rattle.loxurfa.proofs.Outcomes.{deoverlap-refuses, deoverlap-no-room, deoverlap-done, small-done}
+use Rattle.searched_code.proofs.Outcomes.{small-done}
+use Rattle.loxurfa.proofs.Outcomes.{deoverlap-refuses, deoverlap-no-room, deoverlap-done}
 use Rattle.loxurfa.proofs.deoverlap.Statement.{statement}
 use Rattle.loxurfa.proofs.deoverlap.Tie as tie
 

@@ -16,7 +16,7 @@ use Rattle.marking_code.proofs.mark_bases.Tie as tie
 slice-aggregate-shapes-into : tie.Need-slice-aggregate-shapes-into
 slice-aggregate-shapes-into c =
     let at-start = c .before .before .before in
-    sym (first-length (count trapezoidCodec (at-start .args .collectors .now)) (at-start .pre .0 .0 .layer .few))
+    sym (first-length (count trapezoidCodec (at-start .args .collectors .now)) (at-start .pre .0 .0 .boxed .layer .few))
 
 slice-aggregate-shapes-into-2 : tie.Need-slice-aggregate-shapes-into-2
 slice-aggregate-shapes-into-2 c =
@@ -30,7 +30,7 @@ shapes-into-requires c κs =
     let a = at-start .args in
     let h = at-start .pre .0 .0 in
     let n = count trapezoidCodec (a .collectors .now) in
-    ((h .layer, first-length n (h .layer .few)), (length-take-le (memoryWidth * n) (a .words .now) (h .words), h .boxes))
+    (h .boxed, (first-length n (h .boxed .layer .few), length-take-le (memoryWidth * n) (a .words .now) (h .words)))
 
 -- the words of the shapes
 words-length : (o : tie.After-shapes-into) → length (o .shapes-into .last .1 .1 .0) ≡ memoryWidth * count trapezoidCodec (o .before .before .before .before .before .before .args .collectors .now)
@@ -91,8 +91,8 @@ returns c =
     let h = at-start .pre in
     let f = at-enclose-all .enclose-all in
     let s = shapes at-shapes-into in (
-      tried-is (h .0 .0 .layer) (h .0 .1) s (h .1 .0 .0) (at-start .args .room) (f .result) (f .last .1 .1 .1 .1 .1 .1 .0) (f .ensures .0) (f .ensures .1 .1 .0),
-      (tried-few (h .0 .0 .layer) (h .0 .1) s (h .1 .0 .0) (at-start .args .room) (f .result) (h .1 .1 .0 .1) (f .ensures .0), f .ensures .1 .1 .1),
+      tried-is (h .0 .0 .boxed .layer) (h .0 .1) s (h .1 .0 .0) (at-start .args .room) (f .result) (f .last .1 .1 .1 .1 .1 .1 .0) (f .ensures .0) (f .ensures .1 .1 .0),
+      (tried-few (h .0 .0 .boxed .layer) (h .0 .1) s (h .1 .0 .0) (at-start .args .room) (f .result) (h .1 .1 .0 .1) (f .ensures .0), f .ensures .1 .1 .1),
     )
 
 pub mark-bases-spec : {M : Type 1} → statement M

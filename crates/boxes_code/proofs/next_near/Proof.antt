@@ -4,13 +4,14 @@ use Prim.Native.Nat.{_-_}
 use native.Mathlib.Omega.{arith}
 use borrow.Author.Needs.{needs}
 use borrow.Author.Tests.{not-true, not-false}
-use Rattle.connectivity_code.specs.Code.{Skipped}
-use Rattle.connectivity_code.proofs.Layers.{skip-start, skip-more, skip-stop}
-use Rattle.connectivity_code.proofs.next_near.Statement.{statement}
-use Rattle.connectivity_code.proofs.next_near.Tie as tie
+use Rattle.boxes.specs.Boxes.{boxesApart}
+use Rattle.boxes_code.specs.Code.{Skipped}
+use Rattle.boxes_code.proofs.Skipping.{skip-start, skip-more, skip-stop}
+use Rattle.boxes_code.proofs.next_near.Statement.{statement}
+use Rattle.boxes_code.proofs.next_near.Tie as tie
 
 abbrev Inv-loop : tie.InvT-loop
-Inv-loop e boxes j i k₀ k = Skipped e boxes j i k
+Inv-loop e boxes j i k₀ k = Skipped boxesApart e boxes j i k
 
 abbrev μ-loop : tie.MeasureT-loop
 μ-loop e boxes j i k₀ k = i - k
@@ -24,7 +25,7 @@ boxes-apart-requires c κs = omega (arith, c .before .before .pre .1, c .loop-te
 returns : tie.Need-returns Inv-loop μ-loop
 returns c =
     let at-boxes-apart = c .before in
-    record { skipped = at-boxes-apart .before .before .loop .inv; near = λ l. sym (at-boxes-apart .boxes-apart .ensures) ∙ not-true (at-boxes-apart .boxes-apart .result) (c .if1 .taken) }
+    record { skipped = at-boxes-apart .before .before .loop .inv; found = λ l. sym (at-boxes-apart .boxes-apart .ensures) ∙ not-true (at-boxes-apart .boxes-apart .result) (c .if1 .taken) }
 
 loop-again : tie.Need-loop-again Inv-loop μ-loop
 loop-again c =

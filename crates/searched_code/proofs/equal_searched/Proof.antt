@@ -2,8 +2,8 @@ use mathlib.Core.Path.{sym, _∙_}
 use native.Mathlib.Omega.{arith}
 use borrow.Author.Needs.{needs}
 use Rattle.boxes_code.proofs.Small.{small-words}
-use Rattle.equality_code.proofs.equal_into.Statement.{statement}
-use Rattle.equality_code.proofs.equal_into.Tie as tie
+use Rattle.searched_code.proofs.equal_searched.Statement.{statement}
+use Rattle.searched_code.proofs.equal_searched.Tie as tie
 
 equal-with-requires : tie.Need-equal-with-requires
 equal-with-requires c κs =
@@ -11,7 +11,7 @@ equal-with-requires c κs =
     let at-both-small = at-if1 .before in
     let at-start = at-both-small .before in
     let h = at-start .pre in
-    let l = small-words (at-start .args .first .now) (at-start .args .second .now) (sym (at-both-small .both-small .ensures) ∙ at-if1 .if1 .taken) in
+    let l = small-words (at-start .args .a .now) (at-start .args .b .now) (sym (at-both-small .both-small .ensures) ∙ at-if1 .if1 .taken) in
     ((record { layer = h .0 .0; room = omega (arith, l .0) }, record { layer = h .0 .1; room = omega (arith, l .1) }), h .1)
 
 equal-with-requires-2 : tie.Need-equal-with-requires-2
@@ -20,8 +20,8 @@ equal-with-requires-2 c κs =
     let h = at-start .pre in
     ((record { layer = h .0 .0; room = omega (arith, h .0 .0 .few) }, record { layer = h .0 .1; room = omega (arith, h .0 .1 .few) }), h .1)
 
-pub equal-into-spec : {M : Type 1} → statement M
-equal-into-spec =
+pub equal-searched-spec : {M : Type 1} → statement M
+equal-searched-spec =
     tie.close
     (tie.spec
     (λ c κs. search needs)
