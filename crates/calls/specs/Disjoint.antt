@@ -30,19 +30,19 @@ abbrev pub FirstOfThree : List Trapezoid → List Trapezoid → List Trapezoid �
 FirstOfThree C B E k = FirstOfBoth C B k ⊎ (Disjoint C × Disjoint B × OverlapAt (length C + length B) E k)
 
 -- layers that rows 7 to 11 let pass: row 13 lets them pass exactly if they are disjoint, and refuses them exactly with 13 at that place
-pub record BothRefused (a b : List ℤ) : Type 0 where
+pub record BothSearched (a b : List ℤ) : Type 0 where
   pub passed : (bothDisjoint a b ≡ Passed) ↔ (Disjoint (layerOf a) × Disjoint (layerOf b))
   pub refused : (n k : ℕ) → (bothDisjoint a b ≡ Refused n k) ↔ ((n ≡ 13) × FirstOfBoth (layerOf a) (layerOf b) k)
 
 abbrev pub BothDisjointExact : Type 0
-BothDisjointExact = (L : ℕ) (a b : List ℤ) → bothChecked L a b ≡ Passed → BothRefused a b
+BothDisjointExact = (L : ℕ) (a b : List ℤ) → bothChecked L a b ≡ Passed → BothSearched a b
 
-pub record ThreeRefused (c b e : List ℤ) : Type 0 where
+pub record ThreeSearched (c b e : List ℤ) : Type 0 where
   pub passed : (threeDisjoint c b e ≡ Passed) ↔ (Disjoint (layerOf c) × Disjoint (layerOf b) × Disjoint (layerOf e))
   pub refused : (n k : ℕ) → (threeDisjoint c b e ≡ Refused n k) ↔ ((n ≡ 13) × FirstOfThree (layerOf c) (layerOf b) (layerOf e) k)
 
 abbrev pub ThreeDisjointExact : Type 0
-ThreeDisjointExact = (L : ℕ) (c b e : List ℤ) → threeChecked L c b e ≡ Passed → ThreeRefused c b e
+ThreeDisjointExact = (L : ℕ) (c b e : List ℤ) → threeChecked L c b e ≡ Passed → ThreeSearched c b e
 
 -- ---- "a call lent an overlapping one is refused": whoever succeeds was lent disjoint layers
 pub record LentDisjoint : Type 0 where

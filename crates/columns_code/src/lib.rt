@@ -189,7 +189,7 @@ fn exchange(o: Orders, c: Column, i: usize, j: usize) -> Column
 }
 
 // Whether a position is in the range of a trapezoid.
-fn in_range(a: Placed, at: Position) -> bool
+pub fn in_range(a: Placed, at: Position) -> bool
     requires { ⌜ PlacedAs (a .shape) a × SmallPosition at ⌝ }
     ensures { λ r. ⌜ r ≡ inRange (fractionOf at) (a .shape) ⌝ }
 {

@@ -1,4 +1,4 @@
--- The definitions compute: the paper's cases (a) and (e), ties of events and of sides in both orders of A and B, a tip on a side, 15 parts, parts of B only.
+-- The definitions compute: the paper's cases (a) and (e), ties of events and of sides in both orders of A and B, a tip on a side, 15 parts, parts of B only, and the first overlap of a layer.
 use mathlib.Core.Path.{_≡_, refl}
 use mathlib.Core.List.{List, [], _∷_}
 use Prim.Native.Nat.{ℕ, suc}
@@ -11,12 +11,13 @@ use Rattle.levels.specs.Levels.{insert, levels}
 use Rattle.geometry.specs.declared.Line.{Line}
 use Rattle.geometry.specs.declared.Base.{Base}
 use Rattle.geometry.specs.declared.Trapezoid.{Trapezoid}
+use Rattle.geometry.specs.declared.Checked.the-variants.{Passed, Refused}
 use Rattle.geometry.specs.Lines.{dx, dy, offset, det, numer}
 use Rattle.geometry.specs.Positions.{crosses, ratio, meet, heights, rightOf, below}
 use Rattle.geometry.specs.Ranges.{crossing, commonLeft, commonRight}
 use Rattle.sweep.specs.Segments.{spans}
 use Rattle.sweep.specs.Sweep.{columns, sweep}
-use Rattle.overlay.specs.Overlaps.{crossesInCommon, overlapRight, overlapFrom, overlaps}
+use Rattle.overlay.specs.Overlaps.{crossesInCommon, overlapRight, overlapFrom, overlaps, overlapPast, firstOverlap}
 use Rattle.overlay.specs.Overlay.{Part, sides, sideCrossings, overlayEvents, fills, tagAbove, stack, parts, subdivision, overlay, tagged}
 
 abbrev line : ℕ → ℕ → ℕ → ℕ → Line
@@ -246,3 +247,13 @@ seconds : SecondOfBoxes × SecondBeside × SecondAbove × SecondAround × Second
 unfolding _⊕_ _⊖_ _⊗_ ⊝_ orderOf before insert levels dx dy offset det numer crosses ratio meet heights rightOf below keep spans columns sweep
     commonLeft commonRight crossesInCommon overlapRight overlapFrom overlaps sides sideCrossings overlayEvents fills tagAbove stack parts subdivision overlay tagged
 seconds = (refl, refl, refl, refl, refl, refl, refl, refl, refl)
+
+-- row 13, "taken by its later piece and then its earlier", places numbered on from 5: the pairs are 1 with 2 and 0 with 3; squares side by side pass
+abbrev Searched : Type 0
+Searched =
+    (firstOverlap 5 (box 0 0 4 4 ∷ box 4 0 8 4 ∷ box 6 2 9 3 ∷ box 2 2 4 6 ∷ []) ≡ Refused 13 7)
+    × (firstOverlap 5 (box 0 0 4 4 ∷ box 4 0 8 4 ∷ box 0 4 8 8 ∷ []) ≡ Passed)
+
+searched : Searched
+unfolding _⊕_ _⊖_ _⊗_ ⊝_ orderOf before dx dy offset det numer crosses ratio meet heights rightOf below commonLeft commonRight crossesInCommon overlapRight overlapFrom overlaps overlapPast
+searched = (refl, refl)

@@ -47,7 +47,9 @@ use Rattle.columns_code.specs.Order.{sideNumbers, HasSides, strips, orderAt}
 use Rattle.columns_code.specs.Code.{ColumnAt, FourSides}
 use Rattle.columns_code.proofs.NumberOrder.{order-members}
 use Rattle.columns_code.proofs.Network.{network-exact}
+use Rattle.overlay_code.specs.Code.{outsideFor}
 use Rattle.overlay_code.proofs.Strips.{strips-exact}
+use Rattle.overlay_code.proofs.Ranges.{strips-outside}
 
 tagged-append : (n : ℕ) (ss ts : List Part) → tagged n (ss ++ ts) ≡ tagged n ss ++ tagged n ts
 unfolding tagged
@@ -173,6 +175,31 @@ module _ {A B : Trapezoid} (ha : FitFor coordinateLimit A) (hb : FitFor coordina
     (h : Filling A B tag W room out p c n) where
   pub fill-stop : rest A B (p .base) ≡ [] → FilledAs W room (tagged tag (subdivision A B)) (Written n) out
   fill-stop e = write-stop (h .writing) (ap (tagged tag) e ∙ (unfold tagged in refl))
+
+  -- a column outside a range is passed over
+  pub fill-skip : outsideFor tag (inRange (fractionOf (p .at)) A) (inRange (fractionOf (p .at)) B) ≡ true → (q : Base) → rest A B (p .base) ≡ parts A B (p .base) q (divide A B (p .base)) ++ rest A B q
+      → {at : Position} → PositionOf q at → Proper (position q) → Filling A B tag W room out (record { base = q; at = at }) c n
+  fill-skip e q turn ev pr =
+      record {
+        writing = subst (λ (ts : List Trapezoid). Writing W room (tagged tag (subdivision A B)) ts out n) same (h .writing);
+        event = ev;
+        proper = pr;
+        four = h .four;
+      }
+    where
+      x : Fraction
+      x = position (p .base)
+
+      none : tagged tag (parts A B (p .base) q (divide A B (p .base))) ≡ []
+      none =
+          sym (strips-exact ha hb (p .base) q (h .proper) tag ht (inRange x A) (inRange x B) refl refl)
+          ∙ strips-outside tag A B (p .base) q ht (inRange x A) (inRange x B) (orderAt A B x (inRange x A) (inRange x B)) (subst (λ (y : Fraction). outsideFor tag (inRange y A) (inRange y B) ≡ true) (h .event .is) e)
+
+      same : tagged tag (rest A B (p .base)) ≡ tagged tag (rest A B q)
+      same =
+          ap (tagged tag) turn
+          ∙ tagged-append tag (parts A B (p .base) q (divide A B (p .base))) (rest A B q)
+          ∙ ap (λ (ts : List Trapezoid). ts ++ tagged tag (rest A B q)) none
 
   -- what a turn adds, with the column d right of p
   abbrev more : Column → Base → List Trapezoid

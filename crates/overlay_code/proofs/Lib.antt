@@ -1,3 +1,4 @@
 pub mod Strips
+pub mod Ranges
 pub mod Stacking
 pub mod Filling

@@ -2,6 +2,7 @@
 use geometry::Base;
 use geometry::Fill;
 use geometry::Placed;
+use geometry::Position;
 use geometry::Trapezoid;
 use overlay::Column;
 use overlay::Orders;
@@ -11,12 +12,14 @@ ghost use Prim.Native.Nat.{_≤_};
 ghost use lib.Dec.{eqb};
 ghost use lib.ListN.{length};
 ghost use Rattle.geometry.specs.Positions.{position};
-ghost use Rattle.overlay.specs.Overlay.{tagOf, subdivision, overlay, tagged};
+ghost use Rattle.overlay.specs.Overlay.{tagOf, inRange, subdivision, overlay, tagged};
+ghost use Rattle.geometry_code.specs.Code.{fractionOf, SmallPosition};
 ghost use Rattle.overlay.specs.Overlaps.{overlaps};
 ghost use Rattle.trapezoids_code.specs.Tails.{Borrowed, FilledAs};
 ghost use Rattle.trapezoids_code.specs.Placed.{Pair};
 ghost use Rattle.columns_code.specs.Order.{passing, strips};
 ghost use Rattle.columns_code.specs.Code.{OrdersAt};
+ghost use Rattle.overlay_code.specs.Code.{outsideFor};
 
 // Whether what is above side z lies in the trapezoid with the sides `bottom` and `top`, from whether what is below it does.
 fn pass(bottom: usize, top: usize, z: usize, inside: bool) -> bool
@@ -124,6 +127,24 @@ fn fill_column(
     Fill::Written(n)
 }
 
+// Whether the column right of a position has no part with the tag since it lies outside a range: what lies in the first only, or in both, lies
+// in the range of the first, and what lies in both in that of the second.
+fn outside(a: Placed, b: Placed, tag: u8, at: Position) -> bool
+    requires { ⌜ Pair a b × SmallPosition at ⌝ }
+    ensures { λ r. ⌜ r ≡ outsideFor tag (inRange (fractionOf at) (a .shape)) (inRange (fractionOf at) (b .shape)) ⌝ }
+{
+    if tag == 2 {
+        return false;
+    }
+    if columns_code::in_range(a, at) {
+        if tag == 3 {
+            return !columns_code::in_range(b, at);
+        }
+        return false;
+    }
+    true
+}
+
 // The trapezoids of all columns that have the tag, from left to right.
 fn fill_columns(a: Placed, b: Placed, tag: u8, out: &mut [i32], room: usize) -> Fill
     requires { ⌜ Pair a b × (1 ≤ tag) × Borrowed (now out) room ⌝ }
@@ -150,6 +171,10 @@ fn fill_columns(a: Placed, b: Placed, tag: u8, out: &mut [i32], room: usize) -> 
             return Fill::Written(n);
         }
         let q = v.list[j];
+        if outside(a, b, tag, p.at) {
+            p = q;
+            continue;
+        }
         let o = columns_code::orders_at(m, p.at);
         c = columns_code::column_at(a, b, o, p.at, c);
         let f = fill_column(

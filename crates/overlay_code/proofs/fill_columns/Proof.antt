@@ -1,5 +1,5 @@
 -- Before each turn: `out` holds n trapezoids with the tag, all but those right of the event p; c has the four sides in the order of the column before p.
-use mathlib.Core.Path.{_≡_, _∙_, subst}
+use mathlib.Core.Path.{_≡_, sym, _∙_, subst}
 use Prim.Native.Nat.{_*_, _-_}
 use native.Mathlib.Omega.{arith}
 use lib.ListN.{length}
@@ -12,7 +12,7 @@ use Rattle.records.proofs.Buffer.{blank-of}
 use Rattle.trapezoids_code.proofs.Writing.{write-borrowed}
 use Rattle.columns_code.specs.Code.{OrdersAt}
 use Rattle.columns_code.proofs.SideOrder.{small-meetings, orders-exact}
-use Rattle.overlay_code.proofs.Filling.{left, first-four, column-four, stand, found-event, found-proper, no-event, first-event, last-event, later-event, fewer, Filling, fill-none, fill-start, fill-stop, fill-full, fill-upto, fill-turn}
+use Rattle.overlay_code.proofs.Filling.{left, first-four, column-four, stand, found-event, found-proper, no-event, first-event, last-event, later-event, fewer, Filling, fill-none, fill-start, fill-stop, fill-skip, fill-full, fill-upto, fill-turn}
 use Rattle.overlay_code.proofs.fill_columns.Statement.{statement}
 use Rattle.overlay_code.proofs.fill_columns.Tie as tie
 
@@ -104,15 +104,60 @@ mul-q c = omega (arith, c .before .next-event2 .ensures .upto)
 element-copy-out-q : tie.Need-element-copy-out-q Inv-loop μ-loop
 element-copy-out-q c = omega (arith, c .before .next-event2 .ensures .upto, c .if2 .left)
 
+outside-requires : tie.Need-outside-requires Inv-loop μ-loop
+outside-requires c κs =
+    let at-loop = c .before .before .before in
+    let at-start = at-loop .before .before .before .before .before .before .before in
+    (at-start .pre .0, at-loop .loop .inv .event .small)
+
+-- the column is passed over
+loop-less : tie.Need-loop-less Inv-loop μ-loop
+loop-less c =
+    let at-outside = c .before in
+    let at-if2 = at-outside .before .before in
+    let at-next-event2 = at-if2 .before in
+    let at-loop = at-next-event2 .before in
+    let at-positions-of = at-loop .before .before .before .before .before in
+    let at-events-of = at-positions-of .before in
+    let at-start = at-events-of .before in
+    let ha = at-start .pre .0 .first .fit in
+    let hb = at-start .pre .0 .second .fit in
+    let all = at-events-of .events-of .ensures in
+    let h = at-loop .loop .inv in
+    let ps = at-positions-of .positions-of .ensures in
+    let r = at-next-event2 .next-event2 .ensures in
+    let u = at-if2 .if2 .left in
+    fewer ha hb (all .well) (all .names) ps (h .event) (h .proper) r u _
+
+loop-again : tie.Need-loop-again Inv-loop μ-loop
+loop-again c =
+    let at-outside = c .before in
+    let at-if2 = at-outside .before .before in
+    let at-next-event2 = at-if2 .before in
+    let at-loop = at-next-event2 .before in
+    let at-positions-of = at-loop .before .before .before .before .before in
+    let at-events-of = at-positions-of .before in
+    let at-start = at-events-of .before in
+    let ha = at-start .pre .0 .first .fit in
+    let hb = at-start .pre .0 .second .fit in
+    let all = at-events-of .events-of .ensures in
+    let h = at-loop .loop .inv in
+    let ps = at-positions-of .positions-of .ensures in
+    let r = at-next-event2 .next-event2 .ensures in
+    let u = at-if2 .if2 .left in
+    fill-skip ha hb (at-start .pre .1) h (sym (at-outside .outside .ensures) ∙ c .if3 .taken) _ (later-event ha hb (all .well) (all .names) ps (h .event) (h .proper) r u _)
+    (found-event ha hb (all .well) (all .names) ps (h .event) r u _)
+    (found-proper ha hb (all .well) (all .names) ps (h .event) r u _)
+
 orders-at-requires : tie.Need-orders-at-requires Inv-loop μ-loop
 orders-at-requires c κs =
-    let at-loop = c .before .before .before in
+    let at-loop = c .before .before .before .before .before in
     let at-meetings-of = at-loop .before in
     (small-meetings (at-meetings-of .meetings-of .ensures), at-loop .loop .inv .event .small)
 
 column-at-requires : tie.Need-column-at-requires Inv-loop μ-loop
 column-at-requires c κs =
-    let at-loop = c .before .before .before .before in
+    let at-loop = c .before .before .before .before .before .before in
     let at-meetings-of = at-loop .before in
     let at-start = at-meetings-of .before .before .before .before .before .before in
     let h = at-loop .loop .inv in
@@ -120,38 +165,38 @@ column-at-requires c κs =
 
 mul-fill-column : tie.Need-mul-fill-column Inv-loop μ-loop
 mul-fill-column c =
-    let at-loop = c .before .before .before .before .before in
+    let at-loop = c .before .before .before .before .before .before .before in
     let at-start = at-loop .before .before .before .before .before .before .before in
     let h = at-loop .loop .inv in
     omega (arith, h .writing .long, h .writing .wide, h .writing .upto, at-start .good .1 .1 .1 .0)
 
 mul-fill-column-2 : tie.Need-mul-fill-column-2 Inv-loop μ-loop
 mul-fill-column-2 c =
-    let at-loop = c .before .before .before .before .before in
+    let at-loop = c .before .before .before .before .before .before .before in
     let at-start = at-loop .before .before .before .before .before .before .before in
     let h = at-loop .loop .inv in
     omega (arith, h .writing .long, h .writing .wide, h .writing .upto, at-start .good .1 .1 .1 .0)
 
 sub-fill-column : tie.Need-sub-fill-column Inv-loop μ-loop
 sub-fill-column c =
-    let at-loop = c .before .before .before .before .before in
+    let at-loop = c .before .before .before .before .before .before .before in
     let h = at-loop .loop .inv in omega (arith, h .writing .long, h .writing .wide, h .writing .upto)
 
 part-fill-column-end : tie.Need-part-fill-column-end Inv-loop μ-loop
 part-fill-column-end c =
-    let at-loop = c .before .before .before .before .before in
+    let at-loop = c .before .before .before .before .before .before .before in
     let h = at-loop .loop .inv in omega (arith, h .writing .long, h .writing .wide, h .writing .upto)
 
 sub-fill-column-2 : tie.Need-sub-fill-column-2 Inv-loop μ-loop
 sub-fill-column-2 c =
-    let at-loop = c .before .before .before .before .before .before in
+    let at-loop = c .before .before .before .before .before .before .before .before in
     at-loop .loop .inv .writing .upto
 
 fill-column-requires : tie.Need-fill-column-requires Inv-loop μ-loop
 fill-column-requires c κs =
     let at-column-at = c .before in
     let at-orders-at = at-column-at .before in
-    let at-loop = at-orders-at .before .before .before .before in
+    let at-loop = at-orders-at .before .before .before .before .before .before in
     let at-meetings-of = at-loop .before in
     let at-start = at-meetings-of .before .before .before .before .before .before in
     let s = at-start .args in
@@ -169,7 +214,7 @@ same-length-2 : tie.Need-same-length-2 Inv-loop μ-loop
 same-length-2 c =
     let at-clear = c .before in
     let at-fill-column = at-clear .before .before .before .before .before in
-    let at-loop = at-fill-column .before .before .before .before .before .before .before in
+    let at-loop = at-fill-column .before .before .before .before .before .before .before .before .before in
     let l = at-loop .loop in
     let f = at-fill-column .fill-column in
     at-clear .clear .kept .0 ∙ same-len-mid (memoryWidth * l .n) (length (l .out) - memoryWidth * l .n) (l .out) (f .last .1 .1 .1 .1 .1 .1 .1 .0) (f .kept .1 .1 .1 .1 .1 .1 .1 .0) ∙ l .inv .writing .long
@@ -180,7 +225,7 @@ returns-3 c =
     let at-enum-told = at-clear .before .before in
     let at-fill-column = at-enum-told .before .before .before in
     let at-column-at = at-fill-column .before .before in
-    let at-if2 = at-column-at .before .before .before in
+    let at-if2 = at-column-at .before .before .before .before .before in
     let at-next-event2 = at-if2 .before in
     let at-loop = at-next-event2 .before in
     let at-positions-of = at-loop .before .before .before .before .before in
@@ -202,7 +247,7 @@ add-n c =
     let at-f = c .before in
     let at-fill-column = at-f .before .before .before in
     let at-column-at = at-fill-column .before .before in
-    let at-if2 = at-column-at .before .before .before in
+    let at-if2 = at-column-at .before .before .before .before .before in
     let at-next-event2 = at-if2 .before in
     let at-loop = at-next-event2 .before in
     let at-positions-of = at-loop .before .before .before .before .before in
@@ -217,9 +262,9 @@ add-n c =
     let u = fill-upto ha hb (at-start .pre .1) h _ (at-column-at .column-at .ensures) _ turn _ _ (at-fill-column .fill-column .ensures) _ (at-f .f .given .1) in
     omega (arith, u, h .writing .wide, at-start .good .1 .1 .1 .0)
 
-loop-less : tie.Need-loop-less Inv-loop μ-loop
-loop-less c =
-    let at-if2 = c .before .before .before .before .before .before .before .before .before in
+loop-less-2 : tie.Need-loop-less-2 Inv-loop μ-loop
+loop-less-2 c =
+    let at-if2 = c .before .before .before .before .before .before .before .before .before .before .before in
     let at-next-event2 = at-if2 .before in
     let at-loop = at-next-event2 .before in
     let at-positions-of = at-loop .before .before .before .before .before in
@@ -232,12 +277,12 @@ loop-less c =
     let h = l .inv in
     fewer ha hb (all .well) (all .names) (at-positions-of .positions-of .ensures) (h .event) (h .proper) (at-next-event2 .next-event2 .ensures) (at-if2 .if2 .left) _
 
-loop-again : tie.Need-loop-again Inv-loop μ-loop
-loop-again c =
+loop-again-2 : tie.Need-loop-again-2 Inv-loop μ-loop
+loop-again-2 c =
     let at-f = c .before in
     let at-fill-column = at-f .before .before .before in
     let at-column-at = at-fill-column .before .before in
-    let at-if2 = at-column-at .before .before .before in
+    let at-if2 = at-column-at .before .before .before .before .before in
     let at-next-event2 = at-if2 .before in
     let at-loop = at-next-event2 .before in
     let at-positions-of = at-loop .before .before .before .before .before in
@@ -275,6 +320,9 @@ fill-columns-spec =
     returns-2
     mul-q
     element-copy-out-q
+    outside-requires
+    loop-less
+    loop-again
     orders-at-requires
     column-at-requires
     mul-fill-column
@@ -290,5 +338,5 @@ fill-columns-spec =
     same-length-2
     returns-3
     add-n
-    loop-less
-    loop-again)
+    loop-less-2
+    loop-again-2)

@@ -1,0 +1,2 @@
+-- Which columns are passed over.
+pub mod Code
