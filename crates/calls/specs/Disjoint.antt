@@ -1,5 +1,5 @@
 -- Row 13 of the calls that have it (paper 02, request (vi)), for words of any number and content and under any coordinate limit L. Each statement is proved under its name in
--- lower case in proofs/Disjoint.antt.
+-- lower case in proofs/Disjoint.antt, and `DisjointTaken` in proofs/Numbers.antt.
 use mathlib.Core.Path.{_≡_}
 use mathlib.Core.Bool.{not}
 use mathlib.Core.List.{List}

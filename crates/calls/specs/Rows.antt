@@ -54,7 +54,7 @@ pointPasses L P = (leZ (pos 1) (P .D) && leZ (P .D) (pos maxDenominator)) && (wi
 abbrev pub bothChecked : ℕ → List ℤ → List ℤ → Checked
 bothChecked L a b = firstRefusal L 0 (layerOf a ++ layerOf b)
 
--- row 13: "checked after 11 and before 12, A before B", numbered on from A. Where a call has it, crates/calls/specs/Outcomes.antt puts it below the call's other rows.
+-- row 13: "checked after 11 and before 12, A before B", numbered on from A. A call that has it puts it below its other rows, in its outcome.
 abbrev pub bothDisjoint : List ℤ → List ℤ → Checked
 bothDisjoint a b = andThen (firstOverlap 0 (layerOf a)) (firstOverlap (length (layerOf a)) (layerOf b))
 

@@ -63,7 +63,7 @@ module _ (code : ℕ) (a b out scratch : List ℤ) where
         written-done (roomOf out) (result (codeAt code) (layerOf a) (layerOf b)) (stages (codeAt code) (layerOf a) (layerOf b)) f (length out) m d s h l z g
         ∙ combine-written e
 
--- ---- sameness
+-- ---- the equality test
 differs-on : (ts us : List Trapezoid) (operand c : ℕ) → OperandOf ts us operand → differs operand c ≡ compared ts us c
 differs-on [] [] operand c h = absurd (omega (arith, h .0))
 differs-on [] (u ∷ us) operand c h = ap (λ (i : ℕ). differs i c) (h .1)
