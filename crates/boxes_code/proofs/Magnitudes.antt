@@ -20,7 +20,7 @@ use Rattle.boxes_code.specs.Code.{Sizes}
 
 -- a line's three numbers
 pub sizes : {l : Line} {k : Coefficients} → IsLine l → CoefficientsOf l k → Sizes k
-sizes h e = record { rightward = rw (e .dx) (dx-positive h); dy-small = omega (arith, e .dy-small); offset-small = omega (arith, e .offset-small) }
+sizes h e = record { rightward = rw (e .dx) (dx-positive h); dy-small = omega (arith, e .small .dy-small); offset-small = omega (arith, e .small .offset-small) }
 
 -- a position that `within` let pass
 pub near-by : (x : ℤ) {r : Bool} → r ≡ onGrid near x → r ≡ true → natAbs x ≤ near

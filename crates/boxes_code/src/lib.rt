@@ -8,7 +8,7 @@ use integer::Int;
 ghost use mathlib.Core.Path.{_≡_};
 ghost use Prim.Native.Nat.{_+_, _*_, _<_, _≤_};
 ghost use lib.IntN.{pos, natAbs};
-ghost use lib.ListN.{length, getD, set};
+ghost use lib.ListN.{length};
 ghost use lib.Seq.{sets};
 ghost use lib.Signed.{quotZ, _<ℤ_};
 ghost use Rattle.lists.specs.Lists.{All};
@@ -134,32 +134,15 @@ pub fn box_of(a: Placed) -> Box
     }
 }
 
-// Word number i of a slice of boxes.
-fn get(boxes: &[i64], i: usize) -> Int
-    requires { ⌜ i < length (now boxes) ⌝ }
-    ensures { λ r. ⌜ r .v ≡ getD (now (boxes .entry)) i (pos 0) ⌝ }
-{
-    let x = boxes[i];
-    integer_code::of(x)
-}
-
-fn put(boxes: &mut [i64], i: usize, a: Int)
-    requires { ⌜ i < length (now boxes) ⌝ }
-    ensures { λ _. ⌜ now (boxes .exit) ≡ set (now (boxes .entry)) i (a .v) ⌝ }
-{
-    let x = a.v;
-    boxes[i] = x;
-}
-
 fn set_box(boxes: &mut [i64], i: usize, e: Box)
     requires { ⌜ boxWidth * i + boxWidth ≤ length (now boxes) ⌝ }
     ensures { λ _. ⌜ now (boxes .exit) ≡ sets (now (boxes .entry)) (boxWidth * i) (boxWords e) ⌝ }
 {
     let at = WIDTH * i;
-    put(boxes, at, e.left);
-    put(boxes, at + 1, e.right);
-    put(boxes, at + 2, e.bottom);
-    put(boxes, at + 3, e.top);
+    integer_code::put_number(boxes, at, e.left);
+    integer_code::put_number(boxes, at + 1, e.right);
+    integer_code::put_number(boxes, at + 2, e.bottom);
+    integer_code::put_number(boxes, at + 3, e.top);
 }
 
 // Box number i.
@@ -168,10 +151,10 @@ pub fn load_box(boxes: &[i64], i: usize) -> Box
     ensures { λ r. ⌜ r ≡ boxAt (now (boxes .entry)) i ⌝ }
 {
     let at = WIDTH * i;
-    let left = get(boxes, at);
-    let right = get(boxes, at + 1);
-    let bottom = get(boxes, at + 2);
-    let top = get(boxes, at + 3);
+    let left = integer_code::get_number(boxes, at);
+    let right = integer_code::get_number(boxes, at + 1);
+    let bottom = integer_code::get_number(boxes, at + 2);
+    let top = integer_code::get_number(boxes, at + 3);
     Box {
         left,
         right,

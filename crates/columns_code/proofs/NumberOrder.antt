@@ -15,8 +15,7 @@ use Rattle.lists.proofs.Members.{all-member, members}
 use Rattle.integer.specs.declared.Ordering.{Ordering}
 use Rattle.integer.specs.declared.Ordering.the-variants.{Less, Equal, Greater}
 use Rattle.integer.specs.Fraction.{Fraction, Proper, before, mediant}
-use Rattle.integer.proofs.Linear.{zarith, neg-gt, neg-zero}
-use Rattle.integer.proofs.Tests.{says-order}
+use Rattle.integer.proofs.Linear.{zarith}
 use Rattle.integer.proofs.Fraction.{at-most-before-trans, mediant-proper, mediant-after, mediant-before}
 use Rattle.levels.specs.Levels.{AtMost, Level, StrictWeakOrder, Rising, FirstOfLevel}
 use Rattle.levels.proofs.Order.{level-refl}
@@ -27,8 +26,7 @@ use Rattle.geometry.specs.declared.Trapezoid.{Trapezoid}
 use Rattle.geometry.specs.Lines.{IsLine, det}
 use Rattle.geometry.specs.Positions.{gap, position, rightOf, isLess, below}
 use Rattle.geometry.specs.Fitness.{FitFor, BelowBetween}
-use Rattle.geometry.proofs.Identities.{gap-turn, det-turn}
-use Rattle.geometry.proofs.Heights.{Lower, heights-gap, right-by, below→lower, below→not-below, coincide, coincide-everywhere, right-total, right-trans}
+use Rattle.geometry.proofs.Heights.{below→not-below, coincide-everywhere, right-total, right-less, right-greater, right-equal, right-trans}
 use Rattle.geometry.proofs.Between.{order-from}
 use Rattle.geometry.proofs.Fitness.{left-proper, right-proper, bottom-line, top-line}
 use Rattle.sweep.specs.Segments.{spans}
@@ -48,31 +46,6 @@ number-sides = members sideNumbers
 
 pub has-side : (ys : List ℕ) → HasSides ys → (i : ℕ) → i < 4 → Member i ys
 has-side ys h i b = all-member (λ (k : ℕ). Member k ys) i sideNumbers h (below-four i b)
-
--- ---- `rightOf` by `below`, one way round and the other
-module _ (p : Fraction) (l m : Line) where
-  pub right-less : T (below p l m) → rightOf p l m ≡ Less
-  unfolding below
-  right-less h = go (rightOf p l m) h
-    where
-      go : (o : Ordering) → T (isLess o) → o ≡ Less
-      go Less h = refl
-      go Equal h = absurd h
-      go Greater h = absurd h
-
-  pub right-greater : T (below p m l) → rightOf p l m ≡ Greater
-  right-greater h = go (below→lower p m l h)
-    where
-      go : Lower (gap m l p) (det m l) → rightOf p l m ≡ Greater
-      go (inl g) = right-by p l m Greater (heights-gap p l m ∙ says-order Greater (gap l m p) (pos 0) (neg-gt (gap-turn m l p) g))
-      go (inr g) =
-          right-by p l m Equal (heights-gap p l m ∙ says-order Equal (gap l m p) (pos 0) (neg-zero (gap-turn m l p) (g .0)))
-          ∙ says-order Greater (det l m) (pos 0) (neg-gt (det-turn m l) (g .1))
-
-  pub right-equal : T (not (below p l m)) → T (not (below p m l)) → rightOf p l m ≡ Equal
-  right-equal h k =
-      let c = coincide p l m h k in
-      right-by p l m Equal (heights-gap p l m ∙ says-order Equal (gap l m p) (pos 0) (c .0)) ∙ says-order Equal (det l m) (pos 0) (c .1)
 
 -- ---- in the range of a trapezoid its bottom is below its top
 pub own-below : {L : ℕ} {t : Trapezoid} → FitFor L t → (x : Fraction) → Proper x → T (inRange x t) → T (below x (t .bottom) (t .top))

@@ -3,23 +3,25 @@
 use mathlib.Core.Path.{_≡_, refl, sym, _∙_, ap, ap₂, subst}
 use mathlib.Core.Bool.{Bool, true, false, cond, not}
 use mathlib.Core.List.{List, [], _∷_}
-use mathlib.Core.Logic.{inl, inr}
-use Prim.Native.Nat.{ℕ, _<_, _≤_}
+use mathlib.Core.Logic.{_⊎_, inl, inr}
+use Prim.Native.Nat.{ℕ, zero, suc, _<_, _≤_}
 use native.Mathlib.Omega.{arith}
-use lib.Dec.{eqb, ltb, T-not}
+use lib.Dec.{T, T-not, eqb, ltb}
 use lib.ListN.{length, getD, set, length-set}
 use borrow.Author.Tests.{lt-ltb, le-ltb, eq-eqb, ne-eqb, eqb-true, eqb-false}
-use Rattle.lists.proofs.Tests.{cond-cases, yes-or-no}
+use Rattle.lists.specs.Lists.{All}
+use Rattle.lists.proofs.Tests.{yes-or-no}
+use Rattle.lists.proofs.Lists.{all-at}
 use Rattle.integer.specs.declared.Ordering.{Ordering}
 use Rattle.integer.specs.declared.Ordering.the-variants.{Less, Equal, Greater}
-use Rattle.integer.specs.Fraction.{Fraction, before}
+use Rattle.integer.specs.Fraction.{Fraction, Proper, before}
 use Rattle.geometry.specs.declared.Line.{Line}
 use Rattle.geometry.specs.declared.Trapezoid.{Trapezoid}
 use Rattle.geometry.specs.Limit.{coordinateLimit}
 use Rattle.geometry.specs.Positions.{rightOf, below}
 use Rattle.geometry.specs.Fitness.{FitFor}
 use Rattle.geometry.specs.declared.Placed.{Placed}
-use Rattle.geometry.proofs.Heights.{below→not-below}
+use Rattle.geometry.proofs.Heights.{below→not-below, right-less, right-greater, right-equal}
 use Rattle.sweep.specs.Segments.{spans}
 use Rattle.overlay.specs.declared.Column.{Column}
 use Rattle.overlay.specs.declared.Meetings.{Meetings}
@@ -28,11 +30,12 @@ use Rattle.overlay.specs.Overlay.{tagOf, inRange}
 use Rattle.geometry_code.specs.Code.{fractionOf}
 use Rattle.geometry_code.proofs.Branches.{right-meeting}
 use Rattle.trapezoids_code.specs.Placed.{PlacedAs}
+use Rattle.overlaps_code.specs.Code.{MeetingsOf}
 use Rattle.columns_code.specs.Order.{HasSides, lineOfSide, presentBy, lessBy, reverse, numberLess, orderAt, passing}
-use Rattle.columns_code.specs.Code.{MeetingsOf, SmallMeetings, OrdersBy, OrdersAt, ColumnAt, FourSides, exchanged, Exchanged}
-use Rattle.columns_code.proofs.NumberOrder.{right-less, right-greater, right-equal}
+use Rattle.columns_code.specs.Code.{SmallMeetings, OrdersBy, OrdersAt, ColumnAt, FourNumbers, FourSides, exchanged, Exchanged}
+use Rattle.columns_code.proofs.NumberOrder.{own-below}
 use Rattle.columns_code.proofs.Exchanges.{Four, fourList, exchange01, exchange23, exchange02, exchange13, exchange12, sort01, sort23, sort02, sort13, sort12, network}
-use Rattle.columns_code.proofs.Network.{network-exact}
+use Rattle.columns_code.proofs.Network.{four-below, network-exact}
 
 -- ---- a side by its number
 module _ (A B : Trapezoid) (i : ℕ) where
@@ -57,18 +60,24 @@ module _ (A B : Trapezoid) (i : ℕ) where
   unfolding lineOfSide
   side-last h = side-fourth (λ e. omega (arith, e)) (λ e. omega (arith, e)) (λ e. omega (arith, e))
 
--- ---- the orders of each two sides
+-- ---- the orders of two sides
 pub small-meetings : {A B : Trapezoid} {m : Meetings} → MeetingsOf A B m → SmallMeetings m
-small-meetings h = record { m01 = h .m01 .small; m02 = h .m02 .small; m03 = h .m03 .small; m12 = h .m12 .small; m13 = h .m13 .small; m23 = h .m23 .small }
+small-meetings h = record { m02 = h .m02 .small; m03 = h .m03 .small; m12 = h .m12 .small; m13 = h .m13 .small }
 
-pub orders-exact : {A B : Trapezoid} {m : Meetings} {x : Fraction} {o : Orders} → MeetingsOf A B m → OrdersBy m x o → OrdersAt A B x o
-orders-exact h k = record {
-  o01 = k .o01 ∙ right-meeting _ _ _ _ (h .m01);
+-- of a trapezoid with x in its range
+own-order : {t : Trapezoid} {f : Bool} → FitFor coordinateLimit t → (x : Fraction) → Proper x → f ≡ inRange x t → f ≡ true → rightOf x (t .bottom) (t .top) ≡ Less
+own-order {t} h x hx e y = right-less x (t .bottom) (t .top) (own-below h x hx (subst T (sym y ∙ e) tt))
+
+pub orders-exact :
+    {A B : Trapezoid} {m : Meetings} {x : Fraction} {fa fb : Bool} {o : Orders} → FitFor coordinateLimit A → FitFor coordinateLimit B → MeetingsOf A B m → OrdersBy m x o → Proper x → fa ≡ inRange x A → fb ≡ inRange x B → OrdersAt A B x fa fb o
+unfolding lineOfSide
+orders-exact ha hb h k hx ea eb = record {
   o02 = k .o02 ∙ right-meeting _ _ _ _ (h .m02);
   o03 = k .o03 ∙ right-meeting _ _ _ _ (h .m03);
   o12 = k .o12 ∙ right-meeting _ _ _ _ (h .m12);
   o13 = k .o13 ∙ right-meeting _ _ _ _ (h .m13);
-  o23 = k .o23 ∙ right-meeting _ _ _ _ (h .m23);
+  first = own-order ha _ hx ea;
+  second = own-order hb _ hx eb;
 }
 
 right-reverse : (x : Fraction) (l m : Line) → reverse (rightOf x l m) ≡ rightOf x m l
@@ -108,6 +117,16 @@ module _ (fa fb : Bool) (i : ℕ) where
   unfolding presentBy
   present-second h = rw (le-ltb i 2 h)
 
+-- sides of one trapezoid are present both or neither
+module _ (fa fb : Bool) (i j : ℕ) where
+  pub present-A : i < 2 → j < 2 → (presentBy fa fb i ≡ true) ⊎ (presentBy fa fb j ≡ true) → fa ≡ true
+  present-A k l (inl h) = present-first fa fb i k ∙ h
+  present-A k l (inr h) = present-first fa fb j l ∙ h
+
+  pub present-B : 2 ≤ i → 2 ≤ j → (presentBy fa fb i ≡ true) ⊎ (presentBy fa fb j ≡ true) → fb ≡ true
+  present-B k l (inl h) = present-second fa fb i k ∙ h
+  present-B k l (inr h) = present-second fa fb j l ∙ h
+
 -- ---- the order of two sides
 module _ (A B : Trapezoid) (p : Fraction) (fa fb : Bool) (i j : ℕ) where
   less-both : (o : Ordering) (r : Bool) → presentBy fa fb i ≡ true → presentBy fa fb j ≡ true → o ≡ rightOf p (lineOfSide A B i) (lineOfSide A B j) → r ≡ lessBy o (ltb i j) → r ≡ numberLess A B p fa fb i j
@@ -140,6 +159,31 @@ module _ (A B : Trapezoid) (p : Fraction) (fa fb : Bool) (i j : ℕ) where
   pub less-neither : presentBy fa fb i ≡ false → presentBy fa fb j ≡ false → ltb i j ≡ numberLess A B p fa fb i j
   unfolding numberLess
   less-neither e f = rw (e, f)
+
+-- of two sides the one or the other is in front
+pub less-turned : (A B : Trapezoid) (p : Fraction) (fa fb : Bool) (i j : ℕ) {r : Bool} → j < i → r ≡ numberLess A B p fa fb j i → not r ≡ numberLess A B p fa fb i j
+less-turned A B p fa fb i j l e = ap not e ∙ go (presentBy fa fb i) (presentBy fa fb j) refl refl
+  where
+    go : (u v : Bool) → presentBy fa fb i ≡ u → presentBy fa fb j ≡ v → not (numberLess A B p fa fb j i) ≡ numberLess A B p fa fb i j
+    go true true f g =
+        let o = rightOf p (lineOfSide A B j) (lineOfSide A B i) in
+        ap not (sym (less-up A B p fa fb j i o (lessBy o true) l g f refl refl)) ∙ less-down A B p fa fb i j o (lessBy o true) l f g refl refl
+    go true false f g = ap not (sym (less-second A B p fa fb j i g f)) ∙ less-first A B p fa fb i j f g
+    go false true f g = ap not (sym (less-first A B p fa fb j i g f)) ∙ less-second A B p fa fb i j f g
+    go false false f g = ap not (sym (less-neither A B p fa fb j i g f) ∙ lt-ltb j i l) ∙ sym (le-ltb i j (omega arith)) ∙ less-neither A B p fa fb i j f g
+
+pub itself-not-less : (A B : Trapezoid) (p : Fraction) (fa fb : Bool) (i j : ℕ) → i ≡ j → false ≡ numberLess A B p fa fb i j
+itself-not-less A B p fa fb i j e = go (presentBy fa fb i) refl
+  where
+    other : {u : Bool} → presentBy fa fb i ≡ u → presentBy fa fb j ≡ u
+    other f = ap (presentBy fa fb) (sym e) ∙ f
+
+    go : (u : Bool) → presentBy fa fb i ≡ u → false ≡ numberLess A B p fa fb i j
+    go true f = less-same A B p fa fb i j e f (other f)
+    go false f = sym (le-ltb i j (omega (arith, e))) ∙ less-neither A B p fa fb i j f (other f)
+
+pub less-at : (A B : Trapezoid) (p : Fraction) (fa fb : Bool) {i j m n : ℕ} {r : Bool} → i ≡ m → j ≡ n → r ≡ numberLess A B p fa fb m n → r ≡ numberLess A B p fa fb i j
+less-at A B p fa fb e f h = h ∙ ap₂ (numberLess A B p fa fb) (sym e) (sym f)
 
 -- ---- past a side
 module _ (b t z : ℕ) (f : Bool) where
@@ -181,15 +225,17 @@ module _ (less : ℕ → ℕ → Bool) (i j : ℕ) (l : List ℕ) where
   pub exchange-no : (r : Bool) → r ≡ less (getD l j 0) (getD l i 0) → r ≡ false → l ≡ exchanged less i j l
   exchange-no r h e = rw (sym h ∙ e)
 
-  exchanged-length : length (exchanged less i j l) ≡ length l
-  exchanged-length =
-      let k = set l i (getD l j 0) in
-      cond-cases (λ (m : List ℕ). length m ≡ length l) (less (getD l j 0) (getD l i 0)) (set k j (getD l i 0)) l
-      (λ t. length-set k j (getD l i 0) ∙ length-set l i (getD l j 0))
-      (λ t. refl)
+-- four side numbers stay that
+all-set : (P : ℕ → Type 0) (l : List ℕ) (i x : ℕ) → All P l → P x → All P (set l i x)
+all-set P [] i x h k = tt
+all-set P (y ∷ l) zero x h k = (k, h .1)
+all-set P (y ∷ l) (suc i) x h k = (h .0, all-set P l i x (h .1) k)
 
-pub exchange-long : {A B : Trapezoid} {p : Fraction} {i j : ℕ} {c r : Column} → Exchanged A B p i j c r → length (c .order) ≡ 4 → length (r .order) ≡ 4
-exchange-long {A} {B} {p} {i} {j} {c} h e = ap length (h .order) ∙ exchanged-length (numberLess A B p (c .in_a) (c .in_b)) i j (c .order) ∙ e
+pub entry-small : {l : List ℕ} → FourNumbers l → (i : ℕ) → i < 4 → getD l i 0 < 4
+entry-small {l} h i b = all-at (λ (y : ℕ). y < 4) l i 0 (h .small) (subst (λ (n : ℕ). i < n) (sym (h .long)) b)
+
+pub set-four : {l : List ℕ} (i x : ℕ) → x < 4 → FourNumbers l → FourNumbers (set l i x)
+set-four {l} i x k h = record { long = length-set l i x ∙ h .long; small = all-set (λ (y : ℕ). y < 4) l i x (h .small) k }
 
 -- ---- five exchanges
 fourOf : List ℕ → Four
@@ -203,6 +249,9 @@ four-entries (a ∷ b ∷ []) e = absurd (omega arith)
 four-entries (a ∷ b ∷ c ∷ []) e = absurd (omega arith)
 four-entries (a ∷ b ∷ c ∷ d ∷ []) e = refl
 four-entries (a ∷ b ∷ c ∷ d ∷ f ∷ l) e = absurd (omega arith)
+
+pub four-numbers : {l : List ℕ} → FourSides l → FourNumbers l
+four-numbers {l} h = let e = four-entries l (h .long) in record { long = h .long; small = subst (All (λ (y : ℕ). y < 4)) (sym e) (four-below (subst HasSides e (h .all))) }
 
 module _ (less : ℕ → ℕ → Bool) (x : Four) where
   list01 : exchanged less 0 1 (fourList x) ≡ fourList (sort01 less x)
@@ -252,14 +301,14 @@ record Stands (fa fb : Bool) (x : Four) (c : Column) : Type 0 where
   order : c .order ≡ fourList x
 
 module _ (A B : Trapezoid) (p : Fraction) (fa fb : Bool) where
-  stands-next : (i j : ℕ) (x y : Four) (c r : Column) → exchanged (numberLess A B p fa fb) i j (fourList x) ≡ fourList y → Stands fa fb x c → Exchanged A B p i j c r → Stands fa fb y r
+  stands-next : (i j : ℕ) (x y : Four) (c r : Column) → exchanged (numberLess A B p fa fb) i j (fourList x) ≡ fourList y → Stands fa fb x c → Exchanged A B p fa fb i j c r → Stands fa fb y r
   stands-next i j x y c r e s h = record {
     in-a = h .in-a ∙ s .in-a;
     in-b = h .in-b ∙ s .in-b;
-    order = h .order ∙ ap₂ (λ (f g : Bool). exchanged (numberLess A B p f g) i j (c .order)) (s .in-a) (s .in-b) ∙ ap (exchanged (numberLess A B p fa fb) i j) (s .order) ∙ e;
+    order = h .order ∙ ap (exchanged (numberLess A B p fa fb) i j) (s .order) ∙ e;
   }
 
-pub column-exact : {A B : Trapezoid} → FitFor coordinateLimit A → FitFor coordinateLimit B → (p : Fraction) (d e f g h r : Column) → FourSides (d .order) → d .in_a ≡ inRange p A → d .in_b ≡ inRange p B → Exchanged A B p 0 1 d e → Exchanged A B p 2 3 e f → Exchanged A B p 0 2 f g → Exchanged A B p 1 3 g h → Exchanged A B p 1 2 h r → ColumnAt A B p r
+pub column-exact : {A B : Trapezoid} → FitFor coordinateLimit A → FitFor coordinateLimit B → (p : Fraction) (d e f g h r : Column) → FourSides (d .order) → d .in_a ≡ inRange p A → d .in_b ≡ inRange p B → Exchanged A B p (d .in_a) (d .in_b) 0 1 d e → Exchanged A B p (d .in_a) (d .in_b) 2 3 e f → Exchanged A B p (d .in_a) (d .in_b) 0 2 f g → Exchanged A B p (d .in_a) (d .in_b) 1 3 g h → Exchanged A B p (d .in_a) (d .in_b) 1 2 h r → ColumnAt A B p r
 unfolding network
 column-exact {A} {B} ha hb p d e f g h r s ea eb de ef fg gh hr =
     let fa = d .in_a in

@@ -5,18 +5,16 @@ use geometry::Position;
 use geometry::Trapezoid;
 use integer::Ordering;
 use overlay::Column;
+use overlay::Fronts;
 use overlay::Meetings;
 use overlay::Orders;
 ghost use mathlib.Core.Path.{_≡_};
 ghost use Prim.Native.Nat.{_<_};
-ghost use lib.ListN.{length};
-ghost use Rattle.geometry.specs.Limit.{coordinateLimit};
-ghost use Rattle.geometry.specs.Fitness.{FitFor};
 ghost use Rattle.overlay.specs.Overlay.{inRange};
 ghost use Rattle.geometry_code.specs.Code.{fractionOf, SmallPosition};
-ghost use Rattle.trapezoids_code.specs.Placed.{PlacedAs, Pair};
+ghost use Rattle.trapezoids_code.specs.Placed.{PlacedAs};
 ghost use Rattle.columns_code.specs.Order.{lineOfSide, presentBy, lessBy, reverse};
-ghost use Rattle.columns_code.specs.Code.{MeetingsOf, SmallMeetings, OrdersBy, OrdersAt, OrderIn, LessIn, ExchangedIn, FourSides, ColumnAt};
+ghost use Rattle.columns_code.specs.Code.{SmallMeetings, OrdersBy, OrderUp, OrderIn, LessIn, FrontsIn, FrontIn, FourNumbers, ExchangedIn, FourSides, ColumnBy};
 
 pub fn line_of_side(a: Trapezoid, b: Trapezoid, i: usize) -> Line
     ensures { λ r. ⌜ r ≡ lineOfSide a b i ⌝ }
@@ -54,46 +52,16 @@ fn less_by(o: Ordering, tie: bool) -> bool
     }
 }
 
-// Where each two of the four sides meet.
-pub fn meetings_of(a: Trapezoid, b: Trapezoid) -> Meetings
-    requires { ⌜ FitFor coordinateLimit a × FitFor coordinateLimit b ⌝ }
-    ensures { λ r. ⌜ MeetingsOf a b r ⌝ }
-{
-    let m01 = geometry_code::meeting_of(a.bottom, a.top);
-    let m02 = geometry_code::meeting_of(a.bottom, b.bottom);
-    let m03 = geometry_code::meeting_of(a.bottom, b.top);
-    let m12 = geometry_code::meeting_of(a.top, b.bottom);
-    let m13 = geometry_code::meeting_of(a.top, b.top);
-    let m23 = geometry_code::meeting_of(b.bottom, b.top);
-    Meetings {
-        m01,
-        m02,
-        m03,
-        m12,
-        m13,
-        m23,
-    }
-}
-
-// The orders of each two of the four sides right of a position.
+// The orders of the sides of the one trapezoid and of the other right of a position.
 pub fn orders_at(m: Meetings, at: Position) -> Orders
     requires { ⌜ SmallMeetings m × SmallPosition at ⌝ }
     ensures { λ r. ⌜ OrdersBy m (fractionOf at) r ⌝ }
 {
-    let o01 = geometry_code::order_right(m.m01, at);
     let o02 = geometry_code::order_right(m.m02, at);
     let o03 = geometry_code::order_right(m.m03, at);
     let o12 = geometry_code::order_right(m.m12, at);
     let o13 = geometry_code::order_right(m.m13, at);
-    let o23 = geometry_code::order_right(m.m23, at);
-    Orders {
-        o01,
-        o02,
-        o03,
-        o12,
-        o13,
-        o23,
-    }
+    Orders { o02, o03, o12, o13 }
 }
 
 // The order of two sides the other way round.
@@ -107,14 +75,14 @@ fn turned(o: Ordering) -> Ordering
     }
 }
 
-// The order of a side and one with a greater number.
+// The order of a side and one with a greater number: of one trapezoid's own sides the bottom is the lower.
 fn order_up(o: Orders, i: usize, j: usize) -> Ordering
     requires { ⌜ i < j ⌝ }
-    ensures { λ r. ⌜ OrderIn o i j r ⌝ }
+    ensures { λ r. ⌜ OrderUp o i j r ⌝ }
 {
     if i == 0 {
         if j == 1 {
-            return o.o01;
+            return Ordering::Less;
         }
         if j == 2 {
             return o.o02;
@@ -128,7 +96,7 @@ fn order_up(o: Orders, i: usize, j: usize) -> Ordering
         return o.o13;
     }
     if i == 2 {
-        return o.o23;
+        return Ordering::Less;
     }
     Ordering::Equal
 }
@@ -170,17 +138,74 @@ fn side_less(o: Orders, in_a: bool, in_b: bool, i: usize, j: usize) -> bool
     i < j
 }
 
+// Which of each two sides is in front of the other.
+fn fronts_of(o: Orders, in_a: bool, in_b: bool) -> Fronts
+    ensures { λ r. ⌜ FrontsIn o in_a in_b r ⌝ }
+{
+    let f01 = side_less(o, in_a, in_b, 0, 1);
+    let f02 = side_less(o, in_a, in_b, 0, 2);
+    let f03 = side_less(o, in_a, in_b, 0, 3);
+    let f12 = side_less(o, in_a, in_b, 1, 2);
+    let f13 = side_less(o, in_a, in_b, 1, 3);
+    let f23 = side_less(o, in_a, in_b, 2, 3);
+    Fronts {
+        f01,
+        f02,
+        f03,
+        f12,
+        f13,
+        f23,
+    }
+}
+
+// Whether a side is in front of one with a greater number.
+fn front_up(f: Fronts, i: usize, j: usize) -> bool
+    requires { ⌜ (i < j) × (j < 4) ⌝ }
+    ensures { λ r. ⌜ FrontIn f i j r ⌝ }
+{
+    if i == 0 {
+        if j == 1 {
+            return f.f01;
+        }
+        if j == 2 {
+            return f.f02;
+        }
+        return f.f03;
+    }
+    if i == 1 {
+        if j == 2 {
+            return f.f12;
+        }
+        return f.f13;
+    }
+    f.f23
+}
+
+// Whether a side is in front of another.
+fn is_front(f: Fronts, i: usize, j: usize) -> bool
+    requires { ⌜ (i < 4) × (j < 4) ⌝ }
+    ensures { λ r. ⌜ FrontIn f i j r ⌝ }
+{
+    if i < j {
+        return front_up(f, i, j);
+    }
+    if j < i {
+        return !front_up(f, j, i);
+    }
+    false
+}
+
 // Two entries of the order, the lesser side in front.
-fn exchange(o: Orders, c: Column, i: usize, j: usize) -> Column
-    requires { ⌜ (length (c .order) ≡ 4) × (i < 4) × (j < 4) ⌝ }
-    ensures { λ r. ⌜ ExchangedIn o i j c r ⌝ }
+fn exchange(f: Fronts, c: Column, i: usize, j: usize) -> Column
+    requires { ⌜ FourNumbers (c .order) × (i < 4) × (j < 4) ⌝ }
+    ensures { λ r. ⌜ FourNumbers (r .order) × ExchangedIn f i j c r ⌝ }
 {
     let in_a = c.in_a;
     let in_b = c.in_b;
     let mut order = c.order;
     let x = order[i];
     let y = order[j];
-    if side_less(o, in_a, in_b, y, x) {
+    if is_front(f, y, x) {
         order[i] = y;
         order[j] = x;
         return Column { order, in_a, in_b };
@@ -199,18 +224,17 @@ pub fn in_range(a: Placed, at: Position) -> bool
     geometry_code::is_left(geometry_code::compare(at, a.right))
 }
 
-// The column right of a position, from the column before it, however many sides meet there.
-pub fn column_at(a: Placed, b: Placed, o: Orders, at: Position, c: Column) -> Column
-    requires { ⌜ Pair a b × SmallPosition at × FourSides (c .order) × OrdersAt (a .shape) (b .shape) (fractionOf at) o ⌝ }
-    ensures { λ r. ⌜ ColumnAt (a .shape) (b .shape) (fractionOf at) r ⌝ }
+// The column right of a position that is in the ranges or not, from the column before it, however many sides meet there.
+pub fn column_at(o: Orders, in_a: bool, in_b: bool, c: Column) -> Column
+    requires { ⌜ FourSides (c .order) ⌝ }
+    ensures { λ r. ⌜ ColumnBy o in_a in_b r ⌝ }
 {
-    let in_a = in_range(a, at);
-    let in_b = in_range(b, at);
+    let w = fronts_of(o, in_a, in_b);
     let order = c.order;
     let d = Column { order, in_a, in_b };
-    let e = exchange(o, d, 0, 1);
-    let f = exchange(o, e, 2, 3);
-    let g = exchange(o, f, 0, 2);
-    let h = exchange(o, g, 1, 3);
-    exchange(o, h, 1, 2)
+    let e = exchange(w, d, 0, 1);
+    let f = exchange(w, e, 2, 3);
+    let g = exchange(w, f, 0, 2);
+    let h = exchange(w, g, 1, 3);
+    exchange(w, h, 1, 2)
 }

@@ -1,4 +1,3 @@
-pub mod Building
-pub mod Groups
+pub mod Sums
 pub mod Slabs
 pub mod Sweeping

@@ -1,19 +1,16 @@
--- The columns filled from left to right: what holds before each event, that a turn keeps it, and what it says at each way out.
-use mathlib.Core.Path.{_≡_, sym, _∙_, ap, subst}
-use mathlib.Core.List.{List, [], _++_}
-use mathlib.Core.Option.{Option, none, some}
-use Prim.Native.Nat.{ℕ, _+_, _*_, _-_, _<_, _≤_}
+-- The columns filled from left to right, along the stored events.
+use mathlib.Core.Path.{_≡_, refl, sym, _∙_, ap, subst}
+use mathlib.Core.List.{List, [], _∷_, _++_, map}
+use Prim.Native.Nat.{ℕ, zero, suc, _+_, _*_, _-_, _<_, _≤_}
 use native.Mathlib.Omega.{arith}
-use lib.ListN.{length}
+use native.Mathlib.Numerals.{add-one}
+use lib.ListN.{length, drop, length-map}
+use lib.Seq.{drop-cons}
 use lib.IntN.{ℤ}
 use borrow.Rule.Slice.PartMut.{putMid}
 use Rattle.lists.specs.Lists.{All}
-use Rattle.integer.specs.Fraction.{Proper}
+use Rattle.integer.specs.Fraction.{Fraction}
 use Rattle.records.specs.Limits.{memoryWidth}
-use Rattle.levels.specs.Levels.{IfSome, levels, next, scan}
-use Rattle.levels.proofs.Next.{beyond, next-all}
-use Rattle.levels.proofs.Scan.{scan-is-next}
-use Rattle.levels.proofs.Walk.{next-some}
 use Rattle.geometry.specs.declared.Base.{Base}
 use Rattle.geometry.specs.declared.Trapezoid.{Trapezoid}
 use Rattle.geometry.specs.Lines.{IsLine}
@@ -21,106 +18,104 @@ use Rattle.geometry.specs.Positions.{position}
 use Rattle.geometry.specs.declared.Fill.{Fill}
 use Rattle.geometry.specs.declared.Fill.the-variants.{NoRoom, Written}
 use Rattle.geometry.specs.Polygons.{Polygon}
-use Rattle.sweep.specs.Segments.{spanning}
-use Rattle.sweep.specs.Sweep.{earlier}
+use Rattle.sweep.specs.Sweep.{columns, sweep}
 use Rattle.sweep.specs.declared.Event.{Event}
-use Rattle.sweep.specs.declared.Next.{Next}
-use Rattle.sweep.specs.declared.Next.the-variants.{Nothing, Found}
-use Rattle.sweep.proofs.Sweep.{Placed, placed-order}
-use Rattle.sweep.proofs.Loop.{from, sweep-none, sweep-start, sweep-turn, sweep-stop}
-use Rattle.fracture.specs.declared.EdgeList.{EdgeList}
-use Rattle.fracture.specs.Polygons.{Edge, edges, segment}
-use Rattle.fracture.specs.Fracture.{marks, edgeCrossings, polygonEvents, trapezoids, fracture}
+use Rattle.sorting.proofs.Inserting.{drop-past}
+use Rattle.fracture.specs.Polygons.{Edge, segment}
+use Rattle.fracture.specs.Fracture.{marks, polygonEvents, trapezoids, fracture}
 use Rattle.fracture.proofs.Events.{complete}
 use Rattle.trapezoids_code.specs.Tails.{Borrowed, FilledAs}
 use Rattle.trapezoids_code.proofs.Writing.{tail, Writing, write-start, write-stop, write-full, write-upto, write-turn, fill-nothing}
-use Rattle.sweep_code.specs.Events.{EventOf, NextPlaced, optionOf, NextAmong}
-use Rattle.polygon_events_code.specs.Code.{edgesOf, edgesInUse}
-use Rattle.fracture_code.specs.Code.{HasLines, columnOf, EdgeListOf}
+use Rattle.sorting_code.specs.Entries.{stored, entryAt}
+use Rattle.polygon_events_code.specs.Code.{EventOf}
+use Rattle.polygon_edges_code.specs.Edges.{storedEdges, EdgesOf}
+use Rattle.stored_events_code.specs.Events.{named, Events, Listed, crossingsFrom}
+use Rattle.stored_events_code.proofs.Entering.{listed-count, listed-next}
+use Rattle.stored_events_code.proofs.Crossings.{crossings-lines}
+use Rattle.groups_code.specs.Groups.{Gathered}
+use Rattle.fracture_code.specs.Code.{HasLines, columnOf, stack}
+use Rattle.fracture_code.proofs.Slabs.{column-stack}
 
-pub event-found : (r : Next) (k : Event) → r ≡ Found k → NextPlaced r → EventOf k
-event-found r k e h = subst NextPlaced e h
+pub gathered-move : {n : ℕ} {ls ts : List ℤ} {x y : Fraction} {m : ℕ} {ks : List ℕ} {ws : List ℤ} → x ≡ y → Gathered n ls ts x 0 m ks ws → Gathered n ls ts y 0 m ks ws
+gathered-move {n} {ls} {ts} {x} {y} {m} {ks} {ws} e h = subst (λ (z : Fraction). Gathered n ls ts z 0 m ks ws) e h
 
-module _ (L : ℕ) (polygon : Polygon) where
-  -- what is left to fill from the event k on
-  abbrev pub remains : Base → List Trapezoid
-  remains k = from segment position trapezoids (edges polygon) (polygonEvents L polygon) k
+-- ---- along the events
+module _ (L : ℕ) (ls : List ℤ) (n : ℕ) (a b : List ℤ) (c : List ℕ) (h : Listed L ls n a b c) where
+  abbrev bases : List Base
+  bases = map (named L ls) (stored n a b c)
 
-  -- how many events are left after k
-  abbrev pub later : Base → ℕ
-  later k = length (beyond (earlier position) (some k) (levels (earlier position) (polygonEvents L polygon)))
+  n-bases : length bases ≡ n
+  n-bases = length-map (stored n a b c) (named L ls) ∙ listed-count h
 
-  module _ (v : EdgeList) (h : EdgeListOf polygon v) where
-    pub edges-lines : HasLines v
-    edges-lines = subst (All (λ (e : Edge). IsLine (e .line))) (sym (h .is)) (complete L polygon .lines)
+  next-base : (i : ℕ) → i < n → drop i bases ≡ named L ls (entryAt a b c i) ∷ drop (i + 1) bases
+  next-base i l = rw add-one (listed-next h i l)
 
-    column-is : (p q : Base) → columnOf v p q ≡ trapezoids p q (spanning segment (position p) (edges polygon))
-    column-is p q = ap (λ (es : List Edge). trapezoids p q (spanning segment (position p) es)) (h .is)
+abbrev swept : ℕ → List ℤ → List ℤ → List Base → List Trapezoid
+swept count ls ts ks = columns segment position trapezoids (storedEdges count ls ts) ks
 
-    proper : All (Placed position) (polygonEvents L polygon)
-    proper = complete L polygon .proper
+abbrev goal : ℕ → ℕ → List ℤ → List ℤ → ℕ → List ℤ → List ℤ → List ℕ → List Trapezoid
+goal L count ls ts n a b c = swept count ls ts (map (named L ls) (stored n a b c))
 
-    names : marks L polygon ++ edgeCrossings (edgesOf (edgesInUse v)) ≡ polygonEvents L polygon
-    unfolding polygonEvents
-    names = ap (λ (es : List Edge). marks L polygon ++ edgeCrossings es) (h .is)
-
-    module _ (g : Option Base) (r : Next) (n : NextAmong (marks L polygon ++ edgeCrossings (edgesOf (edgesInUse v))) g r) where
-      next-is : next (earlier position) g (polygonEvents L polygon) ≡ optionOf r
-      next-is = sym (n .is ∙ ap (scan (earlier position) none g) names ∙ scan-is-next (earlier position) (Placed position) (placed-order position) g (polygonEvents L polygon) proper)
-
-      pub next-proper : (k : Event) → r ≡ Found k → Proper (position (k .base))
-      next-proper k e = subst (IfSome (Placed position)) (next-is ∙ ap optionOf e) (next-all (earlier position) (Placed position) g (polygonEvents L polygon) proper)
-
-    module _ (r : Next) (n : NextAmong (marks L polygon ++ edgeCrossings (edgesOf (edgesInUse v))) none r) where
-      pub no-event : r ≡ Nothing → fracture L polygon ≡ []
-      unfolding fracture
-      no-event e = sweep-none segment position trapezoids (edges polygon) (polygonEvents L polygon) proper (next-is none r n ∙ ap optionOf e)
-
-      pub first-event : (k : Event) → r ≡ Found k → fracture L polygon ≡ remains (k .base)
-      unfolding fracture
-      first-event k e = sweep-start segment position trapezoids (edges polygon) (polygonEvents L polygon) proper (k .base) (next-is none r n ∙ ap optionOf e)
-
-    module _ (p : Base) (hp : Proper (position p)) (r : Next) (n : NextAmong (marks L polygon ++ edgeCrossings (edgesOf (edgesInUse v))) (some p) r) where
-      pub last-event : r ≡ Nothing → remains p ≡ []
-      last-event e = sweep-stop segment position trapezoids (edges polygon) (polygonEvents L polygon) proper p hp (next-is (some p) r n ∙ ap optionOf e)
-
-      module _ (k : Event) (e : r ≡ Found k) where
-        pub later-event : remains p ≡ columnOf v p (k .base) ++ remains (k .base)
-        later-event =
-            sweep-turn segment position trapezoids (edges polygon) (polygonEvents L polygon) proper p (k .base) hp (next-is (some p) r n ∙ ap optionOf e)
-            ∙ ap (λ (ts : List Trapezoid). ts ++ remains (k .base)) (sym (column-is p (k .base)))
-
-        pub fewer : later (k .base) < later p
-        fewer = let d = ap length (next-some (earlier position) (placed-order position) (some p) (polygonEvents L polygon) (k .base) hp proper (next-is (some p) r n ∙ ap optionOf e)) in omega (arith, d)
-
--- before the event p: n trapezoids stand in out, which has W words
-pub record Sweeping (L : ℕ) (polygon : Polygon) (W room : ℕ) (out : List ℤ) (p : Event) (n : ℕ) : Type 0 where
-  pub writing : Writing W room (fracture L polygon) (remains L polygon (p .base)) out n
+-- the columns up to the event p are filled, which is number i − 1
+pub record Sweeping (L count : ℕ) (ls ts : List ℤ) (n : ℕ) (a b : List ℤ) (c : List ℕ) (W room : ℕ) (ks : List ℕ) (ws out : List ℤ) (p : Event) (done i : ℕ) : Type 0 where
+  pub writing : Writing W room (goal L count ls ts n a b c) (swept count ls ts (p .base ∷ drop i (map (named L ls) (stored n a b c)))) out done
   pub event : EventOf p
-  pub proper : Proper (position (p .base))
+  pub keys : length ks ≡ 32
+  pub weights : length ws ≡ 32
 
-module _ (L : ℕ) (polygon : Polygon) (room : ℕ) (out : List ℤ) (h : Borrowed out room) where
-  pub sweeping-none : fracture L polygon ≡ [] → FilledAs (length out) room (fracture L polygon) (Written 0) out
-  sweeping-none e = rw e (fill-nothing out room h)
+module _ {L : ℕ} (count : ℕ) {ls : List ℤ} (ts : List ℤ) {n : ℕ} {a b : List ℤ} {c : List ℕ} (h : Listed L ls n a b c) where
+  pub sweeping-none : (d : List ℤ) (room : ℕ) → Borrowed d room → n < 1 → FilledAs (length d) room (goal L count ls ts n a b c) (Written 0) d
+  unfolding columns
+  sweeping-none d room k l = let e : bases L ls n a b c h ≡ [] = drop-past (bases L ls n a b c h) 0 (omega (arith, n-bases L ls n a b c h)) in rw e (fill-nothing d room k)
 
-  pub sweeping-start : (p : Event) → fracture L polygon ≡ remains L polygon (p .base) → EventOf p → Proper (position (p .base)) → Sweeping L polygon (length out) room out p 0
-  sweeping-start p e ev pr =
+  pub sweeping-start : (d : List ℤ) (room : ℕ) (ks : List ℕ) (ws : List ℤ) → Borrowed d room → length ks ≡ 32 → length ws ≡ 32 → 1 ≤ n → (p : Event) → (p .base ≡ named L ls (entryAt a b c 0)) × EventOf p
+      → Sweeping L count ls ts n a b c (length d) room ks ws d p 0 1
+  sweeping-start d room ks ws k lk lw l p e =
       record {
-        writing = subst (λ (ts : List Trapezoid). Writing (length out) room (fracture L polygon) ts out 0) e (write-start (fracture L polygon) out room h);
-        event = ev;
-        proper = pr;
+        writing = subst (λ (bs : List Base). Writing (length d) room (goal L count ls ts n a b c) (swept count ls ts bs) d 0) (next-base L ls n a b c h 0 (omega arith) ∙ ap (λ (x : Base). x ∷ drop 1 (bases L ls n a b c h)) (sym (e .0))) (write-start (goal L count ls ts n a b c) d room k);
+        event = e .1;
+        keys = lk;
+        weights = lw;
       }
 
-module _ {L : ℕ} {polygon : Polygon} {W room : ℕ} {out : List ℤ} {p : Event} {n : ℕ} (h : Sweeping L polygon W room out p n) where
-  pub sweeping-stop : remains L polygon (p .base) ≡ [] → FilledAs W room (fracture L polygon) (Written n) out
-  sweeping-stop e = write-stop (h .writing) e
+  module _ {W room : ℕ} {ks : List ℕ} {ws out : List ℤ} {p : Event} {done i : ℕ} (s : Sweeping L count ls ts n a b c W room ks ws out p done i) where
+    pub sweeping-stop : n ≤ i → FilledAs W room (goal L count ls ts n a b c) (Written done) out
+    unfolding columns
+    sweeping-stop l = write-stop (s .writing) (ap (λ (bs : List Base). swept count ls ts (p .base ∷ bs)) (drop-past (bases L ls n a b c h) i (omega (arith, n-bases L ls n a b c h))))
 
-  module _ (more : List Trapezoid) (q : Event) (turn : remains L polygon (p .base) ≡ more ++ remains L polygon (q .base)) (f : Fill) (t : List ℤ) (g : FilledAs (length (tail out n)) (room - n) more f t) where
-    pub sweeping-full : f ≡ NoRoom → room < length (fracture L polygon)
-    sweeping-full e = write-full (h .writing) more (remains L polygon (q .base)) turn f t g e
+    module _ (lines : HasLines count ls ts) (l : i < n) (q : Event) (eq : (q .base ≡ named L ls (entryAt a b c i)) × EventOf q) (m : ℕ) (ks' : List ℕ) (ws' : List ℤ) (g : Gathered count ls ts (position (p .base)) 0 m ks' ws')
+        (f : Fill) (t : List ℤ) (fill : FilledAs (length (tail out done)) (room - done) (stack ls (p .base) (q .base) m ks' ws') f t) where
+      abbrev filledColumn : List Trapezoid
+      filledColumn = columnOf count ls ts (p .base) (q .base)
 
-    pub sweeping-upto : (m : ℕ) → f ≡ Written m → n + m ≤ room
-    sweeping-upto m e = write-upto (h .writing) more (remains L polygon (q .base)) turn f t g m e
+      abbrev later : List Trapezoid
+      later = swept count ls ts (q .base ∷ drop (i + 1) (bases L ls n a b c h))
 
-    pub sweeping-next : (m : ℕ) → f ≡ Written m → EventOf q → Proper (position (q .base)) → Sweeping L polygon W room (putMid (memoryWidth * n) (length out - memoryWidth * n) out t) q (n + m)
-    sweeping-next m e ev pr = record { writing = write-turn (h .writing) more (remains L polygon (q .base)) turn f t g m e; event = ev; proper = pr }
+      turn : swept count ls ts (p .base ∷ drop i (bases L ls n a b c h)) ≡ filledColumn ++ later
+      unfolding columns
+      turn = ap (λ (bs : List Base). swept count ls ts (p .base ∷ bs)) (next-base L ls n a b c h i l ∙ ap (λ (x : Base). x ∷ drop (i + 1) (bases L ls n a b c h)) (sym (eq .0)))
+
+      filled : FilledAs (length (tail out done)) (room - done) filledColumn f t
+      filled = subst (λ (r : List Trapezoid). FilledAs (length (tail out done)) (room - done) r f t) (column-stack ls ts (p .base) (q .base) count m ks' ws' lines g) fill
+
+      pub sweeping-full : f ≡ NoRoom → room < length (goal L count ls ts n a b c)
+      sweeping-full z = write-full (s .writing) filledColumn later turn f t filled z
+
+      pub sweeping-upto : (k : ℕ) → f ≡ Written k → done + k ≤ room
+      sweeping-upto k z = write-upto (s .writing) filledColumn later turn f t filled k z
+
+      pub sweeping-next : (k : ℕ) → f ≡ Written k → Sweeping L count ls ts n a b c W room ks' ws' (putMid (memoryWidth * done) (length out - memoryWidth * done) out t) q (done + k) (i + 1)
+      sweeping-next k z = record { writing = write-turn (s .writing) filledColumn later turn f t filled k z; event = eq .1; keys = g .keys; weights = g .weights }
+
+-- ---- the whole
+module _ (L : ℕ) (polygon : Polygon) {count : ℕ} {ls ts : List ℤ} (h : EdgesOf polygon count ls ts) where
+  pub edges-lines : HasLines count ls ts
+  edges-lines = subst (All (λ (e : Edge). IsLine (e .line))) (sym (h .is)) (complete L polygon .lines)
+
+  module _ (n : ℕ) (a b : List ℤ) (c : List ℕ) (e : Events L ls (marks L polygon ++ crossingsFrom count ls 0) n a b c) where
+    whole-is : goal L count ls ts n a b c ≡ fracture L polygon
+    unfolding fracture sweep polygonEvents
+    whole-is = ap (swept count ls ts) (e .is) ∙ rw (crossings-lines ls ts (count - 0) 0, h .is)
+
+    pub whole-filled : (W room : ℕ) (r : Fill) (d : List ℤ) → FilledAs W room (goal L count ls ts n a b c) r d → FilledAs W room (fracture L polygon) r d
+    whole-filled W room r d f = subst (λ (ts : List Trapezoid). FilledAs W room ts r d) whole-is f

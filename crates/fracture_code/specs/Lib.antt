@@ -1,2 +1,2 @@
--- Edges in an array, groups, and sums of directions, as functions hold them.
+-- Columns of a polygon, as functions hold and fill them.
 pub mod Code

@@ -1,91 +1,26 @@
 // A polygon fractured into trapezoids by nonzero winding (paper 01: cutting).
-use fracture::EdgeList;
-use fracture::Group;
-use fracture::StoredEdge;
+use geometry::Base;
 use geometry::Fill;
-use geometry::Line;
-use geometry::Position;
 use geometry::Trapezoid;
 use integer::Int;
-use sweep::Event;
-use sweep::Next;
 ghost use mathlib.Core.Path.{_≡_};
 ghost use mathlib.Core.Bool.{cond, _&&_};
-ghost use mathlib.Core.List.{[], _∷_};
-ghost use Prim.Native.Nat.{_+_, _<_, _≤_};
-ghost use lib.IntN.{natAbs};
+ghost use mathlib.Core.List.{[], map};
+ghost use Prim.Native.Nat.{_<_, _≤_};
 ghost use lib.ListN.{length};
-ghost use Rattle.integer.specs.Integer.{_⊕_};
-ghost use Rattle.geometry.specs.Limit.{coordinateLimit, OnGrid};
+ghost use Rattle.geometry.specs.Limit.{coordinateLimit};
 ghost use Rattle.geometry.specs.Polygons.{PolygonOnGrid};
-ghost use Rattle.sweep.specs.Segments.{spanning};
-ghost use Rattle.sweep.specs.Columns.{isZero, upTo};
-ghost use Rattle.fracture.specs.Polygons.{through, edge, lineOf, directionOf, segment};
-ghost use Rattle.fracture.specs.Fracture.{fracture};
-ghost use Rattle.geometry_code.specs.Code.{fractionOf, SmallPosition};
+ghost use Rattle.geometry.specs.Positions.{position};
+ghost use Rattle.sweep.specs.Columns.{isZero};
+ghost use Rattle.sweep.specs.Sweep.{columns};
+ghost use Rattle.fracture.specs.Polygons.{segment};
+ghost use Rattle.fracture.specs.Fracture.{trapezoids, fracture};
 ghost use Rattle.geometry_code.specs.Polygons.{polygonOf};
-ghost use Rattle.trapezoids_code.specs.Tails.{Borrowed, FilledAs};
-ghost use Rattle.sweep_code.specs.Events.{EventOf};
-ghost use Rattle.polygon_events_code.specs.Code.{edgeOf, edgesOf, edgesInUse, WellFormed, directionBy};
-ghost use Rattle.fracture_code.specs.Code.{EdgeListOf, past, GroupOnGrid, Lowest, WithCandidate, NextGroup, WithDirection, HasLines, columnOf, vertexAt, TakesEdge, Lengthened};
-
-// The lower of the best so far and an edge, right of a position; the best where they are level.
-fn lowest(best: Group, e: StoredEdge, at: Position) -> Group
-    requires { ⌜ GroupOnGrid best × OnGrid coordinateLimit (e .line) × SmallPosition at ⌝ }
-    ensures { λ r. ⌜ Lowest best (fractionOf at) e r ⌝ }
-{
-    let Group::Found(b) = best else {
-        return Group::Found(e);
-    };
-    if geometry_code::is_below(e.line, b.line, at) {
-        return Group::Found(e);
-    }
-    best
-}
-
-// The same of an edge that may not span the position, or not be above g.
-fn with_candidate(best: Group, started: bool, g: StoredEdge, e: StoredEdge, at: Position) -> Group
-    requires { ⌜ GroupOnGrid best × OnGrid coordinateLimit (g .line) × OnGrid coordinateLimit (e .line) × SmallPosition at ⌝ }
-    ensures { λ r. ⌜ WithCandidate best (past started g) (fractionOf at) e r ⌝ }
-{
-    if polygon_events_code::is_spanning(at, e.line) {
-        if started {
-            if geometry_code::is_below(g.line, e.line, at) {
-                return lowest(best, e, at);
-            }
-            return best;
-        }
-        return lowest(best, e, at);
-    }
-    best
-}
-
-// The sum with one more edge's direction.
-fn turned(sum: Int, rightward: bool) -> Int
-    requires { ⌜ natAbs (sum .v) ≤ 64 ⌝ }
-    ensures { λ r. ⌜ r .v ≡ sum .v ⊕ directionBy rightward ⌝ }
-    ensures magnitude { λ r. ⌜ natAbs (r .v) ≤ natAbs (sum .v) + 1 ⌝ }
-{
-    let one = integer_code::of(1);
-    if rightward {
-        return integer_code::add(sum, one);
-    }
-    integer_code::sub(sum, one)
-}
-
-// The sum with an edge's direction, if the edge spans the position and is at or below the line g right of it.
-fn with_direction(sum: Int, g: Line, e: StoredEdge, at: Position) -> Int
-    requires { ⌜ (natAbs (sum .v) ≤ 64) × OnGrid coordinateLimit g × OnGrid coordinateLimit (e .line) × SmallPosition at ⌝ }
-    ensures { λ r. ⌜ WithDirection sum g (fractionOf at) e r ⌝ }
-{
-    if polygon_events_code::is_spanning(at, e.line) {
-        if geometry_code::is_below(g, e.line, at) {
-            return sum;
-        }
-        return turned(sum, e.rightward);
-    }
-    sum
-}
+ghost use Rattle.trapezoids_code.specs.Tails.{inFront, Borrowed, FilledAs};
+ghost use Rattle.sorting_code.specs.Entries.{stored};
+ghost use Rattle.polygon_edges_code.specs.Edges.{storedEdges, EdgesHeld};
+ghost use Rattle.stored_events_code.specs.Events.{named, Wide, Listed};
+ghost use Rattle.fracture_code.specs.Code.{HasLines, between, stack, Summable};
 
 fn is_zero(x: Int) -> bool
     ensures { λ r. ⌜ r ≡ isZero (x .v) ⌝ }
@@ -100,56 +35,6 @@ fn is_zero(x: Int) -> bool
     true
 }
 
-// The first group above g right of a position, of the edges that span it, or the first of all where nothing has been started.
-fn next_group(v: EdgeList, at: Position, started: bool, g: StoredEdge) -> Group
-    requires { ⌜ WellFormed v × SmallPosition at × OnGrid coordinateLimit (g .line) ⌝ }
-    ensures { λ r. ⌜ NextGroup v (fractionOf at) (past started g) r ⌝ }
-{
-    let list = v.list;
-    let n = v.n;
-    let mut best = Group::Nothing;
-    let mut i = 0;
-    while i < n {
-        let e = list[i];
-        best = with_candidate(best, started, g, e, at);
-        i += 1;
-    }
-    best
-}
-
-// The sum of the directions of the edges that span a position and are at or below g right of it.
-fn sum_up_to(v: EdgeList, at: Position, g: StoredEdge) -> Int
-    requires { ⌜ WellFormed v × SmallPosition at × OnGrid coordinateLimit (g .line) ⌝ }
-    ensures { λ r. ⌜ r .v ≡ upTo lineOf directionOf (fractionOf at) (spanning segment (fractionOf at) (edgesOf (edgesInUse v))) (edgeOf g) ⌝ }
-{
-    let list = v.list;
-    let n = v.n;
-    let mut sum = integer_code::of(0);
-    let mut i = 0;
-    while i < n {
-        let e = list[i];
-        sum = with_direction(sum, g.line, e, at);
-        i += 1;
-    }
-    sum
-}
-
-// An edge to begin with.
-fn axis_edge() -> StoredEdge
-    ensures { λ r. ⌜ OnGrid coordinateLimit (r .line) ⌝ }
-{
-    let line = Line {
-        x1: 0,
-        y1: 0,
-        x2: 1,
-        y2: 0,
-    };
-    StoredEdge {
-        line,
-        rightward: true,
-    }
-}
-
 // A trapezoid ends where the sum returns to zero.
 fn closes(begun: bool, zero: bool) -> bool
     ensures { λ r. ⌜ r ≡ begun && zero ⌝ }
@@ -161,168 +46,171 @@ fn closes(begun: bool, zero: bool) -> bool
 }
 
 // The bottom of a trapezoid that has begun, or of one that may begin at h.
-fn bottom_of(begun: bool, bottom: StoredEdge, h: StoredEdge) -> StoredEdge
-    ensures { λ r. ⌜ r ≡ cond begun bottom h ⌝ }
+fn bottom_of(begun: bool, low: u32, h: u32) -> u32
+    ensures { λ r. ⌜ r ≡ cond begun low h ⌝ }
 {
     if begun {
-        return bottom;
+        return low;
     }
     h
 }
 
-// Whether the sum up to a group is zero.
-fn is_outside(v: EdgeList, at: Position, h: StoredEdge) -> bool
-    requires { ⌜ WellFormed v × SmallPosition at × OnGrid coordinateLimit (h .line) ⌝ }
-    ensures { λ r. ⌜ r ≡ isZero (upTo lineOf directionOf (fractionOf at) (spanning segment (fractionOf at) (edgesOf (edgesInUse v))) (edgeOf h)) ⌝ }
+// The trapezoid between two lines, if `yes`.
+fn put_between(
+    yes: bool,
+    lines: &[i32],
+    low: u32,
+    h: u32,
+    left: Base,
+    right: Base,
+    out: &mut [i32],
+    room: usize,
+) -> Fill
+    requires { ⌜ (length (now lines) ≡ 128) × (low < 32) × (h < 32) × Borrowed (now out) room ⌝ }
+    ensures { λ r. ⌜ FilledAs (length (now (out .entry))) room (inFront yes (between (now (lines .entry)) left right low h) []) r (now (out .exit)) ⌝ }
 {
-    let sum = sum_up_to(v, at, h);
-    is_zero(sum)
-}
-
-// The trapezoids between two events, from the bottom up.
-fn fill_column(v: EdgeList, p: Event, q: Event, out: &mut [i32], room: usize) -> Fill
-    requires { ⌜ WellFormed v × HasLines v × EventOf p × Borrowed (now out) room ⌝ }
-    ensures { λ r. ⌜ FilledAs (length (now (out .entry))) room (columnOf v (p .base) (q .base)) r (now (out .exit)) ⌝ }
-{
-    let at = p.at;
-    let left = p.base;
-    let right = q.base;
-    let mut g = axis_edge();
-    let mut lower = g;
-    let mut started = false;
-    let mut begun = false;
-    let mut n = 0;
-    loop {
-        let next = next_group(v, at, started, g);
-        let Group::Found(h) = next else {
-            return Fill::Written(n);
-        };
-        let zero = is_outside(v, at, h);
-        let yes = closes(begun, zero);
-        let bottom = lower.line;
-        let top = h.line;
+    if yes {
+        let bottom = polygon_edges_code::line_at(lines, low as usize);
+        let top = polygon_edges_code::line_at(lines, h as usize);
         let t = Trapezoid {
             left,
             right,
             bottom,
             top,
         };
-        let f = trapezoids_code::put_if(yes, t, &mut out[records::MEMORY_WIDTH * n..], room - n);
-        let Fill::Written(m) = f else {
-            records_code::clear(out);
-            return Fill::NoRoom;
-        };
-        n += m;
-        lower = bottom_of(begun, lower, h);
-        begun = !zero;
-        g = h;
-        started = true;
+        return trapezoids_code::put(t, out, room);
     }
+    Fill::Written(0)
 }
 
-// The trapezoids of the polygon that has these vertices and edges, from left to right.
-fn fill_columns(words: &[i32], v: EdgeList, limit: u32, out: &mut [i32], room: usize) -> Fill
-    requires { ⌜ PolygonOnGrid limit (polygonOf (now words)) × (limit ≤ coordinateLimit) × EdgeListOf (polygonOf (now words)) v × Borrowed (now out) room ⌝ }
-    ensures { λ r. ⌜ FilledAs (length (now (out .entry))) room (fracture limit (polygonOf (now (words .entry)))) r (now (out .exit)) ⌝ }
+// The trapezoids of a column whose groups are in order, by the running sum, from the bottom up.
+fn fill_groups(
+    lines: &[i32],
+    numbers: &[u32],
+    weights: &[i64],
+    m: usize,
+    left: Base,
+    right: Base,
+    out: &mut [i32],
+    room: usize,
+) -> Fill
+    requires { ⌜ Summable (now lines) m (now numbers) (now weights) × Borrowed (now out) room ⌝ }
+    ensures { λ r. ⌜ FilledAs (length (now (out .entry))) room (stack (now (lines .entry)) left right m (now (numbers .entry)) (now (weights .entry))) r (now (out .exit)) ⌝ }
 {
-    let zero = integer_code::of(0);
-    let mut p = polygon_events_code::mark_at(zero, limit);
-    let first = polygon_events_code::next_event(words, v, limit, false, p);
-    let Next::Found(e) = first else {
-        return Fill::Written(0);
-    };
-    p = e;
+    let mut sum = integer_code::of(0);
+    let mut low = 0;
+    let mut begun = false;
     let mut n = 0;
-    loop {
-        let next = polygon_events_code::next_event(words, v, limit, true, p);
-        let Next::Found(q) = next else {
-            return Fill::Written(n);
-        };
-        let f = fill_column(v, p, q, &mut out[records::MEMORY_WIDTH * n..], room - n);
-        let Fill::Written(m) = f else {
+    let mut k = 0;
+    while k < m {
+        let h = numbers[k];
+        let w = integer_code::get_number(weights, k);
+        let next = integer_code::add(sum, w);
+        let zero = is_zero(next);
+        let yes = closes(begun, zero);
+        let f = put_between(
+            yes,
+            lines,
+            low,
+            h,
+            left,
+            right,
+            &mut out[records::MEMORY_WIDTH * n..],
+            room - n,
+        );
+        let Fill::Written(more) = f else {
             records_code::clear(out);
             return Fill::NoRoom;
         };
-        n += m;
+        n += more;
+        low = bottom_of(begun, low, h);
+        begun = !zero;
+        sum = next;
+        k += 1;
+    }
+    Fill::Written(n)
+}
+
+// The trapezoids between neighbouring events, from left to right.
+fn fill_events(
+    lines: &[i32],
+    terms: &[i64],
+    edges: usize,
+    limit: u32,
+    num: &[i64],
+    den: &[i64],
+    name: &[u32],
+    n: usize,
+    numbers: &mut [u32],
+    weights: &mut [i64],
+    out: &mut [i32],
+    room: usize,
+) -> Fill
+    requires { ⌜ EdgesHeld edges (now lines) (now terms) × HasLines edges (now lines) (now terms) × (limit ≤ coordinateLimit) × Listed limit (now lines) n (now num) (now den) (now name) × (length (now numbers) ≡ 32) × (length (now weights) ≡ 32) × Borrowed (now out) room ⌝ }
+    ensures { λ r. ⌜ FilledAs (length (now (out .entry))) room (columns segment position trapezoids (storedEdges edges (now (lines .entry)) (now (terms .entry))) (map (named limit (now (lines .entry))) (stored n (now (num .entry)) (now (den .entry)) (now (name .entry))))) r (now (out .exit)) ⌝ }
+{
+    if n < 1 {
+        return Fill::Written(0);
+    }
+    let mut p = stored_events_code::event_number(lines, limit, num, den, name, 0);
+    let mut done = 0;
+    let mut i = 1;
+    while i < n {
+        let q = stored_events_code::event_number(lines, limit, num, den, name, i);
+        let m = groups_code::gather(lines, terms, edges, p.at, numbers, weights);
+        let f = fill_groups(
+            lines,
+            numbers,
+            weights,
+            m,
+            p.base,
+            q.base,
+            &mut out[records::MEMORY_WIDTH * done..],
+            room - done,
+        );
+        let Fill::Written(more) = f else {
+            records_code::clear(out);
+            return Fill::NoRoom;
+        };
+        done += more;
         p = q;
+        i += 1;
     }
-}
-
-// The line from the vertex whose words start at a to the one whose words start at b.
-fn line_between(words: &[i32], a: usize, b: usize) -> Line
-    requires { ⌜ (a + 1 < length (now words)) × (b + 1 < length (now words)) ⌝ }
-    ensures { λ r. ⌜ r ≡ through (vertexAt (now (words .entry)) a) (vertexAt (now (words .entry)) b) ⌝ }
-{
-    Line {
-        x1: words[a],
-        y1: words[a + 1],
-        x2: words[b],
-        y2: words[b + 1],
-    }
-}
-
-// One edge more.
-fn with_line(v: EdgeList, line: Line, rightward: bool) -> EdgeList
-    requires { ⌜ WellFormed v × (v .n < 32) × OnGrid coordinateLimit line ⌝ }
-    ensures { λ r. ⌜ Lengthened v (record { line = line; direction = directionBy rightward } ∷ []) r ⌝ }
-{
-    let n = v.n;
-    let mut list = v.list;
-    list[n] = StoredEdge { line, rightward };
-    EdgeList { n: n + 1, list }
-}
-
-// One edge more, unless its ends have equal x.
-fn with_edge(v: EdgeList, words: &[i32], a: usize, b: usize) -> EdgeList
-    requires { ⌜ TakesEdge v (now words) a b ⌝ }
-    ensures { λ r. ⌜ Lengthened v (edge (vertexAt (now (words .entry)) a) (vertexAt (now (words .entry)) b)) r ⌝ }
-{
-    let x = integer_code::get(words, a);
-    let y = integer_code::get(words, b);
-    if integer_code::less(x, y) {
-        let l = line_between(words, a, b);
-        return with_line(v, l, true);
-    }
-    if integer_code::less(y, x) {
-        let l = line_between(words, b, a);
-        return with_line(v, l, false);
-    }
-    v
-}
-
-// No edges.
-fn no_edges() -> EdgeList
-    ensures { λ r. ⌜ WellFormed r × (r .n ≡ 0) ⌝ }
-{
-    let s = axis_edge();
-    let list = [s; 32];
-    EdgeList { n: 0, list }
-}
-
-// The edges of the polygon whose vertices' coordinates are the words.
-fn edges_of(words: &[i32]) -> EdgeList
-    requires { ⌜ PolygonOnGrid coordinateLimit (polygonOf (now words)) × (length (now words) ≤ 64) ⌝ }
-    ensures { λ r. ⌜ EdgeListOf (polygonOf (now (words .entry))) r ⌝ }
-{
-    let n = words.len();
-    let mut v = no_edges();
-    if n < 2 {
-        return v;
-    }
-    let mut k = 0;
-    while k + 2 + 1 < n {
-        v = with_edge(v, words, k, k + 2);
-        k += 2;
-    }
-    with_edge(v, words, k, 0)
+    Fill::Written(done)
 }
 
 // The trapezoids of the polygon whose vertices' coordinates are the words, at most 32 vertices, written into a blank tail of which `room` records
-// may be filled.
-pub fn fracture_polygon(words: &[i32], limit: u32, out: &mut [i32], room: usize) -> Fill
-    requires { ⌜ PolygonOnGrid limit (polygonOf (now words)) × (limit ≤ coordinateLimit) × (length (now words) ≤ 64) × Borrowed (now out) room ⌝ }
+// may be filled. The events are put into `num`, `den` and `name`.
+pub fn fracture_polygon(
+    words: &[i32],
+    limit: u32,
+    num: &mut [i64],
+    den: &mut [i64],
+    name: &mut [u32],
+    out: &mut [i32],
+    room: usize,
+) -> Fill
+    requires { ⌜ PolygonOnGrid limit (polygonOf (now words)) × (limit ≤ coordinateLimit) × (length (now words) ≤ 64) × Wide (now num) (now den) (now name) × Borrowed (now out) room ⌝ }
     ensures { λ r. ⌜ FilledAs (length (now (out .entry))) room (fracture limit (polygonOf (now (words .entry)))) r (now (out .exit)) ⌝ }
 {
-    let v = edges_of(words);
-    fill_columns(words, v, limit, out, room)
+    let mut lines = [0; 128];
+    let mut terms = [0; 128];
+    let mut numbers = [0; 32];
+    let mut weights = [0; 32];
+    let edges = polygon_edges_code::edges_into(words, &mut lines, &mut terms);
+    let n = stored_events_code::add_events(words, &lines, edges, num, den, name);
+    fill_events(
+        &lines,
+        &terms,
+        edges,
+        limit,
+        num,
+        den,
+        name,
+        n,
+        &mut numbers,
+        &mut weights,
+        out,
+        room,
+    )
 }

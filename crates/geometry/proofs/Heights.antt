@@ -1,11 +1,11 @@
 -- The order of heights at a position, and the order right of it: total, and transitive up to coincidence.
-use mathlib.Core.Path.{_≡_, refl, _∙_, ap}
-use mathlib.Core.Bool.{not}
+use mathlib.Core.Path.{_≡_, refl, sym, _∙_, ap}
+use mathlib.Core.Bool.{Bool, true, false, not}
 use mathlib.Core.Logic.{_⊎_, inl, inr}
 use lib.IntN.{ℤ, pos}
 use lib.Dec.{T, T-not, not-T}
 use lib.Signed.{_≤ℤ_, _<ℤ_}
-use Rattle.lists.proofs.Tests.{yes-or-no}
+use Rattle.lists.proofs.Tests.{true-is, false-is, yes-or-no}
 use Rattle.integer.specs.declared.Ordering.{Ordering}
 use Rattle.integer.specs.declared.Ordering.the-variants.{Less, Equal, Greater}
 use Rattle.integer.specs.Integer.{_⊕_, _⊗_, ⊝_}
@@ -13,12 +13,12 @@ use Rattle.integer.specs.Compare.{orderOf}
 use Rattle.integer.specs.Fraction.{Fraction, Proper}
 use Rattle.integer.proofs.Ring.{ring, _⊞_, _⊟_, _⊠_, con, _≗_}
 use Rattle.integer.proofs.Order.{eq-over, lt→le, antisymm, lt-or-le, weighted-le, weighted-lt, weighted-lt′}
-use Rattle.integer.proofs.Linear.{zarith, minus⁺, minus⁻, neg-lt, neg-zero}
+use Rattle.integer.proofs.Linear.{zarith, minus⁺, minus⁻, neg-lt, neg-gt, neg-zero}
 use Rattle.integer.proofs.Tests.{order-by, order-exact, says-order}
 use Rattle.integer.proofs.Fraction.{cross}
 use Rattle.geometry.specs.declared.Line.{Line}
 use Rattle.geometry.specs.Lines.{IsLine, det, numer}
-use Rattle.geometry.specs.Positions.{gap, heights, thenBy, rightOf, isLess, below}
+use Rattle.geometry.specs.Positions.{gap, heights, thenBy, rightOf, isLess, isGreater, below}
 use Rattle.geometry.specs.Points.{at}
 use Rattle.geometry.proofs.Identities.{dx-positive, gap-chain, det-chain, gap-moves, gap-turn, det-turn}
 
@@ -112,6 +112,43 @@ coincide x l m h k = go (not-below→at-most x l m k) (not-below→at-most x m l
 
 pub right-total : (x : Fraction) (l m : Line) → T (below x l m) ⊎ (((gap l m x ≡ pos 0) × (det l m ≡ pos 0)) ⊎ T (below x m l))
 right-total x l m = elim (yes-or-no (below x l m)) [ inl h ↦ inl h | inr h ↦ elim (yes-or-no (below x m l)) [ inl k ↦ inr (inr k) | inr k ↦ inr (inl (coincide x l m h k)) ] ]
+
+-- ---- `rightOf` by `below`, one way round and the other
+module _ (p : Fraction) (l m : Line) where
+  pub right-less : T (below p l m) → rightOf p l m ≡ Less
+  unfolding below
+  right-less h = go (rightOf p l m) h
+    where
+      go : (o : Ordering) → T (isLess o) → o ≡ Less
+      go Less h = refl
+      go Equal h = absurd h
+      go Greater h = absurd h
+
+  pub right-greater : T (below p m l) → rightOf p l m ≡ Greater
+  right-greater h = go (below→lower p m l h)
+    where
+      go : Lower (gap m l p) (det m l) → rightOf p l m ≡ Greater
+      go (inl g) = right-by p l m Greater (heights-gap p l m ∙ says-order Greater (gap l m p) (pos 0) (neg-gt (gap-turn m l p) g))
+      go (inr g) =
+          right-by p l m Equal (heights-gap p l m ∙ says-order Equal (gap l m p) (pos 0) (neg-zero (gap-turn m l p) (g .0)))
+          ∙ says-order Greater (det l m) (pos 0) (neg-gt (det-turn m l) (g .1))
+
+  pub right-equal : T (not (below p l m)) → T (not (below p m l)) → rightOf p l m ≡ Equal
+  right-equal h k =
+      let c = coincide p l m h k in
+      right-by p l m Equal (heights-gap p l m ∙ says-order Equal (gap l m p) (pos 0) (c .0)) ∙ says-order Equal (det l m) (pos 0) (c .1)
+
+  -- whichever order it is, it tells both tests
+  pub right-tests : (o : Ordering) → rightOf p l m ≡ o → (below p l m ≡ isLess o) × (below p m l ≡ isGreater o)
+  right-tests o e =
+      elim (yes-or-no (below p l m)) [
+        | inl h ↦ at o Less (sym e ∙ right-less h) (true-is h) (false-is (below→not-below p l m h))
+        | inr h ↦
+            elim (yes-or-no (below p m l)) [ inl k ↦ at o Greater (sym e ∙ right-greater k) (false-is h) (true-is k) | inr k ↦ at o Equal (sym e ∙ right-equal h k) (false-is h) (false-is k) ]
+      ]
+    where
+      at : {s t : Bool} (o q : Ordering) → o ≡ q → s ≡ isLess q → t ≡ isGreater q → (s ≡ isLess o) × (t ≡ isGreater o)
+      at o q f a b = (a ∙ ap isLess (sym f), b ∙ ap isGreater (sym f))
 
 -- ---- transitive
 module _ (x : Fraction) (l m k : Line) (hl : IsLine l) (hm : IsLine m) (hk : IsLine k) where

@@ -51,7 +51,7 @@ one-sign-only h k = clashℤ h (lt→le k)
 
 -- ---- the reply by the order of the products, or of the products exchanged
 module _ (p q : Fraction) where
-  agree-positive : pos 0 <ℤ p .den → pos 0 <ℤ q .den → horizontal p q ≡ across (order p q)
+  pub agree-positive : pos 0 <ℤ p .den → pos 0 <ℤ q .den → horizontal p q ≡ across (order p q)
   unfolding horizontal oneSign
   agree-positive h k = rw (no-lt (lt→le h), no-lt (lt→le k))
 

@@ -50,6 +50,11 @@ isLess Less = true
 isLess Equal = false
 isLess Greater = false
 
+abbrev pub isGreater : Ordering → Bool
+isGreater Less = false
+isGreater Equal = false
+isGreater Greater = true
+
 -- l is below m right of x
 unfoldable pub below : Fraction → Line → Line → Bool
 below x l m = isLess (rightOf x l m)

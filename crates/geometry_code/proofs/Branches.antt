@@ -11,17 +11,19 @@ use Rattle.integer.specs.Compare.{orderOf}
 use Rattle.integer.specs.Fraction.{Fraction, Proper, before, root}
 use Rattle.integer.proofs.Fraction.{root-rising}
 use Rattle.geometry.specs.declared.Line.{Line}
+use Rattle.geometry.specs.declared.Coefficients.{Coefficients}
 use Rattle.geometry.specs.declared.Meeting.{Meeting}
 use Rattle.geometry.specs.declared.Position.{Position}
 use Rattle.geometry.specs.declared.Horizontal.{Horizontal}
 use Rattle.geometry.specs.declared.Crossing.{Crossing}
 use Rattle.geometry.specs.declared.Crossing.the-variants.{Nowhere, At}
 use Rattle.geometry.specs.Limit.{coordinateLimit, detBound, numerBound}
+use Rattle.geometry.specs.Lines.{det, numer}
 use Rattle.geometry.specs.Positions.{crosses, ratio, meet, heights, thenBy, rightOf}
 use Rattle.geometry.specs.Standing.{horizontal, isLeft, NotZero}
 use Rattle.geometry.proofs.Meet.{crosses→det, det→crosses}
 use Rattle.geometry.proofs.Standing.{positive-not-zero, left-before, left-root, meet-root}
-use Rattle.geometry_code.specs.Code.{MeetingOf, fractionOf, Comparable, SmallPosition, orderRight, RatioOf, CrossingOf}
+use Rattle.geometry_code.specs.Code.{CoefficientsOf, MeetingBy, MeetingOf, fractionOf, Comparable, SmallPosition, orderRight, RatioOf, CrossingOf}
 
 -- a position that is kept
 pub small-position : {p : Position} → natAbs (p .num .v) ≤ numerBound coordinateLimit → natAbs (p .den .v) ≤ detBound coordinateLimit → Proper (fractionOf p) → SmallPosition p
@@ -31,6 +33,11 @@ small-position n d h = record { comparable = record { num-small = n; den-small =
 pub order-by-heights : (k : Meeting) (x : Fraction) (o : Ordering) → orderOf (x .num ⊗ k .det .v) (k .numer .v ⊗ x .den) ≡ o → orderRight k x ≡ thenBy o (orderOf (k .det .v) (pos 0))
 unfolding orderRight
 order-by-heights k x o e = rw e
+
+-- the meeting of two lines by their numbers
+pub meeting-by : (l m : Line) (a b : Coefficients) (k : Meeting) → CoefficientsOf l a → CoefficientsOf m b → MeetingBy a b k → MeetingOf l m k
+unfolding det numer
+meeting-by l m a b k p q h = record { det = h .det ∙ rw (p .dx, p .dy, q .dx, q .dy); numer = h .numer ∙ rw (p .dx, p .offset, q .dx, q .offset); small = h .small }
 
 pub right-meeting : (l m : Line) (k : Meeting) (x : Fraction) → MeetingOf l m k → orderRight k x ≡ rightOf x l m
 unfolding orderRight rightOf heights

@@ -7,7 +7,7 @@ use lib.IntN.{pos, natAbs}
 use lib.Signed.{_<ℤ_}
 use Rattle.integer.specs.declared.Int.{Int}
 use Rattle.integer.specs.declared.Ordering.{Ordering}
-use Rattle.integer.specs.Integer.{_⊗_}
+use Rattle.integer.specs.Integer.{_⊗_, _⊖_}
 use Rattle.integer.specs.Compare.{orderOf}
 use Rattle.integer.specs.Fraction.{Fraction, Proper}
 use Rattle.geometry.specs.declared.Line.{Line}
@@ -30,19 +30,28 @@ pub record CornersOf (l : Line) (k : Corners) : Type 0 where
   pub x2 : k .x2 .v ≡ l .x2
   pub y2 : k .y2 .v ≡ l .y2
 
+pub record SmallCoefficients (c : Coefficients) : Type 0 where
+  pub dx-small : natAbs (c .dx .v) ≤ 2 * coordinateLimit
+  pub dy-small : natAbs (c .dy .v) ≤ 2 * coordinateLimit
+  pub offset-small : natAbs (c .offset .v) ≤ 2 * (coordinateLimit * coordinateLimit)
+
 -- the three numbers of a line, with their magnitudes
 pub record CoefficientsOf (l : Line) (c : Coefficients) : Type 0 where
   pub dx : c .dx .v ≡ dx l
   pub dy : c .dy .v ≡ dy l
   pub offset : c .offset .v ≡ offset l
-  pub dx-small : natAbs (c .dx .v) ≤ 2 * coordinateLimit
-  pub dy-small : natAbs (c .dy .v) ≤ 2 * coordinateLimit
-  pub offset-small : natAbs (c .offset .v) ≤ 2 * (coordinateLimit * coordinateLimit)
+  pub small : SmallCoefficients c
 
 -- a determinant and a numerator as a comparison takes them
 pub record SmallMeeting (k : Meeting) : Type 0 where
   pub det-small : natAbs (k .det .v) ≤ detBound coordinateLimit
   pub numer-small : natAbs (k .numer .v) ≤ numerBound coordinateLimit
+
+-- the determinant and the numerator by the numbers of two lines (proofs/Branches.antt: `meeting-by`)
+pub record MeetingBy (a b : Coefficients) (k : Meeting) : Type 0 where
+  pub det : k .det .v ≡ a .dy .v ⊗ b .dx .v ⊖ b .dy .v ⊗ a .dx .v
+  pub numer : k .numer .v ≡ a .dx .v ⊗ b .offset .v ⊖ b .dx .v ⊗ a .offset .v
+  pub small : SmallMeeting k
 
 -- the two numbers by which two lines are compared
 pub record MeetingOf (l m : Line) (k : Meeting) : Type 0 where
@@ -76,6 +85,15 @@ RatioOf l m (At p) = T (crosses l m) × (fractionOf p ≡ ratio l m) × Comparab
 abbrev pub CrossingOf : Line → Line → Crossing → Type 0
 CrossingOf l m Nowhere = T (not (crosses l m))
 CrossingOf l m (At p) = T (crosses l m) × (fractionOf p ≡ meet l m) × SmallPosition p
+
+-- of whichever lines have the determinant and the numerator of k
+abbrev pub CrossingBy : Meeting → Crossing → Type 0
+CrossingBy k r = (l m : Line) → MeetingOf l m k → CrossingOf l m r
+
+-- the position can be kept
+abbrev pub SmallCrossing : Crossing → Type 0
+SmallCrossing Nowhere = Unit {0}
+SmallCrossing (At p) = SmallPosition p
 
 pub record PositionOf (b : Base) (p : Position) : Type 0 where
   pub is : fractionOf p ≡ position b

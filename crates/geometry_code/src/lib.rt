@@ -18,10 +18,10 @@ ghost use lib.IntN.{natAbs};
 ghost use Rattle.integer.specs.Integer.{_⊗_};
 ghost use Rattle.integer.specs.Compare.{orderOf};
 ghost use Rattle.geometry.specs.Limit.{coordinateLimit, OnGrid, detBound, numerBound};
-ghost use Rattle.geometry.specs.Positions.{crosses, heights, rightOf, isLess, below};
+ghost use Rattle.geometry.specs.Positions.{crosses, heights, rightOf, isLess, isGreater, below};
 ghost use Rattle.geometry.specs.Standing.{across, oneSign, horizontal, isLeft};
 ghost use Rattle.geometry.specs.Points.{under as underOf};
-ghost use Rattle.geometry_code.specs.Code.{CornersOf, CoefficientsOf, SmallMeeting, MeetingOf, fractionOf, Comparable, SmallPosition, orderRight, RatioOf, CrossingOf, PositionOf, pointOf, SmallPoint};
+ghost use Rattle.geometry_code.specs.Code.{CornersOf, CoefficientsOf, SmallCoefficients, SmallMeeting, MeetingBy, MeetingOf, fractionOf, Comparable, SmallPosition, orderRight, RatioOf, CrossingOf, CrossingBy, SmallCrossing, PositionOf, pointOf, SmallPoint};
 
 pub fn corners_of(l: Line) -> Corners
     ensures { λ r. ⌜ CornersOf l r ⌝ }
@@ -46,13 +46,11 @@ pub fn coefficients_of(l: Line) -> Coefficients
     Coefficients { dx, dy, offset }
 }
 
-// The two lines' determinant and numerator.
-pub fn meeting_of(l: Line, m: Line) -> Meeting
-    requires { ⌜ OnGrid coordinateLimit l × OnGrid coordinateLimit m ⌝ }
-    ensures { λ r. ⌜ MeetingOf l m r ⌝ }
+// The determinant and numerator of two lines, by their numbers.
+pub fn meeting_by(a: Coefficients, b: Coefficients) -> Meeting
+    requires { ⌜ SmallCoefficients a × SmallCoefficients b ⌝ }
+    ensures { λ r. ⌜ MeetingBy a b r ⌝ }
 {
-    let a = coefficients_of(l);
-    let b = coefficients_of(m);
     let p = integer_code::mul(a.dy, b.dx);
     let q = integer_code::mul(b.dy, a.dx);
     let det = integer_code::sub(p, q);
@@ -60,6 +58,16 @@ pub fn meeting_of(l: Line, m: Line) -> Meeting
     let v = integer_code::mul(b.dx, a.offset);
     let numer = integer_code::sub(u, v);
     Meeting { det, numer }
+}
+
+// The same of the lines.
+pub fn meeting_of(l: Line, m: Line) -> Meeting
+    requires { ⌜ OnGrid coordinateLimit l × OnGrid coordinateLimit m ⌝ }
+    ensures { λ r. ⌜ MeetingOf l m r ⌝ }
+{
+    let a = coefficients_of(l);
+    let b = coefficients_of(m);
+    meeting_by(a, b)
 }
 
 // Where two lines cross: their numerator over their determinant, which is of either sign.
@@ -80,12 +88,12 @@ pub fn ratio_of(l: Line, m: Line) -> Crossing
     }
 }
 
-// The same with a positive denominator, for a position that is kept or that heights are taken at.
-pub fn crossing_of(l: Line, m: Line) -> Crossing
-    requires { ⌜ OnGrid coordinateLimit l × OnGrid coordinateLimit m ⌝ }
-    ensures { λ r. ⌜ CrossingOf l m r ⌝ }
+// The same with a positive denominator, for a position that is kept or that heights are taken at, by the lines' determinant and numerator.
+pub fn crossing_by(k: Meeting) -> Crossing
+    requires { ⌜ SmallMeeting k ⌝ }
+    ensures { λ r. ⌜ CrossingBy k r ⌝ }
+    ensures small { λ r. ⌜ SmallCrossing r ⌝ }
 {
-    let k = meeting_of(l, m);
     let det = k.det;
     let numer = k.numer;
     let zero = integer_code::of(0);
@@ -103,6 +111,15 @@ pub fn crossing_of(l: Line, m: Line) -> Crossing
         return Crossing::At(p);
     }
     Crossing::Nowhere
+}
+
+// The same of the lines.
+pub fn crossing_of(l: Line, m: Line) -> Crossing
+    requires { ⌜ OnGrid coordinateLimit l × OnGrid coordinateLimit m ⌝ }
+    ensures { λ r. ⌜ CrossingOf l m r ⌝ }
+{
+    let k = meeting_of(l, m);
+    crossing_by(k)
 }
 
 // The position of a base whose lines cross.
@@ -229,6 +246,16 @@ pub fn under(l: Line, x: Int, y: Int, d: Int) -> bool
     let orientation = integer_code::sub(u, c);
     let zero = integer_code::of(0);
     integer_code::at_most(zero, orientation)
+}
+
+pub fn is_greater(a: Ordering) -> bool
+    ensures { λ r. ⌜ r ≡ isGreater a ⌝ }
+{
+    match a {
+        Ordering::Less => false,
+        Ordering::Equal => false,
+        Ordering::Greater => true,
+    }
 }
 
 pub fn is_less(a: Ordering) -> bool

@@ -114,3 +114,20 @@ pub fn put(s: &mut [i32], i: usize, a: Int)
     let x = narrow(a);
     s[i] = x;
 }
+
+// The same of a slice of 64-bit numbers.
+pub fn get_number(s: &[i64], i: usize) -> Int
+    requires { ⌜ i < length (now s) ⌝ }
+    ensures { λ r. ⌜ r .v ≡ getD (now (s .entry)) i (pos 0) ⌝ }
+{
+    let x = s[i];
+    of(x)
+}
+
+pub fn put_number(s: &mut [i64], i: usize, a: Int)
+    requires { ⌜ i < length (now s) ⌝ }
+    ensures { λ _. ⌜ now (s .exit) ≡ set (now (s .entry)) i (a .v) ⌝ }
+{
+    let x = a.v;
+    s[i] = x;
+}

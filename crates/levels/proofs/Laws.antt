@@ -32,7 +32,7 @@ module _ {A : Type 0} (less : A → A → Bool) where
       go false false before after level = level (tt, tt)
 
   -- ---- for any test: what holds of each element of the list holds of each of its levels
-  insert-all : (P : A → Type 0) (x : A) (ys : List A) → P x → All P ys → All P (insert less x ys)
+  pub insert-all : (P : A → Type 0) (x : A) (ys : List A) → P x → All P ys → All P (insert less x ys)
   unfolding insert
   insert-all P x [] p h = (p, tt)
   insert-all P x (y ∷ ys) p h = let k = insert-all P x ys p (h .1) in insert-cases (All P) x y ys (λ b. (p, h)) (λ a. (h .0, k)) (λ l. (p, h .1))

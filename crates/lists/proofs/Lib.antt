@@ -8,3 +8,4 @@ pub mod Counts
 pub mod Parts
 pub mod Fill
 pub mod Each
+pub mod Sets

@@ -1,3 +1,1 @@
 pub mod Window
-pub mod EventArray
-pub mod NextEvent

@@ -1,18 +1,21 @@
 -- The overlap test, branch by branch as the functions take it.
-use mathlib.Core.Path.{_≡_, subst}
+use mathlib.Core.Path.{_≡_, refl, sym, _∙_, ap, subst}
 use mathlib.Core.Bool.{Bool, true, false, _&&_}
 use Rattle.integer.specs.Fraction.{Fraction, before}
 use Rattle.geometry.specs.declared.Line.{Line}
 use Rattle.geometry.specs.declared.Base.{Base}
 use Rattle.geometry.specs.declared.Trapezoid.{Trapezoid}
-use Rattle.geometry.specs.Positions.{crosses, position, below}
+use Rattle.geometry.specs.declared.Meeting.{Meeting}
+use Rattle.geometry.specs.Positions.{crosses, position, isLess, isGreater, below}
 use Rattle.geometry.specs.declared.Position.{Position}
 use Rattle.geometry.specs.declared.Crossing.{Crossing}
 use Rattle.geometry.specs.declared.Crossing.the-variants.{Nowhere, At}
 use Rattle.geometry.specs.Ranges.{crossing, commonLeft, commonRight}
 use Rattle.overlay.specs.Overlaps.{crossesInCommon, overlapRight, overlapFrom, overlaps}
-use Rattle.geometry_code.specs.Code.{PositionOf}
-use Rattle.overlaps_code.specs.Code.{crossBetween, CrossingBetween}
+use Rattle.geometry.proofs.Heights.{right-tests}
+use Rattle.geometry_code.specs.Code.{PositionOf, orderRight}
+use Rattle.geometry_code.proofs.Branches.{right-meeting}
+use Rattle.overlaps_code.specs.Code.{crossBetween, CrossingBetween, Opposed}
 
 -- ---- the overlap test
 module _ (A B : Trapezoid) (p : Fraction) where
@@ -23,6 +26,15 @@ module _ (A B : Trapezoid) (p : Fraction) where
   pub right-no : below p (A .bottom) (B .top) ≡ false → false ≡ overlapRight A B p
   unfolding overlapRight
   right-no e = rw e
+
+-- by the meetings
+module _ (A B : Trapezoid) (m k : Meeting) (p : Fraction) (h : Opposed A B m k) where
+  pub right-first : {r : Bool} → r ≡ isLess (orderRight m p) → below p (A .bottom) (B .top) ≡ r
+  unfolding below
+  right-first e = sym (e ∙ ap isLess (right-meeting (A .bottom) (B .top) m p (h .bottom-top)))
+
+  pub right-second : {r : Bool} → r ≡ isGreater (orderRight k p) → r ≡ below p (B .bottom) (A .top)
+  right-second e = e ∙ ap isGreater (right-meeting (A .top) (B .bottom) k p (h .top-bottom)) ∙ sym (right-tests p (A .top) (B .bottom) _ refl .1)
 
 -- ---- where two lines cross, against two positions
 module _ (lo hi : Fraction) (k : Base) where

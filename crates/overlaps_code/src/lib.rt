@@ -1,40 +1,34 @@
-// Whether two trapezoids overlap, and the events of their overlay (paper 01: pair cut).
-use geometry::Base;
+// Whether two trapezoids overlap (paper 01: pair cut), by where their sides meet.
 use geometry::Crossing;
 use geometry::Line;
+use geometry::Meeting;
 use geometry::Placed;
 use geometry::Position;
-use geometry::Trapezoid;
-use overlay::EventList;
-use sweep::Event;
 ghost use mathlib.Core.Path.{_≡_};
-ghost use mathlib.Core.Bool.{_&&_};
 ghost use Rattle.geometry.specs.Limit.{coordinateLimit, OnGrid};
-ghost use Rattle.geometry.specs.Positions.{position};
-ghost use Rattle.geometry.specs.Fitness.{FitFor};
-ghost use Rattle.geometry.specs.Ranges.{crossing};
-ghost use Rattle.overlay.specs.Overlaps.{overlapRight, overlaps};
-ghost use Rattle.geometry_code.specs.Code.{fractionOf, SmallPosition};
+ghost use Rattle.overlay.specs.Overlaps.{overlaps};
+ghost use Rattle.geometry_code.specs.Code.{fractionOf, SmallMeeting, SmallPosition, SmallCrossing};
 ghost use Rattle.trapezoids_code.specs.Placed.{Pair};
-ghost use Rattle.overlaps_code.specs.Code.{crossBetween, CrossingBetween, rightOrAny, WellPlaced, AllEvents, positionsOf, SomeStandAt, NextNumber};
+ghost use Rattle.overlaps_code.specs.Code.{CrossingBetween, MeetingBetween, OverlapRightBy, OverlapFromBy, OverlapsBy};
 
-// Right of a position each bottom is below the other's top.
-fn overlap_right(a: Trapezoid, b: Trapezoid, p: Position) -> bool
-    requires { ⌜ FitFor coordinateLimit a × FitFor coordinateLimit b × SmallPosition p ⌝ }
-    ensures { λ r. ⌜ r ≡ overlapRight a b (fractionOf p) ⌝ }
+// Right of a position each bottom is below the other's top. m: the first one's bottom with the other's top; k: its top with the other's bottom.
+fn overlap_right(m: Meeting, k: Meeting, p: Position) -> bool
+    requires { ⌜ SmallMeeting m × SmallMeeting k × SmallPosition p ⌝ }
+    ensures { λ r. ⌜ OverlapRightBy m k (fractionOf p) r ⌝ }
 {
-    if geometry_code::is_below(a.bottom, b.top, p) {
-        return geometry_code::is_below(b.bottom, a.top, p);
+    if geometry_code::is_less(geometry_code::order_right(m, p)) {
+        return geometry_code::is_greater(geometry_code::order_right(k, p));
     }
     false
 }
 
-// Where two lines cross strictly between two positions; `Nowhere` if they do not.
-pub fn crossing_between(l: Line, m: Line, lo: Position, hi: Position) -> Crossing
-    requires { ⌜ OnGrid coordinateLimit l × OnGrid coordinateLimit m × SmallPosition lo × SmallPosition hi ⌝ }
-    ensures { λ r. ⌜ CrossingBetween (fractionOf lo) (fractionOf hi) l m r ⌝ }
+// Where two lines with this meeting cross strictly between two positions; `Nowhere` if they do not.
+pub fn meeting_between(k: Meeting, lo: Position, hi: Position) -> Crossing
+    requires { ⌜ SmallMeeting k × SmallPosition lo × SmallPosition hi ⌝ }
+    ensures { λ r. ⌜ MeetingBetween (fractionOf lo) (fractionOf hi) k r ⌝ }
+    ensures small { λ r. ⌜ SmallCrossing r ⌝ }
 {
-    let c = geometry_code::crossing_of(l, m);
+    let c = geometry_code::crossing_by(k);
     let Crossing::At(p) = c else {
         return Crossing::Nowhere;
     };
@@ -46,16 +40,39 @@ pub fn crossing_between(l: Line, m: Line, lo: Position, hi: Position) -> Crossin
     Crossing::Nowhere
 }
 
-// The two lines cross strictly inside the common range, and right of there the trapezoids overlap.
-fn overlap_from(a: Trapezoid, b: Trapezoid, l: Line, m: Line, lo: Position, hi: Position) -> bool
-    requires { ⌜ FitFor coordinateLimit a × FitFor coordinateLimit b × OnGrid coordinateLimit l × OnGrid coordinateLimit m × SmallPosition lo × SmallPosition hi ⌝ }
-    ensures { λ r. ⌜ r ≡ crossBetween (fractionOf lo) (fractionOf hi) (crossing l m) && overlapRight a b (position (crossing l m)) ⌝ }
+// The same of the lines.
+pub fn crossing_between(l: Line, m: Line, lo: Position, hi: Position) -> Crossing
+    requires { ⌜ OnGrid coordinateLimit l × OnGrid coordinateLimit m × SmallPosition lo × SmallPosition hi ⌝ }
+    ensures { λ r. ⌜ CrossingBetween (fractionOf lo) (fractionOf hi) l m r ⌝ }
 {
-    let c = crossing_between(l, m, lo, hi);
+    let k = geometry_code::meeting_of(l, m);
+    meeting_between(k, lo, hi)
+}
+
+// The lines of the meeting j cross strictly between two positions, and right of there the trapezoids overlap.
+fn overlap_from(m: Meeting, k: Meeting, j: Meeting, lo: Position, hi: Position) -> bool
+    requires { ⌜ SmallMeeting m × SmallMeeting k × SmallMeeting j × SmallPosition lo × SmallPosition hi ⌝ }
+    ensures { λ r. ⌜ OverlapFromBy m k j (fractionOf lo) (fractionOf hi) r ⌝ }
+{
+    let c = meeting_between(j, lo, hi);
     let Crossing::At(p) = c else {
         return false;
     };
-    overlap_right(a, b, p)
+    overlap_right(m, k, p)
+}
+
+// Whether two trapezoids with a common range from lo to hi overlap, by the same meetings.
+pub fn overlapping_by(m: Meeting, k: Meeting, lo: Position, hi: Position) -> bool
+    requires { ⌜ SmallMeeting m × SmallMeeting k × SmallPosition lo × SmallPosition hi ⌝ }
+    ensures { λ r. ⌜ OverlapsBy m k (fractionOf lo) (fractionOf hi) r ⌝ }
+{
+    if overlap_right(m, k, lo) {
+        return true;
+    }
+    if overlap_from(m, k, m, lo, hi) {
+        return true;
+    }
+    overlap_from(m, k, k, lo, hi)
 }
 
 // Whether a rational point lies in both trapezoids.
@@ -68,138 +85,9 @@ pub fn overlapping(a: Placed, b: Placed) -> bool
     if geometry_code::is_left(geometry_code::compare(lo, hi)) {
         let s = a.shape;
         let t = b.shape;
-        if overlap_right(s, t, lo) {
-            return true;
-        }
-        if overlap_from(s, t, s.bottom, t.top, lo, hi) {
-            return true;
-        }
-        return overlap_from(s, t, s.top, t.bottom, lo, hi);
+        let m = geometry_code::meeting_of(s.bottom, t.top);
+        let k = geometry_code::meeting_of(s.top, t.bottom);
+        return overlapping_by(m, k, lo, hi);
     }
     false
-}
-
-// The bases, and the crossings strictly inside the common range.
-pub fn events_of(a: Placed, b: Placed) -> EventList
-    requires { ⌜ Pair a b ⌝ }
-    ensures { λ r. ⌜ AllEvents a b r ⌝ }
-{
-    let lo = trapezoids_code::common_left(a, b);
-    let hi = trapezoids_code::common_right(a, b);
-    let s = a.shape;
-    let t = b.shape;
-    let al = sweep_code::event_at(s.left, a.left);
-    let ar = sweep_code::event_at(s.right, a.right);
-    let bl = sweep_code::event_at(t.left, b.left);
-    let br = sweep_code::event_at(t.right, b.right);
-    let mut list = [al, ar, bl, br, al, al, al, al];
-    let mut n = 4;
-    let a_bottom = s.bottom;
-    let a_top = s.top;
-    let b_bottom = t.bottom;
-    let b_top = t.top;
-    match crossing_between(a_bottom, b_bottom, lo, hi) {
-        Crossing::At(at) => {
-            let base = Base {
-                first: a_bottom,
-                second: b_bottom,
-            };
-            list[n] = Event { base, at };
-            n += 1;
-        }
-        Crossing::Nowhere => {}
-    }
-    match crossing_between(a_bottom, b_top, lo, hi) {
-        Crossing::At(at) => {
-            let base = Base {
-                first: a_bottom,
-                second: b_top,
-            };
-            list[n] = Event { base, at };
-            n += 1;
-        }
-        Crossing::Nowhere => {}
-    }
-    match crossing_between(a_top, b_bottom, lo, hi) {
-        Crossing::At(at) => {
-            let base = Base {
-                first: a_top,
-                second: b_bottom,
-            };
-            list[n] = Event { base, at };
-            n += 1;
-        }
-        Crossing::Nowhere => {}
-    }
-    match crossing_between(a_top, b_top, lo, hi) {
-        Crossing::At(at) => {
-            let base = Base {
-                first: a_top,
-                second: b_top,
-            };
-            list[n] = Event { base, at };
-            n += 1;
-        }
-        Crossing::Nowhere => {}
-    }
-    EventList { n, list }
-}
-
-// Whether position p is right of position g, or anywhere where nothing has been started.
-fn eligible(started: bool, g: Position, p: Position) -> bool
-    requires { ⌜ SmallPosition g × SmallPosition p ⌝ }
-    ensures { λ r. ⌜ r ≡ rightOrAny started (fractionOf g) (fractionOf p) ⌝ }
-{
-    if started {
-        return geometry_code::is_left(geometry_code::compare(g, p));
-    }
-    true
-}
-
-// Where the events are.
-pub fn positions_of(v: EventList) -> [Position; 8]
-    requires { ⌜ WellPlaced v ⌝ }
-    ensures { λ r. ⌜ r ≡ positionsOf (v .list) ⌝ }
-{
-    let e0 = v.list[0];
-    let e1 = v.list[1];
-    let e2 = v.list[2];
-    let e3 = v.list[3];
-    let e4 = v.list[4];
-    let e5 = v.list[5];
-    let e6 = v.list[6];
-    let e7 = v.list[7];
-    let p0 = e0.at;
-    let p1 = e1.at;
-    let p2 = e2.at;
-    let p3 = e3.at;
-    let p4 = e4.at;
-    let p5 = e5.at;
-    let p6 = e6.at;
-    let p7 = e7.at;
-    [p0, p1, p2, p3, p4, p5, p6, p7]
-}
-
-// The number of the first event right of g in the order of positions, or of the first of all where nothing has been started; 8 where there is none.
-pub fn next_event(at: [Position; 8], n: usize, started: bool, g: Position) -> usize
-    requires { ⌜ SomeStandAt at n g ⌝ }
-    ensures { λ r. ⌜ NextNumber at n started g r ⌝ }
-{
-    let mut best = 8;
-    let mut i = 0;
-    while i < n {
-        let p = at[i];
-        if eligible(started, g, p) {
-            if best == 8 {
-                best = i;
-            } else {
-                let b = at[best];
-                if geometry_code::is_left(geometry_code::compare(p, b)) {
-                    best = i;
-                }
-            }
-        }
-        i += 1;
-    }
-    best
 }

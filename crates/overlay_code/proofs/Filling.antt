@@ -1,23 +1,19 @@
 -- The columns filled from left to right: what holds before each event, that a turn keeps it, and what it says at each way out.
 use mathlib.Core.Path.{_≡_, refl, sym, _∙_, ap, subst}
 use mathlib.Core.Bool.{Bool, true, false, cond}
-use mathlib.Core.List.{List, [], _∷_, _++_}
+use mathlib.Core.List.{List, [], _∷_, _++_, map}
 use mathlib.Core.Logic.{inl, inr}
-use mathlib.Core.Option.{Option, none, some}
-use Prim.Native.Nat.{ℕ, zero, suc, _+_, _*_, _-_, _<_, _≤_}
+use Prim.Native.Nat.{ℕ, zero, suc, _+_, _*_, _-_, _<_, _≤_, zero-le}
 use native.Mathlib.Omega.{arith}
-use lib.Dec.{eqb, eqb·zero-suc, eqb·suc-zero, eqb·suc-suc, eqb→eq, not-T}
-use lib.ListN.{length, getD}
-use lib.IntN.{ℤ}
+use native.Mathlib.Numerals.{add-one}
+use lib.Dec.{eqb, eqb·zero-suc, eqb·suc-zero, eqb·suc-suc}
+use lib.ListN.{length, getD, drop, length-drop}
+use lib.IntN.{ℤ, pos}
 use borrow.Rule.Slice.PartMut.{putMid}
-use Rattle.lists.specs.Lists.{All}
-use Rattle.lists.proofs.Tests.{false-is}
+use Rattle.integer.specs.declared.Int.{Int}
 use Rattle.integer.specs.Fraction.{Fraction, Proper}
 use Rattle.records.specs.Limits.{memoryWidth}
-use Rattle.levels.specs.Levels.{IfSome, levels, next, scan}
-use Rattle.levels.proofs.Next.{beyond, next-all}
-use Rattle.levels.proofs.Walk.{next-some}
-use Rattle.levels.proofs.Scan.{scan-is-next}
+use Rattle.levels.specs.Levels.{levels}
 use Rattle.geometry.specs.declared.Base.{Base}
 use Rattle.geometry.specs.declared.Position.{Position}
 use Rattle.geometry.specs.declared.Trapezoid.{Trapezoid}
@@ -27,39 +23,25 @@ use Rattle.geometry.specs.Positions.{position}
 use Rattle.geometry.specs.declared.Fill.{Fill}
 use Rattle.geometry.specs.declared.Fill.the-variants.{NoRoom, Written}
 use Rattle.sweep.specs.Segments.{Segment, spanning}
-use Rattle.sweep.specs.Sweep.{earlier}
-use Rattle.sweep.specs.declared.Event.{Event}
-use Rattle.sweep.specs.declared.Next.the-variants.{Found}
-use Rattle.sweep.proofs.Sweep.{Placed, placed-order}
-use Rattle.sweep.proofs.Loop.{from, sweep-none, sweep-start, sweep-turn, sweep-stop}
-use Rattle.overlay.specs.declared.EventList.{EventList}
+use Rattle.sweep.specs.Sweep.{earlier, columns}
 use Rattle.overlay.specs.declared.Column.{Column}
+use Rattle.overlay.specs.declared.Orders.{Orders}
 use Rattle.overlay.specs.Overlaps.{overlaps}
-use Rattle.overlay.specs.Overlay.{Part, sides, overlayEvents, inRange, parts, subdivision, overlay, tagged}
-use Rattle.overlay.proofs.Events.{complete}
+use Rattle.overlay.specs.Overlay.{Part, sides, inRange, parts, subdivision, overlay, tagged}
 use Rattle.geometry_code.specs.Code.{fractionOf, PositionOf}
+use Rattle.geometry_code.proofs.Branches.{small-position}
 use Rattle.trapezoids_code.specs.Tails.{inFront, Borrowed, FilledAs}
-use Rattle.trapezoids_code.proofs.Writing.{tail, fill-nothing, Writing, write-start, write-stop, write-full, write-upto, write-turn}
-use Rattle.sweep_code.specs.Events.{NextAmong, EventOf, optionOf, NextPlaced, after}
-use Rattle.overlaps_code.specs.Code.{positionsOf, namesOf, WellPlaced, eventNumbered, StandAt, NextNumber}
-use Rattle.overlaps_code.proofs.NextEvent.{chosen-none, chosen-at}
+use Rattle.trapezoids_code.proofs.Writing.{tail, Writing, write-start, write-stop, write-full, write-upto, write-turn}
+use Rattle.sorting_code.specs.Entries.{stored, Stands}
+use Rattle.sorting_code.proofs.Naming.{holds-at, names-length, names-at}
+use Rattle.overlay_events_code.specs.Events.{named, entryName, EventsWithin, Eight}
 use Rattle.columns_code.specs.Order.{sideNumbers, HasSides, strips, orderAt}
-use Rattle.columns_code.specs.Code.{ColumnAt, FourSides}
+use Rattle.columns_code.specs.Code.{OrdersAt, ColumnAt, FourSides}
 use Rattle.columns_code.proofs.NumberOrder.{order-members}
 use Rattle.columns_code.proofs.Network.{network-exact}
-use Rattle.overlay_code.specs.Code.{outsideFor}
-use Rattle.overlay_code.proofs.Strips.{strips-exact}
-use Rattle.overlay_code.proofs.Ranges.{strips-outside}
-
-tagged-append : (n : ℕ) (ss ts : List Part) → tagged n (ss ++ ts) ≡ tagged n ss ++ tagged n ts
-unfolding tagged
-tagged-append n [] ts = refl
-tagged-append n (s ∷ ss) ts = go (eqb (s .tag) n) (tagged-append n ss ts)
-  where
-    go : (b : Bool) → tagged n (ss ++ ts) ≡ tagged n ss ++ tagged n ts
-        → cond b (s .trapezoid ∷ tagged n (ss ++ ts)) (tagged n (ss ++ ts)) ≡ cond b (s .trapezoid ∷ tagged n ss) (tagged n ss) ++ tagged n ts
-    go true e = ap (λ (us : List Trapezoid). s .trapezoid ∷ us) e
-    go false e = e
+use Rattle.overlay_code.specs.Code.{ofFirst, columnsOf, Standing, Ranged}
+use Rattle.strips_code.proofs.Strips.{strips-exact}
+use Rattle.overlay_code.proofs.Within.{tagged-append, neither, overlap-wide, within-enough, within-ranged}
 
 -- ---- the order of a column
 pub first-four : FourSides sideNumbers
@@ -73,163 +55,117 @@ module _ {A B : Trapezoid} (ha : FitFor coordinateLimit A) (hb : FitFor coordina
       record { long = ap length (h .order) ∙ l; all = subst HasSides (sym (h .order)) (order-members ha hb x (c .in_a) (c .in_b)) }
 
 -- ---- the events
-module _ (A B : Trapezoid) where
-  -- what is left to fill from the event k on
-  abbrev pub rest : Base → List Part
-  rest k = from (λ (s : Segment). s) position (parts A B) (sides A B) (overlayEvents A B) k
+module _ {A B : Trapezoid} {n : ℕ} {a b : List ℤ} {c : List ℕ} (h : Standing A B n a b c) where
+  abbrev pub bases : List Base
+  bases = map (entryName A B) (stored n a b c)
 
-  -- how many events are left after k
-  abbrev pub left : Base → ℕ
-  left k = length (beyond (earlier position) (some k) (levels (earlier position) (overlayEvents A B)))
+  pub bases-length : length bases ≡ n
+  bases-length = names-length n a b c (h .nums) (h .dens) (h .names) (entryName A B)
 
-  abbrev divide : Base → List Segment
-  divide k = spanning (λ (s : Segment). s) (position k) (sides A B)
+  -- event number i
+  pub event-at : (i : ℕ) → i < n → (x y : Int) → x .v ≡ getD a i (pos 0) → y .v ≡ getD b i (pos 0) → PositionOf (named A B (getD c i 0)) (record { num = x; den = y })
+  event-at i l x y ex ey =
+      let s = holds-at n a b c (h .nums) (h .dens) (h .names) (Stands position (entryName A B)) (h .stand) i l in
+      record {
+        is = (λ j. record { num = ex j; den = ey j }) ∙ s .is;
+        small = small-position (rw ex (s .small .num-small)) (rw ey (s .small .den-small)) (rw ey (s .small .proper));
+      }
 
-pub stand : {v : EventList} → WellPlaced v → {at : List Position} → at ≡ positionsOf (v .list) → {k : Base} {g : Position} → PositionOf k g
-    → StandAt v (record { base = k; at = g }) at (v .n) g
-stand well each q = record { well = well; count = refl; each = each; event = q; here = refl }
+  -- the column from event number i to the next
+  pub column-next : (i : ℕ) → i + 1 < n
+      → columnsOf A B (drop i bases) ≡ parts A B (named A B (getD c i 0)) (named A B (getD c (i + 1) 0)) (spanning (λ (s : Segment). s) (position (named A B (getD c i 0))) (sides A B)) ++ columnsOf A B (drop (i + 1) bases)
+  unfolding columns
+  column-next i l =
+      let next = names-at n a b c (h .nums) (h .dens) (h .names) (entryName A B) in
+      let here : drop i bases ≡ named A B (getD c i 0) ∷ drop (i + 1) bases = rw add-one (next i (omega arith)) in
+      let there = next (i + 1) l in
+      ap (columnsOf A B) (here ∙ ap (λ (ks : List Base). named A B (getD c i 0) ∷ ks) there) ∙ ap (λ (ks : List Base). parts A B (named A B (getD c i 0)) (named A B (getD c (i + 1) 0)) (spanning (λ (s : Segment). s) (position (named A B (getD c i 0))) (sides A B)) ++ columnsOf A B ks) (sym there)
 
-module _ {A B : Trapezoid} (ha : FitFor coordinateLimit A) (hb : FitFor coordinateLimit B)
-    {v : EventList} (well : WellPlaced v) (names : namesOf v ≡ overlayEvents A B) {at : List Position} (each : at ≡ positionsOf (v .list)) where
-  proper : All (Placed position) (overlayEvents A B)
-  proper = complete ha hb .proper
-
-  -- the event with number r, the next one right of k, at g, or of all
-  module _ {k : Base} {g : Position} (q : PositionOf k g) {started : Bool} {r : ℕ} (h : NextNumber at (v .n) started g r) where
-    abbrev right : Option Base
-    right = after started (record { base = k; at = g })
-
-    among : NextAmong (namesOf v) right (eventNumbered v r)
-    among = h .is v (record { base = k; at = g }) (stand well each q)
-
-    next-is : next (earlier position) right (overlayEvents A B) ≡ optionOf (eventNumbered v r)
-    next-is =
-        sym (among .is ∙ ap (scan (earlier position) none right) names ∙ scan-is-next (earlier position) (Placed position) (placed-order position) right (overlayEvents A B) proper)
-
-    next-none : r ≡ 8 → next (earlier position) right (overlayEvents A B) ≡ none
-    next-none e = next-is ∙ ap optionOf (chosen-none v well r e)
-
-    module _ (u : r ≡ 8 → ⊥) (d : Event) where
-      is-found : eventNumbered v r ≡ Found (getD (v .list) r d)
-      is-found = chosen-at v well r d (omega (arith, h .upto, u))
-
-      next-found : next (earlier position) right (overlayEvents A B) ≡ some (getD (v .list) r d .base)
-      next-found = next-is ∙ ap optionOf is-found
-
-      pub found-event : EventOf (getD (v .list) r d)
-      found-event = subst NextPlaced is-found (among .placed)
-
-      pub found-proper : Proper (position (getD (v .list) r d .base))
-      found-proper = subst (IfSome (Placed position)) next-found (next-all (earlier position) (Placed position) right (overlayEvents A B) proper)
-
-  -- the first event, or none at all
-  module _ {k : Base} {g : Position} (q : PositionOf k g) {r : ℕ} (h : NextNumber at (v .n) false g r) where
-    pub no-event : r ≡ 8 → subdivision A B ≡ []
-    unfolding subdivision
-    no-event e = sweep-none (λ (s : Segment). s) position (parts A B) (sides A B) (overlayEvents A B) proper (next-none q h e)
-
-    pub first-event : (r ≡ 8 → ⊥) → (d : Event) → subdivision A B ≡ rest A B (getD (v .list) r d .base)
-    unfolding subdivision
-    first-event u d = sweep-start (λ (s : Segment). s) position (parts A B) (sides A B) (overlayEvents A B) proper (getD (v .list) r d .base) (next-found q h u d)
-
-  -- the event after k, or none
-  module _ {k : Base} {g : Position} (q : PositionOf k g) (hk : Proper (position k)) {r : ℕ} (h : NextNumber at (v .n) true g r) where
-    pub last-event : r ≡ 8 → rest A B k ≡ []
-    last-event e = sweep-stop (λ (s : Segment). s) position (parts A B) (sides A B) (overlayEvents A B) proper k hk (next-none q h e)
-
-    module _ (u : r ≡ 8 → ⊥) (d : Event) where
-      abbrev later : Base
-      later = getD (v .list) r d .base
-
-      pub later-event : rest A B k ≡ parts A B k later (divide A B k) ++ rest A B later
-      later-event = sweep-turn (λ (s : Segment). s) position (parts A B) (sides A B) (overlayEvents A B) proper k later hk (next-found q h u d)
-
-      pub fewer : left A B later < left A B k
-      fewer =
-          let e = ap length (next-some (earlier position) (placed-order position) (some k) (overlayEvents A B) later hk proper (next-found q h u d)) in
-          omega (arith, e)
+few-columns : (A B : Trapezoid) (ks : List Base) → length ks ≤ 1 → columnsOf A B ks ≡ []
+unfolding columns
+few-columns A B [] l = refl
+few-columns A B (k ∷ []) l = refl
+few-columns A B (k ∷ m ∷ ks) l = absurd (omega arith)
 
 -- ---- the loop
--- before the event p, with the column c left of it: n trapezoids stand in out, which has W words
-pub record Filling (A B : Trapezoid) (tag W room : ℕ) (out : List ℤ) (p : Event) (c : Column) (n : ℕ) : Type 0 where
-  pub writing : Writing W room (tagged tag (subdivision A B)) (tagged tag (rest A B (p .base))) out n
-  pub event : EventOf p
-  pub proper : Proper (position (p .base))
-  pub four : FourSides (c .order)
+-- before the event with number i of n, with the order of the column left of it: k trapezoids stand in out, which has W words
+pub record Filling (A B : Trapezoid) (tag W room n : ℕ) (a b : List ℤ) (c : List ℕ) (out : List ℤ) (order : List ℕ) (k i : ℕ) : Type 0 where
+  pub writing : Writing W room (tagged tag (columnsOf A B (map (entryName A B) (stored n a b c)))) (tagged tag (columnsOf A B (drop i (map (entryName A B) (stored n a b c))))) out k
+  pub four : FourSides order
+  pub within : i ≤ n
+  pub ranged : Ranged A (drop i (map (entryName A B) (stored n a b c)))
 
-module _ (A B : Trapezoid) (tag room : ℕ) (out : List ℤ) (h : Borrowed out room) where
-  -- nothing to fill
-  pub fill-none : subdivision A B ≡ [] → FilledAs (length out) room (tagged tag (subdivision A B)) (Written 0) out
-  fill-none e = rw e (unfold tagged in fill-nothing out room h)
+pub fill-start : (A B : Trapezoid) (tag room n : ℕ) (a b : List ℤ) (c : List ℕ) (out : List ℤ) → Borrowed out room → Ranged A (map (entryName A B) (stored n a b c)) → Filling A B tag (length out) room n a b c out sideNumbers 0 0
+fill-start A B tag room n a b c out h r = record { writing = write-start (tagged tag (columnsOf A B (map (entryName A B) (stored n a b c)))) out room h; four = first-four; within = zero-le; ranged = r }
 
-  pub fill-start : (p : Event) (c : Column) → subdivision A B ≡ rest A B (p .base) → EventOf p → Proper (position (p .base)) → FourSides (c .order) → Filling A B tag (length out) room out p c 0
-  fill-start p c e ev pr fo =
-      record {
-        writing = subst (λ (ts : List Part). Writing (length out) room (tagged tag (subdivision A B)) (tagged tag ts) out 0) e (write-start (tagged tag (subdivision A B)) out room h);
-        event = ev;
-        proper = pr;
-        four = fo;
-      }
+module _ {A B : Trapezoid} (ha : FitFor coordinateLimit A) (hb : FitFor coordinateLimit B) {tag : ℕ} (ht : 1 ≤ tag) {W room n : ℕ} {a b : List ℤ} {c : List ℕ} {out : List ℤ} {order : List ℕ} {k i : ℕ}
+    (s : Standing A B n a b c) (h : Filling A B tag W room n a b c out order k i) where
+  pub fill-stop : n ≤ i + 1 → FilledAs W room (tagged tag (columnsOf A B (bases s))) (Written k) out
+  fill-stop l =
+      write-stop (h .writing)
+      (ap (tagged tag) (few-columns A B (drop i (bases s)) (let e = length-drop i (bases s) in omega (arith, e, bases-length s))) ∙ (unfold tagged in refl))
 
-module _ {A B : Trapezoid} (ha : FitFor coordinateLimit A) (hb : FitFor coordinateLimit B) {tag : ℕ} (ht : 1 ≤ tag) {W room : ℕ} {out : List ℤ} {p : Event} {c : Column} {n : ℕ}
-    (h : Filling A B tag W room out p c n) where
-  pub fill-stop : rest A B (p .base) ≡ [] → FilledAs W room (tagged tag (subdivision A B)) (Written n) out
-  fill-stop e = write-stop (h .writing) (ap (tagged tag) e ∙ (unfold tagged in refl))
+  -- the event lies in the range of A
+  here-next : i + 1 < n → drop i (bases s) ≡ named A B (getD c i 0) ∷ named A B (getD c (i + 1) 0) ∷ drop (suc (i + 1)) (bases s)
+  here-next l =
+      let next = names-at n a b c (s .nums) (s .dens) (s .names) (entryName A B) in
+      let here : drop i (bases s) ≡ named A B (getD c i 0) ∷ drop (i + 1) (bases s) = rw add-one (next i (omega arith)) in
+      here ∙ ap (λ (ks : List Base). named A B (getD c i 0) ∷ ks) (next (i + 1) l)
 
-  -- a column outside a range is passed over
-  pub fill-skip : outsideFor tag (inRange (fractionOf (p .at)) A) (inRange (fractionOf (p .at)) B) ≡ true → (q : Base) → rest A B (p .base) ≡ parts A B (p .base) q (divide A B (p .base)) ++ rest A B q
-      → {at : Position} → PositionOf q at → Proper (position q) → Filling A B tag W room out (record { base = q; at = at }) c n
-  fill-skip e q turn ev pr =
-      record {
-        writing = subst (λ (ts : List Trapezoid). Writing W room (tagged tag (subdivision A B)) ts out n) same (h .writing);
-        event = ev;
-        proper = pr;
-        four = h .four;
-      }
-    where
-      x : Fraction
-      x = position (p .base)
+  pub fill-ranged : i + 1 < n → inRange (position (named A B (getD c i 0))) A ≡ true
+  fill-ranged l = subst (Ranged A) (here-next l) (h .ranged) .0
 
-      none : tagged tag (parts A B (p .base) q (divide A B (p .base))) ≡ []
-      none =
-          sym (strips-exact ha hb (p .base) q (h .proper) tag ht (inRange x A) (inRange x B) refl refl)
-          ∙ strips-outside tag A B (p .base) q ht (inRange x A) (inRange x B) (orderAt A B x (inRange x A) (inRange x B)) (subst (λ (y : Fraction). outsideFor tag (inRange y A) (inRange y B) ≡ true) (h .event .is) e)
+  ranged-next : i + 1 < n → Ranged A (drop (i + 1) (bases s))
+  ranged-next l = subst (Ranged A) (sym (names-at n a b c (s .nums) (s .dens) (s .names) (entryName A B) (i + 1) l)) (subst (Ranged A) (here-next l) (h .ranged) .1)
 
-      same : tagged tag (rest A B (p .base)) ≡ tagged tag (rest A B q)
-      same =
-          ap (tagged tag) turn
-          ∙ tagged-append tag (parts A B (p .base) q (divide A B (p .base))) (rest A B q)
-          ∙ ap (λ (ts : List Trapezoid). ts ++ tagged tag (rest A B q)) none
+  module _ (l : i + 1 < n) {at : Position} (p : PositionOf (named A B (getD c i 0)) at) (d : Column) (col : ColumnAt A B (fractionOf at) d) where
+    abbrev from : Base
+    from = named A B (getD c i 0)
 
-  -- what a turn adds, with the column d right of p
-  abbrev more : Column → Base → List Trapezoid
-  more d q = strips tag A B (p .base) q (d .in_a) (d .in_b) (d .order)
+    abbrev to : Base
+    to = named A B (getD c (i + 1) 0)
 
-  module _ (d : Column) (k : ColumnAt A B (fractionOf (p .at)) d) (q : Base) (turn : rest A B (p .base) ≡ parts A B (p .base) q (divide A B (p .base)) ++ rest A B q) where
-    more-is : more d q ≡ tagged tag (parts A B (p .base) q (divide A B (p .base)))
-    more-is =
-        let x = h .event .is in
-        ap (strips tag A B (p .base) q (d .in_a) (d .in_b)) (k .order ∙ ap (λ (y : Fraction). orderAt A B y (d .in_a) (d .in_b)) x)
-        ∙ strips-exact ha hb (p .base) q (h .proper) tag ht (d .in_a) (d .in_b) (k .in-a ∙ ap (λ (y : Fraction). inRange y A) x) (k .in-b ∙ ap (λ (y : Fraction). inRange y B) x)
+    -- what a turn adds, with the column d
+    abbrev more : List Trapezoid
+    more = strips tag A B from to (d .in_a) (d .in_b) (d .order)
 
-    next-is-more : tagged tag (rest A B (p .base)) ≡ more d q ++ tagged tag (rest A B q)
-    next-is-more =
-        ap (tagged tag) turn
-        ∙ tagged-append tag (parts A B (p .base) q (divide A B (p .base))) (rest A B q)
-        ∙ ap (λ (ts : List Trapezoid). ts ++ tagged tag (rest A B q)) (sym more-is)
+    abbrev later : List Trapezoid
+    later = tagged tag (columnsOf A B (drop (i + 1) (bases s)))
 
-    module _ (f : Fill) (t : List ℤ) (g : FilledAs (length (tail out n)) (room - n) (more d q) f t) where
+    proper : Proper (position from)
+    proper = subst Proper (p .is) (p .small .proper)
+
+    turn : tagged tag (columnsOf A B (drop i (bases s))) ≡ more ++ later
+    turn =
+        ap (tagged tag) (column-next s i l)
+        ∙ tagged-append tag (parts A B from to (spanning (λ (g : Segment). g) (position from) (sides A B))) (columnsOf A B (drop (i + 1) (bases s)))
+        ∙ ap (λ (ts : List Trapezoid). ts ++ later)
+        (sym
+        (ap (strips tag A B from to (d .in_a) (d .in_b)) (col .order ∙ ap (λ (y : Fraction). orderAt A B y (d .in_a) (d .in_b)) (p .is))
+        ∙ strips-exact ha hb from to proper tag ht (d .in_a) (d .in_b) (col .in-a ∙ ap (λ (y : Fraction). inRange y A) (p .is)) (col .in-b ∙ ap (λ (y : Fraction). inRange y B) (p .is))))
+
+    module _ (f : Fill) (t : List ℤ) (g : FilledAs (length (tail out k)) (room - k) more f t) where
       -- they do not fit
-      pub fill-full : f ≡ NoRoom → room < length (tagged tag (subdivision A B))
-      fill-full e = write-full (h .writing) (more d q) (tagged tag (rest A B q)) next-is-more f t g e
+      pub fill-full : f ≡ NoRoom → room < length (tagged tag (columnsOf A B (bases s)))
+      fill-full e = write-full (h .writing) more later turn f t g e
 
-      pub fill-upto : (m : ℕ) → f ≡ Written m → n + m ≤ room
-      fill-upto m e = write-upto (h .writing) (more d q) (tagged tag (rest A B q)) next-is-more f t g m e
+      pub fill-upto : (m : ℕ) → f ≡ Written m → k + m ≤ room
+      fill-upto m e = write-upto (h .writing) more later turn f t g m e
 
-      pub fill-turn : (m : ℕ) → f ≡ Written m → {at : Position} → PositionOf q at → Proper (position q)
-          → Filling A B tag W room (putMid (memoryWidth * n) (length out - memoryWidth * n) out t) (record { base = q; at = at }) d (n + m)
-      fill-turn m e ev pr =
-          record { writing = write-turn (h .writing) (more d q) (tagged tag (rest A B q)) next-is-more f t g m e; event = ev; proper = pr; four = column-four ha hb (fractionOf (p .at)) d k }
+      pub fill-turn : (m : ℕ) → f ≡ Written m → Filling A B tag W room n a b c (putMid (memoryWidth * k) (length out - memoryWidth * k) out t) (d .order) (k + m) (i + 1)
+      fill-turn m e = record { writing = write-turn (h .writing) more later turn f t g m e; four = column-four ha hb (fractionOf at) d col; within = omega arith; ranged = ranged-next l }
+
+-- the same orders, told of the column
+pub orders-moved : {A B : Trapezoid} {x y : Fraction} {fa fb ga gb : Bool} {o : Orders} → x ≡ y → fa ≡ ga → fb ≡ gb → OrdersAt A B x fa fb o → OrdersAt A B y ga gb o
+orders-moved e f g h = rw (← e, ← f, ← g) h
+
+-- the events that were put in
+pub events-ranged : {A B : Trapezoid} → FitFor coordinateLimit A → FitFor coordinateLimit B → (tag : ℕ) → ofFirst tag ≡ true → overlaps A B ≡ true → {n : ℕ} {a b : List ℤ} {c : List ℕ} → EventsWithin A B n a b c
+    → Ranged A (map (entryName A B) (stored n a b c))
+events-ranged {A} {B} ha hb tag ht o e = subst (Ranged A) (sym (e .names .is)) (within-ranged ha hb tag ht (overlap-wide A B o))
+
+pub events-stand : {A B : Trapezoid} {n : ℕ} {a b : List ℤ} {c : List ℕ} → Eight a b c → EventsWithin A B n a b c → Standing A B n a b c
+events-stand e h = record { stand = h .names .stand; nums = omega (arith, h .few, e .nums); dens = omega (arith, h .few, e .dens); names = omega (arith, h .few, e .names) }
 
 -- ---- the overlay
 test-swap : (m n : ℕ) → eqb m n ≡ eqb n m
@@ -242,23 +178,21 @@ module _ (A B : Trapezoid) (tag room n : ℕ) (f : Fill) (d : List ℤ) where
   pub overlay-columns : overlaps A B ≡ true → FilledAs n room (tagged tag (subdivision A B)) f d → FilledAs n room (tagged tag (overlay A B)) f d
   unfolding overlay
   overlay-columns e h = rw e h
+  -- by the events within the range of A
 
-  module _ (apart : overlaps A B ≡ false) where
-    pub overlay-first : tag ≡ 1 → FilledAs n room (A ∷ []) f d → FilledAs n room (tagged tag (overlay A B)) f d
-    overlay-first e h = subst (λ (ts : List Trapezoid). FilledAs n room ts f d) (sym is) h
-      where
-        is : tagged tag (overlay A B) ≡ A ∷ []
-        is = unfold overlay tagged in rw (apart, e)
+module _ {A B : Trapezoid} (ha : FitFor coordinateLimit A) (hb : FitFor coordinateLimit B) (tag : ℕ) (ht : ofFirst tag ≡ true) (room W : ℕ) (f : Fill) (d : List ℤ) where
+  pub overlay-filled : overlaps A B ≡ true → {n : ℕ} {a b : List ℤ} {c : List ℕ} → EventsWithin A B n a b c → FilledAs W room (tagged tag (columnsOf A B (map (entryName A B) (stored n a b c)))) f d → FilledAs W room (tagged tag (overlay A B)) f d
+  overlay-filled o {n} {a} {b} {c} e h =
+      overlay-columns A B tag room W f d o
+      (subst (λ (ts : List Trapezoid). FilledAs W room ts f d) (ap (λ (ks : List Base). tagged tag (columnsOf A B ks)) (e .names .is) ∙ sym (within-enough ha hb tag ht (overlap-wide A B o))) h)
 
-    pub overlay-second : (tag ≡ 1 → ⊥) → FilledAs n room (inFront (eqb tag 2) B []) f d → FilledAs n room (tagged tag (overlay A B)) f d
-    overlay-second e h = subst (λ (ts : List Trapezoid). FilledAs n room ts f d) (sym is) h
-      where
-        not-first : eqb 1 tag ≡ false
-        not-first = false-is (not-T (eqb 1 tag) (λ t. e (sym (eqb→eq 1 tag t))))
+module _ (A B : Trapezoid) (tag room n : ℕ) (f : Fill) (d : List ℤ) where
+  pub overlay-apart : overlaps A B ≡ false → ofFirst tag ≡ true → FilledAs n room (inFront (eqb tag 1) A []) f d → FilledAs n room (tagged tag (overlay A B)) f d
+  overlay-apart apart ht h = subst (λ (ts : List Trapezoid). FilledAs n room ts f d) (sym is) h
+    where
+      go : (b : Bool) → cond b (A ∷ []) [] ≡ inFront b A []
+      go true = refl
+      go false = refl
 
-        go : (b : Bool) → cond b (B ∷ []) [] ≡ inFront b B []
-        go true = refl
-        go false = refl
-
-        is : tagged tag (overlay A B) ≡ inFront (eqb tag 2) B []
-        is = unfold overlay tagged in rw (apart, not-first, test-swap tag 2) (go (eqb 2 tag))
+      is : tagged tag (overlay A B) ≡ inFront (eqb tag 1) A []
+      is = unfold overlay tagged in rw (apart, neither tag ht .1, test-swap tag 1) (go (eqb 1 tag))

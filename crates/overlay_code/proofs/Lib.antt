@@ -1,4 +1,2 @@
-pub mod Strips
-pub mod Ranges
-pub mod Stacking
+pub mod Within
 pub mod Filling

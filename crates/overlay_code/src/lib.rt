@@ -1,163 +1,42 @@
-// The overlay of two trapezoids (paper 01: pair cut): the parts of the one alone, of the other alone, or of both, written into a borrowed tail.
-use geometry::Base;
+// The overlay of two trapezoids (paper 01: pair cut): the parts of the first alone, or of both, written into a borrowed tail.
 use geometry::Fill;
+use geometry::Meeting;
 use geometry::Placed;
 use geometry::Position;
-use geometry::Trapezoid;
 use overlay::Column;
-use overlay::Orders;
+use overlay::Meetings;
 ghost use mathlib.Core.Path.{_≡_};
-ghost use mathlib.Core.Bool.{true, cond, _&&_};
+ghost use mathlib.Core.Bool.{true};
+ghost use mathlib.Core.List.{map};
 ghost use Prim.Native.Nat.{_≤_};
-ghost use lib.Dec.{eqb};
 ghost use lib.ListN.{length};
-ghost use Rattle.geometry.specs.Positions.{position};
-ghost use Rattle.overlay.specs.Overlay.{tagOf, inRange, subdivision, overlay, tagged};
-ghost use Rattle.geometry_code.specs.Code.{fractionOf, SmallPosition};
+ghost use Rattle.overlay.specs.Overlay.{overlay, tagged};
 ghost use Rattle.overlay.specs.Overlaps.{overlaps};
+ghost use Rattle.geometry_code.specs.Code.{fractionOf, SmallMeeting, SmallPosition};
 ghost use Rattle.trapezoids_code.specs.Tails.{Borrowed, FilledAs};
-ghost use Rattle.trapezoids_code.specs.Placed.{Pair};
-ghost use Rattle.columns_code.specs.Order.{passing, strips};
-ghost use Rattle.columns_code.specs.Code.{OrdersAt};
-ghost use Rattle.overlay_code.specs.Code.{outsideFor};
+ghost use Rattle.trapezoids_code.specs.Placed.{Pair, CommonLeft, CommonRight};
+ghost use Rattle.sorting_code.specs.Entries.{stored};
+ghost use Rattle.overlaps_code.specs.Code.{MeetingsOf, Opposed};
+ghost use Rattle.overlay_events_code.specs.Events.{entryName};
+ghost use Rattle.overlay_code.specs.Code.{ofFirst, columnsOf, Standing, Ranged, KnownOr};
 
-// Whether what is above side z lies in the trapezoid with the sides `bottom` and `top`, from whether what is below it does.
-fn pass(bottom: usize, top: usize, z: usize, inside: bool) -> bool
-    ensures { λ r. ⌜ r ≡ passing bottom top z inside ⌝ }
-{
-    if z == bottom {
-        return true;
-    }
-    if z == top {
-        return false;
-    }
-    inside
-}
-
-// Whether what lies in the one trapezoid or not, and in the other or not, has the tag.
-fn has_tag(in_a: bool, in_b: bool, tag: u8) -> bool
-    ensures { λ r. ⌜ r ≡ eqb (tagOf in_a in_b) tag ⌝ }
-{
-    if in_a {
-        if in_b {
-            return tag == 3;
-        }
-        return tag == 1;
-    }
-    if in_b {
-        return tag == 2;
-    }
-    tag == 0
-}
-
-// A trapezoid begins at a side that is above the one before it.
-fn wanted(rises: bool, in_a: bool, in_b: bool, tag: u8) -> bool
-    ensures { λ r. ⌜ r ≡ rises && eqb (tagOf in_a in_b) tag ⌝ }
-{
-    if rises {
-        return has_tag(in_a, in_b, tag);
-    }
-    false
-}
-
-// Of coinciding sides the first is kept.
-fn raised(rises: bool, z: usize, lower: usize) -> usize
-    ensures { λ r. ⌜ r ≡ cond rises z lower ⌝ }
-{
-    if rises {
-        return z;
-    }
-    lower
-}
-
-// The trapezoids of a column that have the tag, from the bottom up.
-fn fill_column(
-    a: Trapezoid,
-    b: Trapezoid,
+// The trapezoids with the tag of the columns between neighbouring events in the range of the first, from left to right.
+fn fill_columns(
+    a: Placed,
+    b: Placed,
+    m: Meetings,
+    num: &[i64],
+    den: &[i64],
+    name: &[u32],
+    count: usize,
     tag: u8,
-    left: Base,
-    right: Base,
-    o: Orders,
-    c: Column,
     out: &mut [i32],
     room: usize,
 ) -> Fill
-    requires { ⌜ OrdersAt a b (position left) o × (length (c .order) ≡ 4) × Borrowed (now out) room ⌝ }
-    ensures { λ r. ⌜ FilledAs (length (now (out .entry))) room (strips tag a b left right (c .in_a) (c .in_b) (c .order)) r (now (out .exit)) ⌝ }
+    requires { ⌜ Pair a b × MeetingsOf (a .shape) (b .shape) m × Standing (a .shape) (b .shape) count (now num) (now den) (now name) × (1 ≤ tag) × Borrowed (now out) room ⌝ }
+    requires { ⌜ Ranged (a .shape) (map (entryName (a .shape) (b .shape)) (stored count (now num) (now den) (now name))) ⌝ }
+    ensures { λ r. ⌜ FilledAs (length (now (out .entry))) room (tagged tag (columnsOf (a .shape) (b .shape) (map (entryName (a .shape) (b .shape)) (stored count (now (num .entry)) (now (den .entry)) (now (name .entry)))))) r (now (out .exit)) ⌝ }
 {
-    let order = c.order;
-    let in_a = c.in_a;
-    let in_b = c.in_b;
-    let z0 = order[0];
-    if !columns_code::present(in_a, in_b, z0) {
-        return Fill::Written(0);
-    }
-    let mut lower = z0;
-    let mut inside_a = pass(0, 1, z0, false);
-    let mut inside_b = pass(2, 3, z0, false);
-    let mut n = 0;
-    let mut k = 1;
-    while k < 4 {
-        let z = order[k];
-        if !columns_code::present(in_a, in_b, z) {
-            return Fill::Written(n);
-        }
-        let bottom = columns_code::line_of_side(a, b, lower);
-        let top = columns_code::line_of_side(a, b, z);
-        let u = columns_code::order_of(o, lower, z);
-        let rises = geometry_code::is_less(u);
-        let yes = wanted(rises, inside_a, inside_b, tag);
-        let t = Trapezoid {
-            left,
-            right,
-            bottom,
-            top,
-        };
-        let f = trapezoids_code::put_if(yes, t, &mut out[records::MEMORY_WIDTH * n..], room - n);
-        let Fill::Written(m) = f else {
-            records_code::clear(out);
-            return Fill::NoRoom;
-        };
-        n += m;
-        lower = raised(rises, z, lower);
-        inside_a = pass(0, 1, z, inside_a);
-        inside_b = pass(2, 3, z, inside_b);
-        k += 1;
-    }
-    Fill::Written(n)
-}
-
-// Whether the column right of a position has no part with the tag since it lies outside a range: what lies in the first only, or in both, lies
-// in the range of the first, and what lies in both in that of the second.
-fn outside(a: Placed, b: Placed, tag: u8, at: Position) -> bool
-    requires { ⌜ Pair a b × SmallPosition at ⌝ }
-    ensures { λ r. ⌜ r ≡ outsideFor tag (inRange (fractionOf at) (a .shape)) (inRange (fractionOf at) (b .shape)) ⌝ }
-{
-    if tag == 2 {
-        return false;
-    }
-    if columns_code::in_range(a, at) {
-        if tag == 3 {
-            return !columns_code::in_range(b, at);
-        }
-        return false;
-    }
-    true
-}
-
-// The trapezoids of all columns that have the tag, from left to right.
-fn fill_columns(a: Placed, b: Placed, tag: u8, out: &mut [i32], room: usize) -> Fill
-    requires { ⌜ Pair a b × (1 ≤ tag) × Borrowed (now out) room ⌝ }
-    ensures { λ r. ⌜ FilledAs (length (now (out .entry))) room (tagged tag (subdivision (a .shape) (b .shape))) r (now (out .exit)) ⌝ }
-{
-    let v = overlaps_code::events_of(a, b);
-    let at = overlaps_code::positions_of(v);
-    let i = overlaps_code::next_event(at, v.n, false, a.left);
-    if i == 8 {
-        return Fill::Written(0);
-    }
-    let mut p = v.list[i];
-    let m = columns_code::meetings_of(a.shape, b.shape);
     let order = [0, 1, 2, 3];
     let mut c = Column {
         order,
@@ -165,24 +44,20 @@ fn fill_columns(a: Placed, b: Placed, tag: u8, out: &mut [i32], room: usize) -> 
         in_b: false,
     };
     let mut n = 0;
-    loop {
-        let j = overlaps_code::next_event(at, v.n, true, p.at);
-        if j == 8 {
-            return Fill::Written(n);
-        }
-        let q = v.list[j];
-        if outside(a, b, tag, p.at) {
-            p = q;
-            continue;
-        }
-        let o = columns_code::orders_at(m, p.at);
-        c = columns_code::column_at(a, b, o, p.at, c);
-        let f = fill_column(
+    let mut i = 0;
+    while i + 1 < count {
+        let x = integer_code::get_number(num, i);
+        let y = integer_code::get_number(den, i);
+        let at = Position { num: x, den: y };
+        let in_b = columns_code::in_range(b, at);
+        let o = columns_code::orders_at(m, at);
+        c = columns_code::column_at(o, true, in_b, c);
+        let f = strips_code::fill_column(
             a.shape,
             b.shape,
             tag,
-            p.base,
-            q.base,
+            name[i],
+            name[i + 1],
             o,
             c,
             &mut out[records::MEMORY_WIDTH * n..],
@@ -193,28 +68,82 @@ fn fill_columns(a: Placed, b: Placed, tag: u8, out: &mut [i32], room: usize) -> 
             return Fill::NoRoom;
         };
         n += k;
-        p = q;
+        i += 1;
     }
+    Fill::Written(n)
 }
 
-// The trapezoids of the overlay of two that overlap, as in `overlay_into`.
+// The trapezoids with the tag of the overlay of two that overlap, with a common range from lo to hi, by two of their meetings.
+fn fill_overlapping(
+    a: Placed,
+    b: Placed,
+    m03: Meeting,
+    m12: Meeting,
+    lo: Position,
+    hi: Position,
+    tag: u8,
+    out: &mut [i32],
+    room: usize,
+) -> Fill
+    requires { ⌜ Pair a b × Opposed (a .shape) (b .shape) m03 m12 × CommonLeft a b lo × CommonRight a b hi ⌝ }
+    requires { ⌜ (overlaps (a .shape) (b .shape) ≡ true) × (ofFirst tag ≡ true) × Borrowed (now out) room ⌝ }
+    ensures { λ r. ⌜ FilledAs (length (now (out .entry))) room (tagged tag (overlay (a .shape) (b .shape))) r (now (out .exit)) ⌝ }
+{
+    let s = a.shape;
+    let t = b.shape;
+    let m02 = geometry_code::meeting_of(s.bottom, t.bottom);
+    let m13 = geometry_code::meeting_of(s.top, t.top);
+    let m = Meetings { m02, m03, m12, m13 };
+    let mut num = [0; 8];
+    let mut den = [0; 8];
+    let mut name = [0; 8];
+    let count = overlay_events_code::events_into(a, b, m, lo, hi, &mut num, &mut den, &mut name);
+    fill_columns(a, b, m, &num, &den, &name, count, tag, out, room)
+}
+
+// Whether two trapezoids overlap that are known to overlap, or by their meetings.
+fn overlaps_or(known: bool, m03: Meeting, m12: Meeting, lo: Position, hi: Position) -> bool
+    requires { ⌜ SmallMeeting m03 × SmallMeeting m12 × SmallPosition lo × SmallPosition hi ⌝ }
+    ensures { λ r. ⌜ KnownOr known m03 m12 (fractionOf lo) (fractionOf hi) r ⌝ }
+{
+    if known {
+        return true;
+    }
+    overlaps_code::overlapping_by(m03, m12, lo, hi)
+}
+
+// The trapezoids of the overlay that have the tag, of parts in the first, written into a blank tail of which `room` records may be filled. The
+// test whether the two overlap is left out where that is known.
+fn overlay_known(known: bool, a: Placed, b: Placed, tag: u8, out: &mut [i32], room: usize) -> Fill
+    requires { ⌜ Pair a b × (known ≡ true → overlaps (a .shape) (b .shape) ≡ true) × (ofFirst tag ≡ true) × Borrowed (now out) room ⌝ }
+    ensures { λ r. ⌜ FilledAs (length (now (out .entry))) room (tagged tag (overlay (a .shape) (b .shape))) r (now (out .exit)) ⌝ }
+{
+    let lo = trapezoids_code::common_left(a, b);
+    let hi = trapezoids_code::common_right(a, b);
+    if geometry_code::is_left(geometry_code::compare(lo, hi)) {
+        let s = a.shape;
+        let t = b.shape;
+        let m03 = geometry_code::meeting_of(s.bottom, t.top);
+        let m12 = geometry_code::meeting_of(s.top, t.bottom);
+        if overlaps_or(known, m03, m12, lo, hi) {
+            return fill_overlapping(a, b, m03, m12, lo, hi, tag, out, room);
+        }
+    }
+    trapezoids_code::put_if(tag == 1, a.shape, out, room)
+}
+
+// The same of two that overlap.
 pub fn overlapping_into(a: Placed, b: Placed, tag: u8, out: &mut [i32], room: usize) -> Fill
-    requires { ⌜ Pair a b × (1 ≤ tag) × (overlaps (a .shape) (b .shape) ≡ true) × Borrowed (now out) room ⌝ }
+    requires { ⌜ Pair a b × (ofFirst tag ≡ true) × (overlaps (a .shape) (b .shape) ≡ true) × Borrowed (now out) room ⌝ }
     ensures { λ r. ⌜ FilledAs (length (now (out .entry))) room (tagged tag (overlay (a .shape) (b .shape))) r (now (out .exit)) ⌝ }
 {
-    fill_columns(a, b, tag, out, room)
+    overlay_known(true, a, b, tag, out, room)
 }
 
-// The trapezoids of the overlay that have the tag, written into a blank tail of which `room` records may be filled.
+// And of any two.
 pub fn overlay_into(a: Placed, b: Placed, tag: u8, out: &mut [i32], room: usize) -> Fill
-    requires { ⌜ Pair a b × (1 ≤ tag) × Borrowed (now out) room ⌝ }
+    requires { ⌜ Pair a b × (ofFirst tag ≡ true) × Borrowed (now out) room ⌝ }
     ensures { λ r. ⌜ FilledAs (length (now (out .entry))) room (tagged tag (overlay (a .shape) (b .shape))) r (now (out .exit)) ⌝ }
 {
-    if overlaps_code::overlapping(a, b) {
-        return overlapping_into(a, b, tag, out, room);
-    }
-    if tag == 1 {
-        return trapezoids_code::put(a.shape, out, room);
-    }
-    trapezoids_code::put_if(tag == 2, b.shape, out, room)
+    overlay_known(false, a, b, tag, out, room)
 }

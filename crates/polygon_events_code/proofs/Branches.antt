@@ -1,7 +1,6 @@
 -- Marks, spans and crossings, branch by branch as the functions take them.
 use mathlib.Core.Path.{_≡_, sym, _∙_, ap, subst}
 use mathlib.Core.Bool.{Bool, true, false}
-use mathlib.Core.Option.{Option}
 use Prim.Native.Nat.{ℕ, _≤_}
 use lib.IntN.{ℤ, pos, natAbs}
 use lib.Signed.{ltZ}
@@ -12,19 +11,15 @@ use Rattle.integer.proofs.Linear.{zarith, parts}
 use Rattle.geometry.specs.declared.Line.{Line}
 use Rattle.geometry.specs.declared.Base.{Base}
 use Rattle.geometry.specs.declared.Position.{Position}
-use Rattle.geometry.specs.declared.Crossing.{Crossing}
 use Rattle.geometry.specs.declared.Crossing.the-variants.{Nowhere, At}
 use Rattle.geometry.specs.Positions.{crosses, meet, position}
 use Rattle.sweep.specs.Segments.{spans, inside, crossInside}
-use Rattle.sweep.specs.declared.Event.{Event}
-use Rattle.sweep.specs.declared.Next.{Next}
 use Rattle.fracture.specs.declared.Span.{Span}
 use Rattle.fracture.specs.Polygons.{whole}
 use Rattle.fracture.specs.Fracture.{axis, lineBy, mark}
 use Rattle.fracture.proofs.Marks.{mark-cases, mark-position}
 use Rattle.geometry_code.specs.Code.{fractionOf, SmallPosition}
-use Rattle.sweep_code.specs.Events.{EventOf, NextPlaced, Better}
-use Rattle.polygon_events_code.specs.Code.{PlacedAt, MarkOf, SpanOf, lineSegment, baseOf, CrossingInside, WithPair}
+use Rattle.polygon_events_code.specs.Code.{PlacedAt, MarkOf, SpanOf, lineSegment, CrossingInside}
 
 -- ---- marks
 module _ (L : ℕ) (k : ℤ) where
@@ -108,13 +103,3 @@ module _ (l m : Line) where
 
     pub cross-both : inside (fractionOf p) (lineSegment l) ≡ true → inside (fractionOf p) (lineSegment m) ≡ true → CrossingInside l m (At p)
     cross-both e f = (cross-yes e f, record { is = h .1; small = h .2 })
-
-  module _ (r : Crossing) (h : CrossingInside l m r) (best : Next) (g : Option Base) where
-    pub pair-none : r ≡ Nowhere → NextPlaced best → WithPair best g l m best
-    pair-none e k = record { is = rw (subst (CrossingInside l m) e h); placed = k }
-
-    pub pair-at : (p : Position) → r ≡ At p → (e : Event) → e .base ≡ baseOf l m → e .at ≡ p → EventOf e
-    pair-at p d e b a = let k = subst (CrossingInside l m) d h in rw (b, a) (k .1)
-
-    pub pair-some : (p : Position) → r ≡ At p → (e : Event) → e .base ≡ baseOf l m → (s : Next) → Better best g e s → WithPair best g l m s
-    pair-some p d e b s k = let j = subst (CrossingInside l m) d h in record { is = k .is ∙ rw (j .0, b); placed = k .placed }

@@ -1,2 +1,1 @@
 pub mod Branches
-pub mod Scanning

@@ -1,31 +1,23 @@
-// The events of a polygon: the marks of its vertices and the crossings of its edges.
-use fracture::EdgeList;
+// Events of a polygon: marks of vertices, spans of lines, and crossings strictly inside them.
 use fracture::Span;
-use fracture::StoredEdge;
 use geometry::Base;
 use geometry::Crossing;
 use geometry::Line;
 use geometry::Position;
 use integer::Int;
 use sweep::Event;
-use sweep::Next;
 ghost use mathlib.Core.Path.{_≡_};
-ghost use mathlib.Core.List.{_++_};
 ghost use Prim.Native.Nat.{_≤_};
 ghost use lib.IntN.{natAbs};
-ghost use lib.ListN.{drop};
 ghost use Rattle.geometry.specs.Limit.{coordinateLimit, OnGrid};
-ghost use Rattle.geometry.specs.Polygons.{PolygonOnGrid};
 ghost use Rattle.sweep.specs.Segments.{spans, inside};
 ghost use Rattle.fracture.specs.Polygons.{whole};
-ghost use Rattle.fracture.specs.Fracture.{mark, marks, edgeCrossings};
+ghost use Rattle.fracture.specs.Fracture.{mark};
 ghost use Rattle.geometry_code.specs.Code.{fractionOf, SmallPosition};
-ghost use Rattle.geometry_code.specs.Polygons.{polygonOf};
-ghost use Rattle.sweep_code.specs.Events.{EventOf, NextPlaced, after, NextAmong};
-ghost use Rattle.polygon_events_code.specs.Code.{PlacedAt, MarkOf, SpanOf, lineSegment, CrossingInside, WithPair, edgeOf, edgesOf, edgesInUse, WellFormed, WithPairs};
+ghost use Rattle.polygon_events_code.specs.Code.{PlacedAt, MarkOf, SpanOf, lineSegment, CrossingInside};
 
 // The position x.
-fn whole_position(x: Int) -> Position
+pub fn whole_position(x: Int) -> Position
     requires { ⌜ natAbs (x .v) ≤ coordinateLimit ⌝ }
     ensures { λ r. ⌜ PlacedAt (whole (x .v)) r ⌝ }
 {
@@ -112,7 +104,7 @@ pub fn is_spanning(p: Position, l: Line) -> bool
 }
 
 // Where two lines cross strictly inside both spans; `Nowhere` if they do not.
-fn crossing_inside(l: Line, m: Line) -> Crossing
+pub fn crossing_inside(l: Line, m: Line) -> Crossing
     requires { ⌜ OnGrid coordinateLimit l × OnGrid coordinateLimit m ⌝ }
     ensures { λ r. ⌜ CrossingInside l m r ⌝ }
 {
@@ -126,73 +118,4 @@ fn crossing_inside(l: Line, m: Line) -> Crossing
         }
     }
     Crossing::Nowhere
-}
-
-// The lefter of the best so far and of the crossing of two lines, if that is an event right of g, or anywhere where nothing has been started.
-fn with_pair(best: Next, started: bool, g: Event, l: Line, m: Line) -> Next
-    requires { ⌜ NextPlaced best × EventOf g × OnGrid coordinateLimit l × OnGrid coordinateLimit m ⌝ }
-    ensures { λ r. ⌜ WithPair best (after started g) l m r ⌝ }
-{
-    let c = crossing_inside(l, m);
-    let Crossing::At(p) = c else {
-        return best;
-    };
-    let base = Base {
-        first: l,
-        second: m,
-    };
-    let e = sweep_code::event_at(base, p);
-    sweep_code::better(best, started, g, e)
-}
-
-// The first mark of a vertex right of g in the order of positions, or the first of all where nothing has been started.
-// The words are the vertices' coordinates.
-fn next_mark(words: &[i32], limit: u32, started: bool, g: Event) -> Next
-    requires { ⌜ PolygonOnGrid limit (polygonOf (now words)) × (limit ≤ coordinateLimit) × EventOf g ⌝ }
-    ensures { λ r. ⌜ NextAmong (marks limit (polygonOf (now (words .entry)))) (after started g) r ⌝ }
-{
-    let n = words.len();
-    let mut best = Next::Nothing;
-    let mut k = 0;
-    while k + 1 < n {
-        let x = integer_code::get(words, k);
-        let e = mark_at(x, limit);
-        best = sweep_code::better(best, started, g, e);
-        k += 2;
-    }
-    best
-}
-
-// The lefter of the best so far and of the crossings of an edge with those from a number on.
-fn with_pairs(best: Next, started: bool, g: Event, d: StoredEdge, v: EdgeList, first: usize) -> Next
-    requires { ⌜ NextPlaced best × EventOf g × OnGrid coordinateLimit (d .line) × WellFormed v ⌝ }
-    ensures { λ r. ⌜ WithPairs best (after started g) (edgeOf d) (edgesOf (drop first (edgesInUse v))) r ⌝ }
-{
-    let list = v.list;
-    let n = v.n;
-    let mut r = best;
-    let mut j = first;
-    while j < n {
-        let e = list[j];
-        r = with_pair(r, started, g, d.line, e.line);
-        j += 1;
-    }
-    r
-}
-
-// The first event right of g, or the first of all where nothing has been started.
-pub fn next_event(words: &[i32], v: EdgeList, limit: u32, started: bool, g: Event) -> Next
-    requires { ⌜ PolygonOnGrid limit (polygonOf (now words)) × (limit ≤ coordinateLimit) × WellFormed v × EventOf g ⌝ }
-    ensures { λ r. ⌜ NextAmong (marks limit (polygonOf (now (words .entry))) ++ edgeCrossings (edgesOf (edgesInUse v))) (after started g) r ⌝ }
-{
-    let list = v.list;
-    let n = v.n;
-    let mut best = next_mark(words, limit, started, g);
-    let mut i = 0;
-    while i < n {
-        let d = list[i];
-        i += 1;
-        best = with_pairs(best, started, g, d, v, i);
-    }
-    best
 }

@@ -11,6 +11,7 @@ ghost use Rattle.files.specs.Formats.{fileWords};
 ghost use Rattle.files.specs.Contents.{polygonsOf};
 ghost use Rattle.files.specs.Rows.{polygonFileChecked};
 ghost use Rattle.trapezoids_code.specs.Tails.{Borrowed, FilledAs};
+ghost use Rattle.stored_events_code.specs.Events.{Wide};
 ghost use Rattle.files_code.specs.Code.{polygonAt};
 ghost use Rattle.polygons_code.specs.Code.{MayFracture};
 
@@ -21,17 +22,20 @@ fn fracture_numbered(
     count: usize,
     i: usize,
     limit: u32,
+    num: &mut [i64],
+    den: &mut [i64],
+    name: &mut [u32],
     out: &mut [i32],
     room: usize,
 ) -> Fill
-    requires { ⌜ MayFracture edition (now file) count i limit (now out) room ⌝ }
+    requires { ⌜ MayFracture edition (now file) count i limit (now out) room × Wide (now num) (now den) (now name) ⌝ }
     ensures { λ r. ⌜ FilledAs (length (now (out .entry))) room (fracture limit (polygonAt edition (fileWords (now (file .entry))) i)) r (now (out .exit)) ⌝ }
 {
     let e = files_code::polygon_extent(edition, file, count, i);
     let mut words = [0; 64];
     files_code::load_polygon(file, count, e.offset, e.length, &mut words);
     let end = 2 * e.length;
-    fracture_code::fracture_polygon(&words[..end], limit, out, room)
+    fracture_code::fracture_polygon(&words[..end], limit, num, den, name, out, room)
 }
 
 // The trapezoids of the polygons of a file of an edition that passes, in order, written into a blank tail of which `room` records may be filled.
@@ -46,6 +50,9 @@ pub fn fracture_file(
     ensures { λ r. ⌜ FilledAs (length (now (out .entry))) room (fractureAll limit (polygonsOf edition (fileWords (now (file .entry))))) r (now (out .exit)) ⌝ }
 {
     let count = files_code::polygon_count(file);
+    let mut num = [0; 528];
+    let mut den = [0; 528];
+    let mut name = [0; 528];
     let mut i = 0;
     let mut n = 0;
     while i < count {
@@ -55,6 +62,9 @@ pub fn fracture_file(
             count,
             i,
             limit,
+            &mut num,
+            &mut den,
+            &mut name,
             &mut out[records::MEMORY_WIDTH * n..],
             room - n,
         );

@@ -1,9 +1,9 @@
 -- A buffer's first k records, and what is past them.
 use mathlib.Core.Path.{_≡_, sym, _∙_, ap, subst}
 use mathlib.Core.List.{List, _++_}
-use Prim.Native.Nat.{ℕ, _+_, _*_, _-_, _≤_}
+use Prim.Native.Nat.{ℕ, _+_, _*_, _-_, _<_, _≤_}
 use native.Mathlib.Omega.{arith}
-use lib.ListN.{length, take, drop, replicate, length-drop, take-append-drop, replicate-append-replicate}
+use lib.ListN.{length, getD, take, drop, replicate, length-drop, take-append-drop, replicate-append-replicate}
 use lib.Seq.{length-take-le, drop-at}
 use lib.IntN.{ℤ, pos}
 use borrow.Rule.Slice.PartMut.{putMid, take-put, same-len-mid}
@@ -11,8 +11,8 @@ use Rattle.lists.specs.Lists.{All}
 use Rattle.lists.proofs.Lists.{all-of}
 use Rattle.lists.proofs.Parts.{put-tail, mid-tail, drop-replicate, take-replicate}
 use Rattle.records.specs.Limits.{memoryWidth}
-use Rattle.records.specs.Records.{wordsOf, count, Blank}
-use Rattle.records.proofs.Records.{length-from, records-words}
+use Rattle.records.specs.Records.{wordsOf, recordAt, count, Blank}
+use Rattle.records.proofs.Records.{from-start, from-step, length-from, records-words}
 use Rattle.records.proofs.Buffer.{blank-of, image-take, image-drop}
 use Rattle.geometry.specs.declared.Trapezoid.{Trapezoid}
 use Rattle.geometry.specs.Limit.{coordinateLimit}
@@ -57,6 +57,10 @@ module _ (d : List ℤ) (k : ℕ) where
           let p = putMid (memoryWidth * k) (length d - memoryWidth * k) d t in
           blank-of (pos 0) p (memoryWidth * k + length t)
           (put-tail (memoryWidth * k) d t fits ∙ (λ j. e j ++ y j) ∙ replicate-append-replicate (memoryWidth * k) (length t) (pos 0))
+
+-- the first record
+pub first-record : (d : List ℤ) (n : ℕ) (z : Trapezoid) → 0 < n → getD (leading d n) 0 z ≡ recordAt trapezoidCodec d 0
+first-record d n z l = ap (λ (ts : List Trapezoid). getD ts 0 z) (sym (from-start trapezoidCodec n d) ∙ from-step trapezoidCodec n d 0 l)
 
 -- ---- a scratch area, past k records
 module _ (out scratch : List ℤ) (k : ℕ) (h : ScratchFor out scratch) where

@@ -1,27 +1,30 @@
 -- Trapezoids in the output that are moved to the scratch area, so that they can be replaced.
 use mathlib.Core.Path.{_≡_, sym, _∙_, ap, subst}
+use mathlib.Core.Bool.{Bool}
 use mathlib.Core.List.{List, _++_}
-use Prim.Native.Nat.{ℕ, _+_, _*_, _-_, _≤_}
+use Prim.Native.Nat.{ℕ, _+_, _*_, _-_, _<_, _≤_}
 use native.Mathlib.Omega.{arith}
-use lib.ListN.{length, take, drop, replicate, length-replicate, replicate-append-replicate}
+use lib.ListN.{length, getD, take, drop, replicate, length-replicate, replicate-append-replicate}
 use lib.Seq.{length-take-le, take-at, drop-at}
 use lib.IntN.{ℤ, pos}
 use Rattle.lists.specs.Lists.{All}
 use Rattle.lists.proofs.Parts.{drop-replicate}
 use Rattle.records.specs.Limits.{memoryWidth}
-use Rattle.records.specs.Records.{count, Blank}
+use Rattle.records.specs.Records.{recordAt, count, Blank}
 use Rattle.records.proofs.Records.{length-from}
 use Rattle.records.proofs.Buffer.{blank-of}
 use Rattle.geometry.specs.declared.Trapezoid.{Trapezoid}
+use Rattle.geometry.specs.declared.Placed.{Placed}
 use Rattle.geometry.specs.Limit.{coordinateLimit}
 use Rattle.geometry.specs.Fitness.{FitFor}
 use Rattle.geometry.specs.Trapezoids.{trapezoidCodec, layerOf}
 use Rattle.boolean.specs.declared.Folded.{Folded}
 use Rattle.boolean.specs.Operations.{minus}
 use Rattle.boolean.specs.Space.{minusStages}
+use Rattle.trapezoids_code.specs.Placed.{PlacedAs}
 use Rattle.trapezoids_code.specs.Tails.{Borrowed}
-use Rattle.remainder_code.specs.Code.{leading, Remaining, FoldedAs}
-use Rattle.remainder_code.proofs.Leading.{leading-fits, rest-blanks, front-leading}
+use Rattle.remainder_code.specs.Code.{leading, Remaining, FoldedAs, FirstPlaced}
+use Rattle.remainder_code.proofs.Leading.{first-record, leading-fits, rest-blanks, front-leading}
 
 -- d and w before, d' and w' after the move
 module _ (d w d' w' : List ℤ) (n room : ℕ) (h : Remaining d n room) (blank : Blank (pos 0) w) (same : length w ≡ length d)
@@ -50,10 +53,19 @@ module _ (d w d' w' : List ℤ) (n room : ℕ) (h : Remaining d n room) (blank :
   pub remainder-fit : All (FitFor coordinateLimit) (layerOf (take (memoryWidth * n) w'))
   remainder-fit = subst (All (FitFor coordinateLimit)) (sym remainder-layer) (h .fit)
 
+  moved-count : count trapezoidCodec (take end w') ≡ n
+  moved-count = sym (length-from trapezoidCodec (count trapezoidCodec (take end w')) (take end w') 0) ∙ ap length remainder-layer ∙ length-from trapezoidCodec n d 0
+
   pub remainder-count : count trapezoidCodec (take (memoryWidth * n) w') ≤ room + 1
-  remainder-count =
-      let e : count trapezoidCodec (take end w') ≡ n = sym (length-from trapezoidCodec (count trapezoidCodec (take end w')) (take end w') 0) ∙ ap length remainder-layer ∙ length-from trapezoidCodec n d 0 in
-      omega (arith, e, h .within)
+  remainder-count = omega (arith, moved-count, h .within)
+
+  pub remainder-first : (test : Trapezoid → Bool) (first : Placed) → FirstPlaced test d n first → FirstPlaced test (take (memoryWidth * n) w') (count trapezoidCodec (take (memoryWidth * n) w')) first
+  remainder-first test first f =
+      let s = take end w' in
+      let z = recordAt trapezoidCodec d 0 in
+      let l : 0 < count trapezoidCodec s = omega (arith, moved-count, f .some) in
+      let e : z ≡ recordAt trapezoidCodec s 0 = sym (first-record d n z (f .some)) ∙ ap (λ (ts : List Trapezoid). getD ts 0 z) (sym remainder-layer) ∙ first-record s (count trapezoidCodec s) z l in
+      record { some = l; placed = subst (λ (t : Trapezoid). PlacedAs t first) e (f .placed); passes = f .passes }
 
   cleared : d' ≡ replicate (length d) (pos 0)
   cleared =

@@ -1,9 +1,9 @@
 -- The remainder minus b: its trapezoids before the first that overlaps b stand, and those past them are replaced.
 use mathlib.Core.Path.{_≡_, refl, sym, _∙_, ap, subst}
-use mathlib.Core.List.{List, [], _++_, append-nil}
-use Prim.Native.Nat.{ℕ, _+_, _*_, _-_, _≤_}
+use mathlib.Core.List.{List, [], _∷_, _++_, append-nil}
+use Prim.Native.Nat.{ℕ, _+_, _*_, _-_, _<_, _≤_}
 use native.Mathlib.Omega.{arith}
-use lib.ListN.{length, take, drop, replicate, length-append, length-drop, take-append-drop, replicate-append-replicate}
+use lib.ListN.{length, getD, take, drop, replicate, length-append, length-drop, take-append-drop, replicate-append-replicate}
 use lib.Seq.{length-take-le, take-at, drop-at, take-all}
 use lib.IntN.{ℤ, pos}
 use borrow.Rule.Slice.PartMut.{putMid}
@@ -11,8 +11,8 @@ use Rattle.lists.specs.Lists.{All}
 use Rattle.lists.proofs.Lists.{all-right}
 use Rattle.lists.proofs.Parts.{put-tail}
 use Rattle.records.specs.Limits.{memoryWidth}
-use Rattle.records.specs.Records.{wordsOf, image}
-use Rattle.records.proofs.Records.{length-from, length-words}
+use Rattle.records.specs.Records.{recordAt, recordsFrom, wordsOf, image, count}
+use Rattle.records.proofs.Records.{from-step, length-from, length-words}
 use Rattle.records.proofs.Buffer.{image-append}
 use Rattle.geometry.specs.declared.Trapezoid.{Trapezoid}
 use Rattle.geometry.specs.Limit.{coordinateLimit}
@@ -25,13 +25,16 @@ use Rattle.boolean.specs.declared.Folded.{Folded}
 use Rattle.boolean.specs.declared.Folded.the-variants.{NoRoom, Done}
 use Rattle.boolean.specs.Operations.{minus}
 use Rattle.boolean.specs.Space.{enough, plus, space, minusStages}
+use Rattle.boxes.specs.declared.Found.{Found}
+use Rattle.trapezoids_code.specs.Placed.{PlacedAs}
 use Rattle.trapezoids_code.specs.Tails.{FilledAs}
 use Rattle.trapezoids_code.proofs.Writing.{tail}
-use Rattle.remainder_code.specs.Code.{front, leading, Remaining, FoldedAs, OverlaysWithin, beforeFirst}
+use Rattle.remainder_code.specs.Code.{front, from, leading, Remaining, FoldedAs, OverlaysWithin, beforeFirst, FoundAs, FirstPlaced}
 use Rattle.remainder_code.proofs.Answers.{folded-within, within-no-room, within-done, filled-leading, filled-remaining, leading-filled}
 use Rattle.remainder_code.proofs.MinusFold.{minus-none, stages-none, stages-length}
+use Rattle.remainder_code.proofs.Reducing.{layer-split}
 use Rattle.remainder_code.proofs.Apart.{before-upto, minus-apart, stages-apart}
-use Rattle.remainder_code.proofs.Leading.{rest-is, rest-length, front-length, back-front, back-rest, leading-fits, front-leading}
+use Rattle.remainder_code.proofs.Leading.{rest-is, rest-length, front-length, front-count, first-record, back-front, back-rest, leading-fits, front-leading}
 
 -- d holds the n trapezoids of the remainder, and p of them come before the first that overlaps b
 module _ (d : List ℤ) (n room : ℕ) (h : Remaining d n room) (b : Trapezoid) (p : ℕ) (is : p ≡ beforeFirst (λ t. overlaps t b) (layerOf (front d n))) where
@@ -100,6 +103,30 @@ module _ (d : List ℤ) (n room : ℕ) (h : Remaining d n room) (b : Trapezoid) 
   stand-remaining =
       filled-remaining (length d - memoryWidth * p) (room - p) later (n - p) (tail d p) tail-filled tail-long (omega (arith, h .wide))
       (all-right (FitFor coordinateLimit) kept later (subst (All (FitFor coordinateLimit)) (sym (take-append-drop p all)) (h .fit)))
+
+  -- the first of them is number p of all
+  pub stand-first : p < n → recordAt trapezoidCodec (tail d p) 0 ≡ recordAt trapezoidCodec (front d n) p
+  stand-first l =
+      let s = front d n in
+      let z = recordAt trapezoidCodec s p in
+      let c : count trapezoidCodec s ≡ n = front-count d n (leading-fits d n room h) in
+      let e : leading (tail d p) (n - p) ≡ z ∷ from s (p + 1) =
+      filled-leading (length d - memoryWidth * p) (room - p) later (n - p) (tail d p) tail-filled
+      ∙ ap (drop p) (sym (front-leading d n room h) ∙ layer-split s p (omega (arith, c, l)))
+      ∙ drop-at (recordsFrom trapezoidCodec p s 0) (from s p) p (length-from trapezoidCodec p s 0)
+      ∙ from-step trapezoidCodec (count trapezoidCodec s) s p (omega (arith, c, l)) in
+      sym (first-record (tail d p) (n - p) z (omega (arith, l))) ∙ ap (λ (ts : List Trapezoid). getD ts 0 z) e
+
+  -- found as v
+  pub stand-placed : (v : Found) → FoundAs (λ t. overlaps t b) (front d n) v → v .before ≡ p → (p ≡ n → ⊥) → FirstPlaced (λ t. overlaps t b) (tail d p) (n - p) (v .placed)
+  stand-placed v w e u =
+      let l : p < n = omega (arith, stand-upto, u) in
+      let k = w .placed (omega (arith, e, l, front-count d n (leading-fits d n room h))) in
+      record {
+        some = omega (arith, l);
+        placed = subst (λ (t : Trapezoid). PlacedAs t (v .placed)) (ap (recordAt trapezoidCodec (front d n)) e ∙ sym (stand-first l)) (k .0);
+        passes = k .1;
+      }
 
   -- ---- they are replaced: f answers, and t comes back as the tail
   module _ (f : Folded) (t : List ℤ) (g : FoldedAs (length (tail d p)) (room - p) (minus (leading (tail d p) (n - p)) b) (minusStages 0 (leading (tail d p) (n - p)) b) f t) where

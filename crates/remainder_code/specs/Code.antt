@@ -9,11 +9,11 @@ use Rattle.lists.specs.Lists.{All}
 use Rattle.records.specs.Limits.{memoryWidth, maxRecords}
 use Rattle.records.specs.Records.{recordAt, recordsFrom, image, count, Blank}
 use Rattle.geometry.specs.declared.Trapezoid.{Trapezoid}
+use Rattle.geometry.specs.declared.Placed.{Placed}
 use Rattle.geometry.specs.Limit.{coordinateLimit}
 use Rattle.geometry.specs.Fitness.{FitFor}
 use Rattle.geometry.specs.Trapezoids.{trapezoidCodec, layerOf}
 use Rattle.geometry.specs.declared.Fill.the-variants.{Written}
-use Rattle.overlay.specs.Overlaps.{overlaps}
 use Rattle.boolean.specs.Operations.{minus, minusAll}
 use Rattle.boolean.specs.declared.Folded.{Folded}
 use Rattle.boolean.specs.declared.Folded.the-variants.{NoRoom, Done}
@@ -75,10 +75,16 @@ abbrev pub beforeFirst : (Trapezoid → Bool) → List Trapezoid → ℕ
 beforeFirst test [] = 0
 beforeFirst test (t ∷ ts) = cond (test t) 0 (suc (beforeFirst test ts))
 
--- the first trapezoid of a layer that overlaps a, if some does
-pub record FoundAs (a : Trapezoid) (layer : List ℤ) (r : Found) : Type 0 where
-  pub before : r .before ≡ beforeFirst (overlaps a) (layerOf layer)
-  pub placed : r .before < count trapezoidCodec layer → PlacedAs (recordAt trapezoidCodec layer (r .before)) (r .placed) × (overlaps a (r .placed .shape) ≡ true)
+-- the first trapezoid of a layer that passes a test, if some does
+pub record FoundAs (test : Trapezoid → Bool) (layer : List ℤ) (r : Found) : Type 0 where
+  pub before : r .before ≡ beforeFirst test (layerOf layer)
+  pub placed : r .before < count trapezoidCodec layer → PlacedAs (recordAt trapezoidCodec layer (r .before)) (r .placed) × (test (r .placed .shape) ≡ true)
+
+-- the first of n trapezoids, which passes a test
+pub record FirstPlaced (test : Trapezoid → Bool) (d : List ℤ) (n : ℕ) (first : Placed) : Type 0 where
+  pub some : 0 < n
+  pub placed : PlacedAs (recordAt trapezoidCodec d 0) first
+  pub passes : test (first .shape) ≡ true
 
 -- ---- the number of overlays
 -- the most that are made for one trapezoid, for a layer of them, and for an operation

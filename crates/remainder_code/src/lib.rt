@@ -21,17 +21,30 @@ ghost use Rattle.boolean.specs.Space.{addition};
 ghost use Rattle.trapezoids_code.specs.Placed.{PlacedAs, Pair};
 ghost use Rattle.trapezoids_code.specs.Tails.{Borrowed};
 ghost use Rattle.boxes_code.specs.Code.{BoxedAs, BoxedLayer};
-ghost use Rattle.remainder_code.specs.Code.{maxOverlays, withOverlays, OverlaysWithin, leading, Remaining, FoldedAs, beforeFirst, FoundAs, MinusWritten, ScratchFor};
+ghost use Rattle.remainder_code.specs.Code.{maxOverlays, withOverlays, OverlaysWithin, leading, Remaining, FoldedAs, FoundAs, FirstPlaced, MinusWritten, ScratchFor};
 
-// Each trapezoid of the remainder, in order, replaced by its parts that are not in b. Those not yet reached count against the room.
-pub fn minus_into(remainder: &[i32], b: Placed, out: &mut [i32], room: usize) -> Folded
+// Each trapezoid of the remainder, in order, replaced by its parts that are not in b. Those not yet reached count against the room. The first
+// overlaps b.
+pub fn minus_into(
+    remainder: &[i32],
+    first: Placed,
+    b: Placed,
+    out: &mut [i32],
+    room: usize,
+) -> Folded
     requires { ⌜ All (FitFor coordinateLimit) (layerOf (now remainder)) × (count trapezoidCodec (now remainder) ≤ room + 1) ⌝ }
     requires { ⌜ PlacedAs (b .shape) b × Borrowed (now out) room ⌝ }
+    requires { ⌜ FirstPlaced (λ t. overlaps t (b .shape)) (now remainder) (count trapezoidCodec (now remainder)) first ⌝ }
     ensures { λ r. ⌜ MinusWritten (now (out .entry)) room (layerOf (now (remainder .entry))) (b .shape) r (now (out .exit)) ⌝ }
 {
     let n = remainder.len() / records::MEMORY_WIDTH;
-    let mut k = 0;
-    let mut i = 0;
+    let g = overlay_code::overlapping_into(first, b, 1, out, room - (n - 1));
+    let Fill::Written(parts) = g else {
+        records_code::clear(out);
+        return Folded::NoRoom(1);
+    };
+    let mut k = parts;
+    let mut i = 1;
     while i < n {
         let t = trapezoids_code::load(remainder, i);
         let a = trapezoids_code::place(t);
@@ -61,35 +74,49 @@ fn move_into(out: &mut [i32], scratch: &mut [i32], n: usize)
     records_code::clear(&mut out[..end]);
 }
 
-// The n trapezoids that `out` holds are the remainder: each replaced by its parts that are not in b.
-fn replace(b: Placed, n: usize, out: &mut [i32], scratch: &mut [i32], room: usize) -> Folded
+// The n trapezoids that `out` holds are the remainder: each replaced by its parts that are not in b. The first overlaps b.
+fn replace(
+    first: Placed,
+    b: Placed,
+    n: usize,
+    out: &mut [i32],
+    scratch: &mut [i32],
+    room: usize,
+) -> Folded
     requires { ⌜ PlacedAs (b .shape) b × Remaining (now out) n room ⌝ }
     requires { ⌜ ScratchFor (now out) (now scratch) ⌝ }
+    requires { ⌜ FirstPlaced (λ t. overlaps t (b .shape)) (now out) n first ⌝ }
     ensures { λ r. ⌜ MinusWritten (now (out .entry)) room (leading (now (out .entry)) n) (b .shape) r (now (out .exit)) ⌝ }
     ensures { λ _. ⌜ Blank (pos 0) (now (scratch .exit)) ⌝ }
 {
     move_into(out, scratch, n);
     let end = records::MEMORY_WIDTH * n;
-    let f = minus_into(&scratch[..end], b, out, room);
+    let f = minus_into(&scratch[..end], first, b, out, room);
     records_code::clear(&mut scratch[..end]);
     f
 }
 
-// How many trapezoids of a layer come before the first that overlaps b; all of them if none does.
-fn first_overlapped(layer: &[i32], b: Placed) -> usize
+// The first trapezoid of a layer that overlaps b; if none does, all of the layer comes before b itself.
+fn first_overlapped(layer: &[i32], b: Placed) -> Found
     requires { ⌜ All (FitFor coordinateLimit) (layerOf (now layer)) × PlacedAs (b .shape) b ⌝ }
-    ensures { λ r. ⌜ r ≡ beforeFirst (λ t. overlaps t (b .shape)) (layerOf (now (layer .entry))) ⌝ }
+    ensures { λ r. ⌜ FoundAs (λ t. overlaps t (b .shape)) (now (layer .entry)) r ⌝ }
 {
     let n = layer.len() / records::MEMORY_WIDTH;
     let mut i = 0;
     while i < n {
         let a = trapezoids_code::placed_at(layer, i);
         if overlaps_code::overlapping(a, b) {
-            return i;
+            return Found {
+                before: i,
+                placed: a,
+            };
         }
         i += 1;
     }
-    i
+    Found {
+        before: i,
+        placed: b,
+    }
 }
 
 // The n trapezoids that `out` holds are the remainder: each replaced by its parts that are not in b. Those before the first that overlaps b stand.
@@ -99,7 +126,8 @@ pub fn reduce(b: Placed, n: usize, out: &mut [i32], scratch: &mut [i32], room: u
     ensures { λ r. ⌜ MinusWritten (now (out .entry)) room (leading (now (out .entry)) n) (b .shape) r (now (out .exit)) ⌝ }
     ensures { λ _. ⌜ Blank (pos 0) (now (scratch .exit)) ⌝ }
 {
-    let p = first_overlapped(&out[..records::MEMORY_WIDTH * n], b);
+    let v = first_overlapped(&out[..records::MEMORY_WIDTH * n], b);
+    let p = v.before;
     if p == n {
         return Folded::Done {
             trapezoids: n,
@@ -107,7 +135,14 @@ pub fn reduce(b: Placed, n: usize, out: &mut [i32], scratch: &mut [i32], room: u
         };
     }
     let start = records::MEMORY_WIDTH * p;
-    let f = replace(b, n - p, &mut out[start..], &mut scratch[start..], room - p);
+    let f = replace(
+        v.placed,
+        b,
+        n - p,
+        &mut out[start..],
+        &mut scratch[start..],
+        room - p,
+    );
     match f {
         Folded::NoRoom(overlays) => {
             records_code::clear(&mut out[..start]);
@@ -188,7 +223,7 @@ pub fn add_whole(a: Placed, out: &mut [i32], room: usize) -> Folded
 // The first trapezoid of a layer that overlaps a; if none does, all of the layer comes before a itself.
 pub fn first_overlapping(a: Placed, e: Box, layer: &[i32], boxes: &[i64]) -> Found
     requires { ⌜ BoxedAs a e × BoxedLayer (now layer) (now boxes) ⌝ }
-    ensures { λ r. ⌜ FoundAs (a .shape) (now (layer .entry)) r ⌝ }
+    ensures { λ r. ⌜ FoundAs (overlaps (a .shape)) (now (layer .entry)) r ⌝ }
 {
     let n = layer.len() / records::MEMORY_WIDTH;
     let mut i = 0;

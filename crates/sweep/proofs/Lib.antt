@@ -4,5 +4,4 @@ pub mod Slabs
 pub mod Column
 pub mod Between
 pub mod Sweep
-pub mod Loop
 mod Examples

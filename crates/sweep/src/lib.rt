@@ -1,4 +1,4 @@
-// What is held while events are looked through.
+// What is held of an event.
 use geometry::Base;
 use geometry::Position;
 
@@ -6,9 +6,4 @@ use geometry::Position;
 pub struct Event {
     pub base: Base,
     pub at: Position,
-}
-
-pub enum Next {
-    Nothing,
-    Found(Event),
 }

@@ -1,6 +1,7 @@
-//! How times grow with the number of trapezoids.
+//! How times grow with the number of trapezoids, and of vertices.
 
 use super::components;
+use super::fracture;
 use super::layers::Apart;
 use super::operation::Operation;
 use super::timing::{digits, Timed};
@@ -28,27 +29,42 @@ pub fn table() {
         Operation::Equal.time(a, a, 512)
     });
     rows("components", &SIDES, |a, _| components::time(a));
+    println!();
+    println!("And of fracture with the vertices of one random polygon.");
+    println!();
+    println!("| call          | by           |       8 |      16 |      32 | exponent |");
+    println!("|---------------|--------------|--------:|--------:|--------:|---------:|");
+    let times = fracture::GROWING.map(|count| fracture::time_one(fracture::with_room(count)));
+    let larger = fracture::GROWING[2] as f64 / fracture::GROWING[0] as f64;
+    print("fracture", &times, times.len(), larger);
 }
 
 /// The rows of a call.
 fn rows(call: &str, sides: &[i32], time: impl Fn(&[i32], &[i32]) -> Timed) {
-    let (mut library, mut reference) = (Vec::new(), Vec::new());
-    for &side in sides {
-        let [a, b] = Apart::Grid.layers(side);
-        let timed = time(&a, &b);
-        library.push(timed.library);
-        reference.push(timed.reference);
-    }
+    let times: Vec<Timed> = sides
+        .iter()
+        .map(|&side| {
+            let [a, b] = Apart::Grid.layers(side);
+            time(&a, &b)
+        })
+        .collect();
     let larger = (sides[sides.len() - 1] as f64 / sides[0] as f64).powi(2);
-    for (by, times) in [("library", library), ("Rust program", reference)] {
-        let longer = times[times.len() - 1] / times[0];
-        let mut columns: Vec<String> = times.into_iter().map(digits).collect();
-        columns.resize(SIDES.len(), "-".to_string());
-        let columns: Vec<String> = columns.iter().map(|time| format!("{time:>7}")).collect();
+    print(call, &times, SIDES.len(), larger);
+}
+
+/// Prints times in so many columns; the last size is so much larger than the first.
+fn print(call: &str, times: &[Timed], columns: usize, larger: f64) {
+    let by = |name: &str, time: fn(&Timed) -> f64| {
+        let longer = time(&times[times.len() - 1]) / time(&times[0]);
+        let mut cells: Vec<String> = times.iter().map(|t| digits(time(t))).collect();
+        cells.resize(columns, "-".to_string());
+        let cells: Vec<String> = cells.iter().map(|cell| format!("{cell:>7}")).collect();
         println!(
-            "| {call:<13} | {by:<12} | {} | {:>8.2} |",
-            columns.join(" | "),
+            "| {call:<13} | {name:<12} | {} | {:>8.2} |",
+            cells.join(" | "),
             longer.ln() / larger.ln(),
         );
-    }
+    };
+    by("library", |t| t.library);
+    by("Rust program", |t| t.reference);
 }

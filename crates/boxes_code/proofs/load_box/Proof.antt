@@ -10,7 +10,7 @@ returns c =
     let at-get3 = c .before in
     let at-get2 = at-get3 .before in
     let at-get = at-get2 .before in
-    same-box (at-get .get .ensures) (at-get2 .get2 .ensures) (at-get3 .get3 .ensures) (c .get4 .ensures)
+    same-box (at-get .get-number .ensures) (at-get2 .get-number2 .ensures) (at-get3 .get-number3 .ensures) (c .get-number4 .ensures)
 
 pub load-box-spec : {M : Type 1} → statement M
 load-box-spec =

@@ -13,7 +13,7 @@ returns c =
     let at-put = at-put2 .before .before .before in
     let at-start = at-put .before .before in
     let s = at-start .args in
-    four-sets (s .boxes .now) (boxWidth * s .i) (s .e) (at-put .put .ensures) (at-put2 .put2 .ensures) (at-put3 .put3 .ensures) (at-put4 .put4 .ensures)
+    four-sets (s .boxes .now) (boxWidth * s .i) (s .e) (at-put .put-number .ensures) (at-put2 .put-number2 .ensures) (at-put3 .put-number3 .ensures) (at-put4 .put-number4 .ensures)
 
 pub set-box-spec : {M : Type 1} → statement M
 set-box-spec =

@@ -1,4 +1,5 @@
 use mathlib.Core.Path.{sym, _∙_}
+use mathlib.Core.Logic.{inl, inr}
 use native.Mathlib.Omega.{arith}
 use borrow.Author.Needs.{needs}
 use Rattle.columns_code.proofs.SideOrder.{less-up, less-down, less-same, less-first, less-second, less-neither}
@@ -14,7 +15,8 @@ returns c A B x h =
     let at-if1 = at-present2 .before in
     let at-present = at-if1 .before in
     let s = at-present .before .args in
-    less-up A B x (s .in-a) (s .in-b) (s .i) (s .j) (at-order-up .order-up .result) (c .less-by .result) (at-if3 .if3 .taken) (sym (at-present .present .ensures) ∙ at-if1 .if1 .taken) (sym (at-present2 .present2 .ensures) ∙ at-if2 .if2 .taken) (at-order-up .order-up .ensures A B x h) (c .less-by .ensures)
+    let second = sym (at-present2 .present2 .ensures) ∙ at-if2 .if2 .taken in
+    less-up A B x (s .in-a) (s .in-b) (s .i) (s .j) (at-order-up .order-up .result) (c .less-by .result) (at-if3 .if3 .taken) (sym (at-present .present .ensures) ∙ at-if1 .if1 .taken) second (at-order-up .order-up .ensures A B x _ _ h (inr second)) (c .less-by .ensures)
 
 returns-2 : tie.Need-returns-2
 returns-2 c A B x h =
@@ -25,7 +27,8 @@ returns-2 c A B x h =
     let at-if1 = at-present2 .before in
     let at-present = at-if1 .before in
     let s = at-present .before .args in
-    less-down A B x (s .in-a) (s .in-b) (s .i) (s .j) (at-order-up2 .order-up2 .result) (c .less-by2 .result) (at-if4 .if4 .taken) (sym (at-present .present .ensures) ∙ at-if1 .if1 .taken) (sym (at-present2 .present2 .ensures) ∙ at-if2 .if2 .taken) (at-order-up2 .order-up2 .ensures A B x h) (c .less-by2 .ensures)
+    let second = sym (at-present2 .present2 .ensures) ∙ at-if2 .if2 .taken in
+    less-down A B x (s .in-a) (s .in-b) (s .i) (s .j) (at-order-up2 .order-up2 .result) (c .less-by2 .result) (at-if4 .if4 .taken) (sym (at-present .present .ensures) ∙ at-if1 .if1 .taken) second (at-order-up2 .order-up2 .ensures A B x _ _ h (inl second)) (c .less-by2 .ensures)
 
 returns-3 : tie.Need-returns-3
 returns-3 c A B x h =

@@ -2,7 +2,7 @@ use mathlib.Core.Path.{sym, _∙_, ap}
 use lib.IntN.{ℤ}
 use lib.Signed.{ltZ}
 use borrow.Author.Needs.{needs}
-use Rattle.fracture_code.proofs.Groups.{zero-negative, zero-positive, zero-neither}
+use Rattle.fracture_code.proofs.Sums.{zero-negative, zero-positive, zero-neither}
 use Rattle.fracture_code.proofs.is_zero.Statement.{statement}
 use Rattle.fracture_code.proofs.is_zero.Tie as tie
 

@@ -64,9 +64,11 @@ coefficients l k r h e across up along =
       dx = d;
       dy = y;
       offset = o;
-      dx-small = within-is d (dx-within coordinateLimit l h) .size;
-      dy-small = within-is y (dy-within coordinateLimit l h) .size;
-      offset-small = within-is o (offset-within coordinateLimit l h) .size;
+      small = record {
+        dx-small = within-is d (dx-within coordinateLimit l h) .size;
+        dy-small = within-is y (dy-within coordinateLimit l h) .size;
+        offset-small = within-is o (offset-within coordinateLimit l h) .size;
+      };
     }
 
 returns : tie.Need-returns

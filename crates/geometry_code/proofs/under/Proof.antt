@@ -11,13 +11,13 @@ coefficients-of-requires : tie.Need-coefficients-of-requires
 coefficients-of-requires c κs = c .pre .0
 
 mul-requires : tie.Need-mul-requires
-mul-requires c κs = omega (arith, mul-le-mul (c .coefficients-of .ensures .dx-small) (c .before .pre .1 .y-small))
+mul-requires c κs = omega (arith, mul-le-mul (c .coefficients-of .ensures .small .dx-small) (c .before .pre .1 .y-small))
 
 mul-requires-2 : tie.Need-mul-requires-2
-mul-requires-2 c κs = omega (arith, mul-le-mul (c .before .coefficients-of .ensures .dy-small) (c .before .before .pre .1 .x-small))
+mul-requires-2 c κs = omega (arith, mul-le-mul (c .before .coefficients-of .ensures .small .dy-small) (c .before .before .pre .1 .x-small))
 
 mul-requires-3 : tie.Need-mul-requires-3
-mul-requires-3 c κs = omega (arith, mul-le-mul (c .before .before .coefficients-of .ensures .offset-small) (c .before .before .before .pre .1 .d-small))
+mul-requires-3 c κs = omega (arith, mul-le-mul (c .before .before .coefficients-of .ensures .small .offset-small) (c .before .before .before .pre .1 .d-small))
 
 sub-requires : tie.Need-sub-requires
 sub-requires c κs =
@@ -27,7 +27,7 @@ sub-requires c κs =
     let at-start = at-coefficients-of .before in
     let k = at-coefficients-of .coefficients-of .ensures in
     let p = at-start .pre .1 in
-    omega (arith, at-mul .mul .ensures .1, at-mul2 .mul2 .ensures .1, mul-le-mul (k .dx-small) (p .y-small), mul-le-mul (k .dy-small) (p .x-small))
+    omega (arith, at-mul .mul .ensures .1, at-mul2 .mul2 .ensures .1, mul-le-mul (k .small .dx-small) (p .y-small), mul-le-mul (k .small .dy-small) (p .x-small))
 
 sub-requires-2 : tie.Need-sub-requires-2
 sub-requires-2 c κs =
@@ -38,7 +38,7 @@ sub-requires-2 c κs =
     let at-start = at-coefficients-of .before in
     let k = at-coefficients-of .coefficients-of .ensures in
     let p = at-start .pre .1 in
-    omega (arith, c .sub .ensures .1, at-mul .mul .ensures .1, at-mul2 .mul2 .ensures .1, at-mul3 .mul3 .ensures .1, mul-le-mul (k .dx-small) (p .y-small), mul-le-mul (k .dy-small) (p .x-small), mul-le-mul (k .offset-small) (p .d-small))
+    omega (arith, c .sub .ensures .1, at-mul .mul .ensures .1, at-mul2 .mul2 .ensures .1, at-mul3 .mul3 .ensures .1, mul-le-mul (k .small .dx-small) (p .y-small), mul-le-mul (k .small .dy-small) (p .x-small), mul-le-mul (k .small .offset-small) (p .d-small))
 
 of-requires : tie.Need-of-requires
 of-requires c κs = tt

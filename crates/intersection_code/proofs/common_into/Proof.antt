@@ -14,6 +14,7 @@ use Rattle.trapezoids_code.proofs.Placed.{placed-own}
 use Rattle.boxes_code.proofs.Layers.{apart-at}
 use Rattle.remainder_code.proofs.Answers.{once}
 use Rattle.remainder_code.proofs.Folding.{Folding, blank-start, fold-words, fold-stop, fold-borrowed, fold-long, Turned, fill-turn}
+use Rattle.overlay_code.proofs.Within.{of-both}
 use Rattle.intersection_code.proofs.Folds.{commonFold, common-steps, common-part, common-passed}
 use Rattle.intersection_code.proofs.common_into.Statement.{statement}
 use Rattle.intersection_code.proofs.common_into.Tie as tie
@@ -70,7 +71,7 @@ overlay-into-requires c κs =
     let at-loop = at-placed-at .before .before .before .before in
     let at-start = at-loop .before in
     let h = at-loop .loop .inv in
-    (record { first = at-start .pre .0 .placed; second = placed-own (at-placed-at .placed-at .ensures) }, omega arith, fold-borrowed h _ (omega (arith, h .within)))
+    (record { first = at-start .pre .0 .placed; second = placed-own (at-placed-at .placed-at .ensures) }, of-both, fold-borrowed h _ (omega (arith, h .within)))
 
 -- the parts common to a and number i
 turn : (o : tie.After-overlay-into Inv-loop μ-loop)

@@ -1,6 +1,7 @@
 use mathlib.Core.Path.{ap}
 use lib.ListN.{length}
 use borrow.Author.Needs.{needs}
+use Rattle.overlay_code.proofs.Within.{of-first}
 use Rattle.remainder_code.proofs.Answers.{once}
 use Rattle.remainder_code.proofs.One.{first-folded}
 use Rattle.remainder_code.proofs.first_into.Statement.{statement}
@@ -27,7 +28,7 @@ pub first-into-spec : {M : Type 1} → statement M
 first-into-spec =
     tie.close
     (tie.spec
-    (λ c κs. search needs)
+    (λ c κs. let h = c .before .pre in (h .0, of-first, h .1))
     (λ c. search needs)
     (λ c. search needs)
     (λ c. search needs)

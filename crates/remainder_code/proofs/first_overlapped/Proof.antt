@@ -1,6 +1,7 @@
 -- Before turn i: none of the first i trapezoids of the layer overlaps b.
 use mathlib.Core.Path.{sym, _∙_}
 use Prim.Native.Nat.{_-_}
+use native.Mathlib.Omega.{arith}
 use borrow.Author.Needs.{needs}
 use Rattle.trapezoids_code.proofs.Placed.{placed-own}
 use Rattle.overlay.specs.Overlaps.{overlaps}
@@ -30,7 +31,12 @@ returns c =
     let at-loop-test = at-placed-at .before in
     let at-loop = at-loop-test .before in
     let at-start = at-loop .before in
-    pass-found (λ t. overlaps t (at-start .args .b .shape)) (at-loop .loop .inv) (at-loop-test .loop-test .taken) (at-placed-at .placed-at .result .shape) (at-placed-at .placed-at .ensures .shape) (sym (at-overlapping .overlapping .ensures) ∙ c .if1 .taken)
+    let p = at-placed-at .placed-at in
+    let o = sym (at-overlapping .overlapping .ensures) ∙ c .if1 .taken in
+    record {
+      before = pass-found (λ t. overlaps t (at-start .args .b .shape)) (at-loop .loop .inv) (at-loop-test .loop-test .taken) (p .result .shape) (p .ensures .shape) o;
+      placed = λ _. (p .ensures, o);
+    }
 
 loop-again : tie.Need-loop-again Inv-loop μ-loop
 loop-again c =
@@ -42,7 +48,10 @@ loop-again c =
     pass-turn (λ t. overlaps t (at-start .args .b .shape)) (at-loop .loop .inv) (at-loop-test .loop-test .taken) (at-placed-at .placed-at .result .shape) (at-placed-at .placed-at .ensures .shape) (sym (at-overlapping .overlapping .ensures) ∙ c .if1 .left)
 
 returns-2 : tie.Need-returns-2 Inv-loop μ-loop
-returns-2 c = pass-stop (λ t. overlaps t (c .before .before .args .b .shape)) (c .before .loop .inv) (c .loop-test .left)
+returns-2 c =
+    let at-loop = c .before in
+    let l = c .loop-test .left in
+    record { before = pass-stop (λ t. overlaps t (at-loop .before .args .b .shape)) (at-loop .loop .inv) l; placed = λ s. absurd (omega (arith, l, s)) }
 
 pub first-overlapped-spec : {M : Type 1} → statement M
 first-overlapped-spec =

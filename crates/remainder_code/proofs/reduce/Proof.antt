@@ -1,4 +1,4 @@
-use mathlib.Core.Path.{sym}
+use mathlib.Core.Path.{refl, sym}
 use Prim.Native.Nat.{_*_, _-_, _≤_}
 use native.Mathlib.Omega.{arith}
 use lib.ListN.{length}
@@ -6,7 +6,7 @@ use borrow.Author.Needs.{needs}
 use borrow.Rule.Slice.PartMut.{same-len-mid}
 use Rattle.records.specs.Limits.{memoryWidth}
 use Rattle.remainder_code.proofs.Leading.{front-length, leading-fits, leading-fit, scratch-tail, back-blank}
-use Rattle.remainder_code.proofs.Standing.{stand-upto, stand-fits, stand-all, stand-remaining, full-few, done-few, back-length, stand-full, stand-done}
+use Rattle.remainder_code.proofs.Standing.{stand-upto, stand-fits, stand-all, stand-remaining, stand-placed, full-few, done-few, back-length, stand-full, stand-done}
 use Rattle.remainder_code.proofs.reduce.Statement.{statement}
 use Rattle.remainder_code.proofs.reduce.Tie as tie
 
@@ -28,22 +28,22 @@ returns c =
     let at-start = at-first-overlapped .before .before in
     let a = at-start .args in
     let v = at-first-overlapped .first-overlapped in
-    (stand-all (a .out .now) (a .n) (a .room) (at-start .pre .0 .1) (a .b .shape) (v .result) (v .ensures) (c .if1 .taken), at-start .pre .1 .0)
+    (stand-all (a .out .now) (a .n) (a .room) (at-start .pre .0 .1) (a .b .shape) (v .result .before) (v .ensures .before) (c .if1 .taken), at-start .pre .1 .0)
 
 -- those that stand
-upto : (o : tie.After-first-overlapped) → let at-start = o .before .before in o .first-overlapped .result ≤ at-start .args .n
+upto : (o : tie.After-first-overlapped) → let at-start = o .before .before in o .first-overlapped .result .before ≤ at-start .args .n
 upto o =
     let at-start = o .before .before in
     let a = at-start .args in
     let v = o .first-overlapped in
-    stand-upto (a .out .now) (a .n) (a .room) (at-start .pre .0 .1) (a .b .shape) (v .result) (v .ensures)
+    stand-upto (a .out .now) (a .n) (a .room) (at-start .pre .0 .1) (a .b .shape) (v .result .before) (v .ensures .before)
 
-fits : (o : tie.After-first-overlapped) → let at-start = o .before .before in memoryWidth * o .first-overlapped .result ≤ length (at-start .args .out .now)
+fits : (o : tie.After-first-overlapped) → let at-start = o .before .before in memoryWidth * o .first-overlapped .result .before ≤ length (at-start .args .out .now)
 fits o =
     let at-start = o .before .before in
     let a = at-start .args in
     let v = o .first-overlapped in
-    stand-fits (a .out .now) (a .n) (a .room) (at-start .pre .0 .1) (a .b .shape) (v .result) (v .ensures)
+    stand-fits (a .out .now) (a .n) (a .room) (at-start .pre .0 .1) (a .b .shape) (v .result .before) (v .ensures .before)
 
 mul-start : tie.Need-mul-start
 mul-start c =
@@ -99,7 +99,7 @@ replace-requires c κs =
     let at-start = at-first-overlapped .before .before in
     let a = at-start .args in
     let v = at-first-overlapped .first-overlapped in
-    ((at-start .pre .0 .0, stand-remaining (a .out .now) (a .n) (a .room) (at-start .pre .0 .1) (a .b .shape) (v .result) (v .ensures)), scratch-tail (a .out .now) (a .scratch .now) (v .result) (at-start .pre .1))
+    ((at-start .pre .0 .0, stand-remaining (a .out .now) (a .n) (a .room) (at-start .pre .0 .1) (a .b .shape) (v .result .before) (v .ensures .before)), (scratch-tail (a .out .now) (a .scratch .now) (v .result .before) (at-start .pre .1), stand-placed (a .out .now) (a .n) (a .room) (at-start .pre .0 .1) (a .b .shape) (v .result .before) (v .ensures .before) (v .result) (v .ensures) refl (c .before .before .if1 .left)))
 
 slice-relend-prefix-clear : tie.Need-slice-relend-prefix-clear
 slice-relend-prefix-clear c =
@@ -109,8 +109,8 @@ slice-relend-prefix-clear c =
     let a = at-start .args in
     let v = at-first-overlapped .first-overlapped in
     let f = at-replace .replace in
-    let e = memoryWidth * v .result in
-    omega (arith, fits at-first-overlapped, same-len-mid e (length (a .out .now) - e) (a .out .now) (f .last .1 .1 .0) (f .kept .1 .1 .0))
+    let e = memoryWidth * v .result .before in
+    omega (arith, fits at-first-overlapped, same-len-mid e (length (a .out .now) - e) (a .out .now) (f .last .1 .1 .1 .0) (f .kept .1 .1 .1 .0))
 
 slice-aggregate-clear : tie.Need-slice-aggregate-clear
 slice-aggregate-clear c =
@@ -120,10 +120,10 @@ slice-aggregate-clear c =
     let a = at-start .args in
     let v = at-first-overlapped .first-overlapped in
     let f = at-replace .replace in
-    back-length (a .out .now) (a .n) (a .room) (at-start .pre .0 .1) (a .b .shape) (v .result) (v .ensures) (f .result) (f .last .1 .1 .0) (f .ensures .0)
+    back-length (a .out .now) (a .n) (a .room) (at-start .pre .0 .1) (a .b .shape) (v .result .before) (v .ensures .before) (f .result) (f .last .1 .1 .1 .0) (f .ensures .0)
 
-add-t31 : tie.Need-add-t31
-add-t31 c =
+add-t32 : tie.Need-add-t32
+add-t32 c =
     let at-f = c .before .before .before .before in
     let at-replace = at-f .before .before .before .before in
     let at-first-overlapped = at-replace .before .before .before .before in
@@ -131,18 +131,7 @@ add-t31 c =
     let a = at-start .args in
     let v = at-first-overlapped .first-overlapped in
     let f = at-replace .replace in
-    omega (arith, full-few (a .out .now) (a .n) (a .room) (at-start .pre .0 .1) (a .b .shape) (v .result) (v .ensures) (f .result) (f .last .1 .1 .0) (f .ensures .0) _ (at-f .f .given .1), at-start .good .1 .0)
-
-add-t32 : tie.Need-add-t32
-add-t32 c =
-    let at-f2 = c .before in
-    let at-replace = at-f2 .before .before .before .before in
-    let at-first-overlapped = at-replace .before .before .before .before in
-    let at-start = at-first-overlapped .before .before in
-    let a = at-start .args in
-    let v = at-first-overlapped .first-overlapped in
-    let f = at-replace .replace in
-    omega (arith, done-few (a .out .now) (a .n) (a .room) (at-start .pre .0 .1) (a .b .shape) (v .result) (v .ensures) (f .result) (f .last .1 .1 .0) (f .ensures .0) _ _ (at-f2 .f2 .given .1) .0, at-start .pre .0 .1 .wide, at-start .good .1 .1 .0)
+    omega (arith, full-few (a .out .now) (a .n) (a .room) (at-start .pre .0 .1) (a .b .shape) (v .result .before) (v .ensures .before) (f .result) (f .last .1 .1 .1 .0) (f .ensures .0) _ (at-f .f .given .1), at-start .good .1 .0)
 
 add-t33 : tie.Need-add-t33
 add-t33 c =
@@ -153,7 +142,18 @@ add-t33 c =
     let a = at-start .args in
     let v = at-first-overlapped .first-overlapped in
     let f = at-replace .replace in
-    omega (arith, done-few (a .out .now) (a .n) (a .room) (at-start .pre .0 .1) (a .b .shape) (v .result) (v .ensures) (f .result) (f .last .1 .1 .0) (f .ensures .0) _ _ (at-f2 .f2 .given .1) .1, at-start .good .1 .0)
+    omega (arith, done-few (a .out .now) (a .n) (a .room) (at-start .pre .0 .1) (a .b .shape) (v .result .before) (v .ensures .before) (f .result) (f .last .1 .1 .1 .0) (f .ensures .0) _ _ (at-f2 .f2 .given .1) .0, at-start .pre .0 .1 .wide, at-start .good .1 .1 .0)
+
+add-t34 : tie.Need-add-t34
+add-t34 c =
+    let at-f2 = c .before in
+    let at-replace = at-f2 .before .before .before .before in
+    let at-first-overlapped = at-replace .before .before .before .before in
+    let at-start = at-first-overlapped .before .before in
+    let a = at-start .args in
+    let v = at-first-overlapped .first-overlapped in
+    let f = at-replace .replace in
+    omega (arith, done-few (a .out .now) (a .n) (a .room) (at-start .pre .0 .1) (a .b .shape) (v .result .before) (v .ensures .before) (f .result) (f .last .1 .1 .1 .0) (f .ensures .0) _ _ (at-f2 .f2 .given .1) .1, at-start .good .1 .0)
 
 returns-2 : tie.Need-returns-2
 returns-2 c =
@@ -165,7 +165,7 @@ returns-2 c =
     let a = at-start .args in
     let v = at-first-overlapped .first-overlapped in
     let f = at-replace .replace in
-    (stand-full (a .out .now) (a .n) (a .room) (at-start .pre .0 .1) (a .b .shape) (v .result) (v .ensures) (f .result) (f .last .1 .1 .0) (f .ensures .0) _ (at-f .f .given .1) (at-clear .clear .last .0) (at-clear .clear .ensures), back-blank (a .scratch .now) (v .result) (omega (arith, fits at-first-overlapped, at-start .pre .1 .1)) (f .last .1 .1 .1 .0) (at-start .pre .1 .0) (f .ensures .1))
+    (stand-full (a .out .now) (a .n) (a .room) (at-start .pre .0 .1) (a .b .shape) (v .result .before) (v .ensures .before) (f .result) (f .last .1 .1 .1 .0) (f .ensures .0) _ (at-f .f .given .1) (at-clear .clear .last .0) (at-clear .clear .ensures), back-blank (a .scratch .now) (v .result .before) (omega (arith, fits at-first-overlapped, at-start .pre .1 .1)) (f .last .1 .1 .1 .1 .0) (at-start .pre .1 .0) (f .ensures .1))
 
 returns-3 : tie.Need-returns-3
 returns-3 c =
@@ -176,7 +176,7 @@ returns-3 c =
     let a = at-start .args in
     let v = at-first-overlapped .first-overlapped in
     let f = at-replace .replace in
-    (stand-done (a .out .now) (a .n) (a .room) (at-start .pre .0 .1) (a .b .shape) (v .result) (v .ensures) (f .result) (f .last .1 .1 .0) (f .ensures .0) _ _ (at-f2 .f2 .given .1), back-blank (a .scratch .now) (v .result) (omega (arith, fits at-first-overlapped, at-start .pre .1 .1)) (f .last .1 .1 .1 .0) (at-start .pre .1 .0) (f .ensures .1))
+    (stand-done (a .out .now) (a .n) (a .room) (at-start .pre .0 .1) (a .b .shape) (v .result .before) (v .ensures .before) (f .result) (f .last .1 .1 .1 .0) (f .ensures .0) _ _ (at-f2 .f2 .given .1), back-blank (a .scratch .now) (v .result .before) (omega (arith, fits at-first-overlapped, at-start .pre .1 .1)) (f .last .1 .1 .1 .1 .0) (at-start .pre .1 .0) (f .ensures .1))
 
 pub reduce-spec : {M : Type 1} → statement M
 reduce-spec =
@@ -204,10 +204,10 @@ reduce-spec =
     slice-relend-prefix-clear
     slice-aggregate-clear
     (λ c κs. search needs)
-    add-t31
-    (λ c. search needs)
     add-t32
+    (λ c. search needs)
     add-t33
+    add-t34
     (λ c. search needs)
     (λ c. search needs)
     returns-2

@@ -1,5 +1,5 @@
 use borrow.Author.Needs.{needs}
-use Rattle.remainder_code.proofs.Moving.{remainder-length, remainder-fit, remainder-count, remainder-borrowed, remainder-folded, remainder-back}
+use Rattle.remainder_code.proofs.Moving.{remainder-length, remainder-fit, remainder-count, remainder-first, remainder-borrowed, remainder-folded, remainder-back}
 use Rattle.remainder_code.proofs.replace.Statement.{statement}
 use Rattle.remainder_code.proofs.replace.Tie as tie
 
@@ -9,7 +9,7 @@ slice-aggregate-minus-into c =
     let at-start = at-move-into .before .before .before in
     let m = at-move-into .move-into in
     let a = at-start .args in
-    remainder-length (a .out .now) (a .scratch .now) (m .last .0) (m .last .1 .0) (a .n) (a .room) (at-start .pre .0 .1) (at-start .pre .1 .0) (at-start .pre .1 .1) (m .ensures .0) (m .ensures .1)
+    remainder-length (a .out .now) (a .scratch .now) (m .last .0) (m .last .1 .0) (a .n) (a .room) (at-start .pre .0 .1) (at-start .pre .1 .0 .0) (at-start .pre .1 .0 .1) (m .ensures .0) (m .ensures .1)
 
 minus-into-requires : tie.Need-minus-into-requires
 minus-into-requires c κs =
@@ -17,7 +17,7 @@ minus-into-requires c κs =
     let at-start = at-move-into .before .before .before in
     let m = at-move-into .move-into in
     let a = at-start .args in
-    ((remainder-fit (a .out .now) (a .scratch .now) (m .last .0) (m .last .1 .0) (a .n) (a .room) (at-start .pre .0 .1) (at-start .pre .1 .0) (at-start .pre .1 .1) (m .ensures .0) (m .ensures .1), remainder-count (a .out .now) (a .scratch .now) (m .last .0) (m .last .1 .0) (a .n) (a .room) (at-start .pre .0 .1) (at-start .pre .1 .0) (at-start .pre .1 .1) (m .ensures .0) (m .ensures .1)), (at-start .pre .0 .0, remainder-borrowed (a .out .now) (a .scratch .now) (m .last .0) (m .last .1 .0) (a .n) (a .room) (at-start .pre .0 .1) (at-start .pre .1 .0) (at-start .pre .1 .1) (m .ensures .0) (m .ensures .1)))
+    ((remainder-fit (a .out .now) (a .scratch .now) (m .last .0) (m .last .1 .0) (a .n) (a .room) (at-start .pre .0 .1) (at-start .pre .1 .0 .0) (at-start .pre .1 .0 .1) (m .ensures .0) (m .ensures .1), remainder-count (a .out .now) (a .scratch .now) (m .last .0) (m .last .1 .0) (a .n) (a .room) (at-start .pre .0 .1) (at-start .pre .1 .0 .0) (at-start .pre .1 .0 .1) (m .ensures .0) (m .ensures .1)), ((at-start .pre .0 .0, remainder-borrowed (a .out .now) (a .scratch .now) (m .last .0) (m .last .1 .0) (a .n) (a .room) (at-start .pre .0 .1) (at-start .pre .1 .0 .0) (at-start .pre .1 .0 .1) (m .ensures .0) (m .ensures .1)), remainder-first (a .out .now) (a .scratch .now) (m .last .0) (m .last .1 .0) (a .n) (a .room) (at-start .pre .0 .1) (at-start .pre .1 .0 .0) (at-start .pre .1 .0 .1) (m .ensures .0) (m .ensures .1) _ (a .first) (at-start .pre .1 .1)))
 
 slice-aggregate-clear : tie.Need-slice-aggregate-clear
 slice-aggregate-clear c =
@@ -25,7 +25,7 @@ slice-aggregate-clear c =
     let at-start = at-move-into .before .before .before in
     let m = at-move-into .move-into in
     let a = at-start .args in
-    remainder-length (a .out .now) (a .scratch .now) (m .last .0) (m .last .1 .0) (a .n) (a .room) (at-start .pre .0 .1) (at-start .pre .1 .0) (at-start .pre .1 .1) (m .ensures .0) (m .ensures .1)
+    remainder-length (a .out .now) (a .scratch .now) (m .last .0) (m .last .1 .0) (a .n) (a .room) (at-start .pre .0 .1) (at-start .pre .1 .0 .0) (at-start .pre .1 .0 .1) (m .ensures .0) (m .ensures .1)
 
 returns : tie.Need-returns
 returns c =
@@ -36,7 +36,7 @@ returns c =
     let m = at-move-into .move-into in
     let a = at-start .args in
     let f = at-minus-into .minus-into in
-    (remainder-folded (a .out .now) (a .scratch .now) (m .last .0) (m .last .1 .0) (a .n) (a .room) (at-start .pre .0 .1) (at-start .pre .1 .0) (at-start .pre .1 .1) (m .ensures .0) (m .ensures .1) (a .b .shape) (f .result) (f .last .1 .1 .0) (f .ensures), remainder-back (a .out .now) (a .scratch .now) (m .last .0) (m .last .1 .0) (a .n) (a .room) (at-start .pre .0 .1) (at-start .pre .1 .0) (at-start .pre .1 .1) (m .ensures .0) (m .ensures .1) (at-clear .clear .last .0) (at-clear .clear .ensures))
+    (remainder-folded (a .out .now) (a .scratch .now) (m .last .0) (m .last .1 .0) (a .n) (a .room) (at-start .pre .0 .1) (at-start .pre .1 .0 .0) (at-start .pre .1 .0 .1) (m .ensures .0) (m .ensures .1) (a .b .shape) (f .result) (f .last .1 .1 .1 .0) (f .ensures), remainder-back (a .out .now) (a .scratch .now) (m .last .0) (m .last .1 .0) (a .n) (a .room) (at-start .pre .0 .1) (at-start .pre .1 .0 .0) (at-start .pre .1 .0 .1) (m .ensures .0) (m .ensures .1) (at-clear .clear .last .0) (at-clear .clear .ensures))
 
 pub replace-spec : {M : Type 1} → statement M
 replace-spec =

@@ -1,0 +1,2 @@
+-- The groups of a column in arrays.
+pub mod Groups

@@ -1,0 +1,2 @@
+-- The edges of a polygon in slices.
+pub mod Edges

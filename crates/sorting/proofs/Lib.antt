@@ -1,0 +1,4 @@
+pub mod Inserting
+pub mod Merging
+pub mod Ends
+pub mod Weighing

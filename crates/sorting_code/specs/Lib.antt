@@ -1,0 +1,2 @@
+-- Positions with names, in order, in arrays.
+pub mod Entries

@@ -1,0 +1,4 @@
+pub mod Entering
+pub mod Crossings
+pub mod Marks
+pub mod Names

@@ -1,0 +1,2 @@
+-- The events of a polygon in arrays.
+pub mod Events

@@ -1,2 +1,0 @@
--- Events and the next one, as functions hold them.
-pub mod Events
