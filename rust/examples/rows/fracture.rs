@@ -74,7 +74,7 @@ pub fn rows() {
             [[-x, -y], [x, -y], [x, y], [-x, y]]
         })
     };
-    let boxes: Vec<Polygon> = (0..8).map(boxes).collect();
+    let boxes: Vec<Polygon> = (0..4).map(boxes).collect();
     row("boxes through each other", &boxes);
 }
 
