@@ -6,7 +6,7 @@
 
 #include "loxurfa.h"
 
-enum { WIDTH = LOXURFA_TRAPEZOID_WORDS, ROOM = LOXURFA_MAX_TRAPEZOIDS * WIDTH };
+enum { WIDTH = LOXURFA_TRAPEZOID_WORDS, LISTED = LOXURFA_FILE_TRAPEZOID_WORDS, ROOM = LOXURFA_MAX_LAYER_WORDS };
 
 /* a byte more than a file may have, so that a longer one is refused */
 static uint8_t file[LOXURFA_MAX_FILE_BYTES + 1];
@@ -41,8 +41,10 @@ int main(void)
 
     unsigned pieces = loxurfa_value(answer);
     printf("pieces %u\n", pieces);
-    for (unsigned i = 0; i < WIDTH * pieces; i++)
-        printf("%d%c", (int)out[i], i % WIDTH == WIDTH - 1 ? '\n' : ' ');
+    /* of each trapezoid the lines, without its set */
+    for (unsigned i = 0; i < pieces; i++)
+        for (unsigned j = 0; j < LISTED; j++)
+            printf("%d%c", (int)out[WIDTH * i + j], j == LISTED - 1 ? '\n' : ' ');
     if (fflush(stdout) != 0 || ferror(stdout)) {
         perror("standard output");
         return 2;

@@ -8,7 +8,7 @@
 //! with 1; any other trouble ends with 2.
 
 use loxurfa::{combine_by_number, decode_layers, encode_layers};
-use loxurfa::{Refusal, MAX_TRAPEZOIDS, TRAPEZOID_WORDS};
+use loxurfa::{Refusal, MAX_LAYER_WORDS};
 use std::ffi::{OsStr, OsString};
 use std::io::{self, Write};
 use std::process::ExitCode;
@@ -50,7 +50,7 @@ fn run(arguments: &[OsString]) -> Result<String, Trouble> {
         layers.get(number as usize).ok_or_else(missing)
     };
 
-    let mut out = vec![0; MAX_TRAPEZOIDS * TRAPEZOID_WORDS];
+    let mut out = vec![0; MAX_LAYER_WORDS];
     let mut scratch = out.clone();
     let done = combine_by_number(code, layer(a)?, layer(b)?, &mut out, &mut scratch)?;
     out.truncate(done.words());

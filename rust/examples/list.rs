@@ -7,26 +7,26 @@
 //! refusal's number, `place` with its place, and ends with 1. Any other trouble is told on standard
 //! error and ends with 2. Without a path it reads standard input.
 
-use loxurfa::{deoverlap, fracture, Refusal, MAX_TRAPEZOIDS, TRAPEZOID_WORDS};
+use loxurfa::{deoverlap, fracture, trapezoids, Refusal, MAX_LAYER_WORDS};
 use std::io::{self, Read, Write};
 use std::process::ExitCode;
 use std::{env, fs};
 
-/// The words of the polygons' trapezoids, without overlaps.
-fn trapezoids(file: &[u8]) -> Result<Vec<i32>, Refusal> {
-    let room = || vec![0; MAX_TRAPEZOIDS * TRAPEZOID_WORDS];
+/// The words of the polygons' trapezoids, without overlaps. Their layer's number does not show in a listing.
+fn cut(file: &[u8]) -> Result<Vec<i32>, Refusal> {
+    let room = || vec![0; MAX_LAYER_WORDS];
     let (mut layer, mut out, mut scratch) = (room(), room(), room());
-    let done = fracture(file, &mut layer, &mut scratch)?;
+    let done = fracture(0, file, &mut layer, &mut scratch)?;
     layer.truncate(done.words());
     let done = deoverlap(&layer, &mut out, &mut scratch)?;
     out.truncate(done.words());
     Ok(out)
 }
 
-fn listing(words: &[i32]) -> String {
-    let mut text = format!("pieces {}\n", words.len() / TRAPEZOID_WORDS);
-    for trapezoid in words.chunks(TRAPEZOID_WORDS) {
-        let words: Vec<String> = trapezoid.iter().map(i32::to_string).collect();
+fn listing(layer: &[i32]) -> String {
+    let mut text = format!("pieces {}\n", trapezoids(layer).count());
+    for trapezoid in trapezoids(layer) {
+        let words: Vec<String> = trapezoid.lines.iter().map(i32::to_string).collect();
         text += &words.join(" ");
         text += "\n";
     }
@@ -52,8 +52,8 @@ fn run() -> Result<ExitCode, String> {
         return Err("usage: list [FILE]".to_string());
     }
     let file = input(path).map_err(|error| format!("list: {error}"))?;
-    let (text, status) = match trapezoids(&file) {
-        Ok(words) => (listing(&words), ExitCode::SUCCESS),
+    let (text, status) = match cut(&file) {
+        Ok(layer) => (listing(&layer), ExitCode::SUCCESS),
         Err(refusal) => (format!("{refusal}\n"), ExitCode::FAILURE),
     };
     let mut out = io::stdout();

@@ -16,15 +16,23 @@ pub const MAX_VERTICES: usize = 32;
 /// overlap, and [`deoverlap`](crate::deoverlap) takes them. The file is of the new
 /// edition, in which length 0 stands for the vertices up to the next offset, or up to the end; a file of the
 /// first edition is one of the new edition too.
-pub fn fracture(file: &[u8], out: &mut [i32], scratch: &mut [i32]) -> Result<Done, Refusal> {
-    done(raw::fracture(file, out, scratch))
-}
-
-/// [`fracture`] of a file of the first edition: a length 0 is refused with 6.
-pub fn fracture_first_edition(
+///
+/// The set of each trapezoid has `layer` and no other; above 31 it is refused with 14.
+pub fn fracture(
+    layer: u32,
     file: &[u8],
     out: &mut [i32],
     scratch: &mut [i32],
 ) -> Result<Done, Refusal> {
-    done(raw::fracture_first_edition(file, out, scratch))
+    done(raw::fracture(layer, file, out, scratch))
+}
+
+/// [`fracture`] of a file of the first edition: a length 0 is refused with 6.
+pub fn fracture_first_edition(
+    layer: u32,
+    file: &[u8],
+    out: &mut [i32],
+    scratch: &mut [i32],
+) -> Result<Done, Refusal> {
+    done(raw::fracture_first_edition(layer, file, out, scratch))
 }

@@ -1,8 +1,10 @@
 //! Exact set operations on layers of trapezoids, their connected components, and transistors from
 //! three layers.
 //!
-//! A layer is a slice of `i32` words, 24 for each trapezoid: left base (two lines), right base
-//! (two lines), bottom, top. A line is x1 y1 x2 y2 with x1 < x2, each from -2048 to 2048.
+//! A layer is a slice of `i32` words, 25 for each trapezoid: left base (two lines), right base
+//! (two lines), bottom, top, and the set of its source layers. A line is x1 y1 x2 y2 with x1 < x2, each
+//! from -2048 to 2048. The set has a bit for each of the layers 0 to 31 ([`Sources`]); [`trapezoids`] reads
+//! the words of a layer. No call is refused for a set, and no answer depends on one.
 //!
 //! [`combine`], [`equal`], [`components`] and [`transistors`] refuse a layer in which two trapezoids
 //! overlap ([`refused::OVERLAP`]); the other calls take it. What [`deoverlap`] and [`combine`] write
@@ -21,20 +23,28 @@ pub struct Readme;
 mod components;
 mod files;
 mod fracture;
+mod sources;
 mod transistors;
 
 pub use components::components;
 pub use files::{decode_layers, encode_layers, read_layers, write_layers};
-pub use files::{MAX_LAYERS, MAX_LAYER_FILE_WORDS};
+pub use files::{MAX_LAYERS, MAX_LAYER_FILE_BYTES, MAX_LAYER_FILE_WORDS};
 pub use fracture::{fracture, fracture_first_edition};
 pub use fracture::{MAX_POLYGONS, MAX_VERTICES, MIN_VERTICES};
+pub use sources::{trapezoids, Sources, Trapezoid, SOURCE_LAYERS};
 pub use transistors::{transistors, Transistors, Triple, TRIPLE_WORDS};
 
-/// Words in one trapezoid.
-pub const TRAPEZOID_WORDS: usize = 24;
+/// Words in one trapezoid in memory: its six lines, and the set of its source layers.
+pub const TRAPEZOID_WORDS: usize = 25;
+
+/// Words in one trapezoid in a layer file, and in a line of the listing: its six lines.
+pub const FILE_TRAPEZOID_WORDS: usize = 24;
 
 /// The most trapezoids in one layer or output.
 pub const MAX_TRAPEZOIDS: usize = 512;
+
+/// The most words in one layer, output or scratch area.
+pub const MAX_LAYER_WORDS: usize = TRAPEZOID_WORDS * MAX_TRAPEZOIDS;
 
 /// Coordinates are from -PLATE_LIMIT to PLATE_LIMIT.
 pub const PLATE_LIMIT: i32 = 2048;
@@ -76,6 +86,8 @@ pub mod refused {
     pub const SPACE: u8 = 12;
     /// Two trapezoids of one layer that overlap. Checked before the space.
     pub const OVERLAP: u8 = 13;
+    /// The number of a source layer. Checked after the lengths and before the file.
+    pub const LAYER: u8 = 14;
 }
 
 /// Which set operation.
@@ -148,6 +160,10 @@ pub enum Equality {
 
 /// Combines layers A and B into `out`. The result has no overlaps. A layer that has some is refused
 /// with 13.
+///
+/// A trapezoid of a difference keeps the set of the one that it is a part of, a trapezoid of an
+/// intersection has the sets of both joined. A union is A, with its sets, and then B - A, with those of B:
+/// where A lies the sets of B are dropped.
 pub fn combine(
     code: Code,
     a: &[i32],
@@ -170,7 +186,8 @@ pub fn combine_by_number(
     done(raw::combine(code, a, b, out, scratch))
 }
 
-/// Writes disjoint trapezoids with the same points as layer A, which may have overlaps, into `out`.
+/// Writes disjoint trapezoids with the same points as layer A, which may have overlaps, into `out`. Each
+/// keeps the set of the one that it is a part of.
 pub fn deoverlap(a: &[i32], out: &mut [i32], scratch: &mut [i32]) -> Result<Done, Refusal> {
     done(raw::deoverlap(a, out, scratch))
 }

@@ -58,11 +58,11 @@ impl Transistors {
 /// let square = |x: i32, width: i32| {
 ///     let end = x + width;
 ///     let bases = [0, 0, 1, 0, x, 0, x + 1, 1, 0, 0, 1, 0, end, 0, end + 1, 1];
-///     [&bases[..], &[0, x, 1, x, 0, end, 1, end]].concat()
+///     [&bases[..], &[0, x, 1, x, 0, end, 1, end], &[0]].concat()
 /// };
 /// let (collectors, bases) = (square(0, 100), square(10, 50));
 /// let emitters = [square(70, 10), square(20, 10)].concat();
-/// let (mut list, mut out, mut scratch) = ([0; 6], [0; 240], [0; 240]);
+/// let (mut list, mut out, mut scratch) = ([0; 6], [0; 250], [0; 250]);
 /// let done = transistors(&collectors, &bases, &emitters, &mut list, &mut out, &mut scratch)?;
 /// let triple = Triple { collector: 0, base: 0, emitter: 1 };
 /// assert_eq!(done.listed(&list).collect::<Vec<_>>(), [triple]);

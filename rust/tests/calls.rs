@@ -5,13 +5,13 @@ mod reference;
 mod support;
 
 use loxurfa::{combine, deoverlap, equal, transistors};
-use loxurfa::{raw, refused, MAX_LAYER_FILE_WORDS, STACK_BYTES, TRAPEZOID_WORDS};
-use loxurfa::{Code, Done, Equality, Refusal, Transistors};
+use loxurfa::{raw, refused, MAX_LAYER_FILE_BYTES, MAX_LAYER_FILE_WORDS, STACK_BYTES};
+use loxurfa::{Code, Done, Equality, Refusal, Transistors, TRAPEZOID_WORDS};
 use std::fs;
 use std::path::{Path, PathBuf};
 use std::process::Command;
 use support::calls::{any_call, Buffer, Call, Function};
-use support::files::{file_bytes, file_words};
+use support::files::{file_bytes, layer_file_words, layers_words};
 use support::programs::{file, root, run};
 use support::{rectangle, Random};
 
@@ -113,7 +113,9 @@ fn calls(random: &mut Random, of_each: usize) -> Vec<Call> {
     let both = [upright.clone(), lying.clone()].concat();
     let words = |words: &Vec<i32>| Buffer::Words(words.clone());
     let room = || Buffer::Words(random_words(512 * TRAPEZOID_WORDS));
-    let file = file_words(&[both.clone(), both.clone()], TRAPEZOID_WORDS);
+    let layers = [both.clone(), both.clone()];
+    let file = layers_words(&layers, TRAPEZOID_WORDS);
+    let on_file = layer_file_words(&layers);
     for code in 0..5 {
         let mut with = |function: Function, buffers: Vec<Buffer>| {
             calls.push(Call {
@@ -150,16 +152,13 @@ fn calls(random: &mut Random, of_each: usize) -> Vec<Call> {
         with(
             Function::ReadLayers,
             vec![
-                Buffer::Bytes(file_bytes(&file)),
+                Buffer::Bytes(file_bytes(&on_file)),
                 Buffer::Words(vec![7; MAX_LAYER_FILE_WORDS]),
             ],
         );
         with(
             Function::WriteLayers,
-            vec![
-                words(&file),
-                Buffer::Bytes(vec![7; 4 * MAX_LAYER_FILE_WORDS]),
-            ],
+            vec![words(&file), Buffer::Bytes(vec![7; MAX_LAYER_FILE_BYTES])],
         );
     }
     calls
@@ -288,16 +287,16 @@ fn the_example_that_surprises() {
     assert_eq!(same(0), refusal(refused::SPACE, 0));
     assert_eq!(same(1), Ok(Equality::Same { overlays: 6 }));
     // Deoverlapping two that are apart needs no more than the two.
-    let mut room = [vec![1; 48], vec![1; 48]];
+    let mut room = [vec![1; 50], vec![1; 50]];
     let [out, scratch] = &mut room;
     assert_eq!(deoverlap(&two, out, scratch), done(2, 1));
 }
 
 #[test]
 fn the_order_of_rows() {
-    let mut room = [vec![1; 24], vec![1; 24]];
+    let mut room = [vec![1; 25], vec![1; 25]];
     let [out, scratch] = &mut room;
-    let answer = raw::combine(9, &[0; 25], &[], out, scratch);
+    let answer = raw::combine(9, &[0; 24], &[], out, scratch);
     assert_eq!(answer, support::outcomes::refusal(1, 0));
     let mut first = rectangle(0, 1, 0, 1);
     first.copy_within(0..4, 4);

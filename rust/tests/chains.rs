@@ -4,7 +4,7 @@ mod reference;
 mod support;
 
 use loxurfa::raw;
-use reference::{first_overlap, read_layer, unfit, Step, Trapezoid, WORDS};
+use reference::{first_overlap, read_layer, unfit, Step, Trapezoid, FILE_WORDS, WORDS};
 use std::collections::HashSet;
 use support::{assert_met, damage, point_near, rounds, Random, Scene};
 
@@ -179,13 +179,13 @@ fn order(random: &mut Random, chain: &Chain) -> Order {
     let mut scratch = out;
     match random.below(30) {
         0 => {
-            out += random.below(24);
+            out += random.below(WORDS);
             scratch = out;
         }
-        1 => scratch += 24,
+        1 => scratch += WORDS,
         2 => scratch = random.below(out + 1),
         3 => {
-            out = 12_288 + 24;
+            out = 513 * WORDS;
             scratch = out;
         }
         _ => {}
@@ -246,6 +246,8 @@ struct Met {
     refusals: [usize; 14],
     in_layer: usize,
     out_of_layer: usize,
+    /// Trapezoids of results that have source layers.
+    sources: usize,
     same: usize,
     differs: [usize; 2],
     equal_refused: usize,
@@ -268,7 +270,14 @@ impl Met {
     }
 }
 
-/// Points against the tally; disjointness; lines word for word; fitness. From any starting layers that can be
+/// The lines of a layer's trapezoids.
+fn lines_of(layer: &[i32]) -> impl Iterator<Item = &[i32]> {
+    let records = layer.chunks(WORDS);
+    records.flat_map(|record| record[..FILE_WORDS].chunks(4))
+}
+
+/// Points against the tally; disjointness; lines word for word; fitness; each source layer of a trapezoid that
+/// holds a point is one of a starting trapezoid that holds it. From any starting layers that can be
 /// read: a call that is lent one with overlaps is refused and adds nothing.
 fn check_points(random: &mut Random, chain: &Chain, met: &mut Met) {
     let layers: Vec<Vec<Trapezoid>> = chain.layers.iter().map(|words| read_layer(words)).collect();
@@ -286,6 +295,12 @@ fn check_points(random: &mut Random, chain: &Chain, met: &mut Met) {
             assert!((times > 0) == said, "{p:?} {:?}", chain.orders);
             let once = times <= 1 || number < chain.start && !is_fit(&chain.layers[number]);
             assert!(once, "{p:?} {:?}", chain.orders);
+            for one in layer.iter().filter(|trapezoid| trapezoid.holds(p)) {
+                let there = start.iter().copied().flatten().filter(|t| t.holds(p));
+                let sources = there.fold(0, |sources, t| sources | t.sources);
+                assert_eq!(one.sources & !sources, 0, "{p:?} {:?}", chain.orders);
+                met.sources += (number >= chain.start && one.sources != 0) as usize;
+            }
             if said {
                 met.in_layer += 1;
             } else {
@@ -295,10 +310,10 @@ fn check_points(random: &mut Random, chain: &Chain, met: &mut Met) {
     }
     let lines: HashSet<&[i32]> = chain.layers[..chain.start]
         .iter()
-        .flat_map(|layer| layer.chunks(4))
+        .flat_map(|layer| lines_of(layer))
         .collect();
     for layer in chain.results() {
-        assert!(layer.chunks(4).all(|line| lines.contains(line)));
+        assert!(lines_of(layer).all(|line| lines.contains(line)));
         assert!(is_fit(layer));
     }
 }
@@ -402,6 +417,7 @@ fn chains() {
     assert_met("results beside overlaps", met.results_beside, rounds, 50);
     assert_met("points in", met.in_layer, rounds, 1);
     assert_met("points out", met.out_of_layer, rounds, 1);
+    assert_met("source layers", met.sources, rounds, 1);
     assert_met("same", met.same, rounds, 2);
     assert_met("differs 0", met.differs[0], rounds, 10);
     assert_met("differs 1", met.differs[1], rounds, 10);

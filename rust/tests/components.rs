@@ -490,10 +490,10 @@ fn refusals() {
                     let length = random.below(words.len() + 1);
                     words.truncate(length);
                 }
-                2 if random.once_in(50) => words.resize(12_288 + 24 * random.below(3), 0),
+                2 if random.once_in(50) => words.resize((512 + random.below(3)) * WORDS, 0),
                 3 => entries += 1,
                 4 => entries = entries.saturating_sub(1),
-                5 => entries = *random.pick(&[0, 1, 24 * entries, 512, 513]),
+                5 => entries = *random.pick(&[0, 1, 25 * entries, 512, 513]),
                 _ => damage(random, &mut words),
             }
         }
@@ -528,7 +528,7 @@ fn longest_layer() {
     ] {
         assert_eq!(lent(pieces, entries), refusal(1, 0));
     }
-    for length in [1, 23, 25, 47, 12_287, 12_289] {
+    for length in [1, 24, 26, 48, 49, 12_288, 12_799, 12_801] {
         for entries in [length / WORDS, length / WORDS + 1, length] {
             let answer = components_into(&layer[..length], &vec![7; entries]).0;
             assert_eq!(answer, refusal(1, 0));

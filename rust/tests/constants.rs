@@ -48,18 +48,43 @@ fn defined(path: &str, name: &str) -> i64 {
 const LIMITS: &str = "crates/records/specs/Limits.antt";
 const FORMATS: &str = "crates/files/specs/Formats.antt";
 
-/// The numbers of a format, by name; its last field says whether lengths are left out.
+/// The numbers of a format, by name; its last field says whether lengths are left out. A format of layers is one
+/// for a width, `layersIn`, at a width.
 fn format(name: &str) -> BTreeMap<String, i64> {
     let text = text(FORMATS);
+    let by_width = format!("\n{name} = layersIn ");
+    if let Some((_, rest)) = text.split_once(&by_width) {
+        let width = rest.lines().next().expect("a width");
+        let mut fields = fields_of(&text, "layersIn width", "width");
+        fields.insert("unit".to_string(), size(width));
+        return fields;
+    }
+    fields_of(&text, name, "")
+}
+
+/// A number of LIMITS. The width in memory is given as one more than the width in a file.
+fn size(name: &str) -> i64 {
+    match name {
+        "memoryWidth" => {
+            assert!(text(LIMITS).contains("\nmemoryWidth = fileWidth + 1\n"));
+            defined(LIMITS, "fileWidth") + 1
+        }
+        _ => defined(LIMITS, name),
+    }
+}
+
+/// The fields of a format that have numbers; the one with this value is passed over.
+fn fields_of(text: &str, name: &str, without: &str) -> BTreeMap<String, i64> {
     let start = format!("\n{name} = record {{ ");
     let (_, rest) = text.split_once(&start).expect("the format");
     let (fields, _) = rest.split_once(" }").expect("its end");
     let (numbers, _) = fields.rsplit_once("; found = ").expect("the last field");
     numbers
         .split("; ")
-        .map(|field| {
-            let (name, value) = field.split_once(" = ").expect("a field");
-            let number = leading(value).unwrap_or_else(|| defined(LIMITS, value));
+        .map(|field| field.split_once(" = ").expect("a field"))
+        .filter(|(_, value)| *value != without)
+        .map(|(name, value)| {
+            let number = leading(value).unwrap_or_else(|| size(value));
             (name.to_string(), number)
         })
         .collect()
@@ -67,19 +92,34 @@ fn format(name: &str) -> BTreeMap<String, i64> {
 
 /// The constants: name, value by the definitions, value in the Rust crate.
 fn constants() -> Vec<(&'static str, i64, i64)> {
-    let width = defined(LIMITS, "memoryWidth");
-    let most = defined(LIMITS, "maxRecords");
-    let limit = defined("crates/calls/specs/Rows.antt", "plateLimit");
+    let (width, in_file) = (size("memoryWidth"), size("fileWidth"));
+    let most = size("maxRecords");
+    let sources = defined("crates/sources/specs/Sets.antt", "sourceLayers");
+    let plate = defined("crates/calls/specs/Rows.antt", "plateLimit");
     let denominator = defined("crates/geometry/specs/Limit.antt", "maxDenominator");
     let (polygons, layers) = (format("polygonFile edition"), format("layerFile"));
     let bytes = between(FORMATS, "leb n ", ")");
-    let words = 1 + 2 * layers["count"] + layers["unit"] * layers["total"];
+    assert!(text(LIMITS).contains("\nmaxWords = memoryWidth * maxRecords\n"));
+    let units = |unit: i64| 1 + 2 * layers["count"] + unit * layers["total"];
+    let words = units(format("layerWords")["unit"]);
+    let file_bytes = 4 * units(layers["unit"]);
     let extraction = "crates/extraction/specs/Extraction.antt";
     let triple = between(extraction, "tripleCodec = record { width = ", ";");
     vec![
         ("TRAPEZOID_WORDS", width, loxurfa::TRAPEZOID_WORDS as i64),
+        (
+            "FILE_TRAPEZOID_WORDS",
+            in_file,
+            loxurfa::FILE_TRAPEZOID_WORDS as i64,
+        ),
         ("MAX_TRAPEZOIDS", most, loxurfa::MAX_TRAPEZOIDS as i64),
-        ("PLATE_LIMIT", limit, loxurfa::PLATE_LIMIT.into()),
+        (
+            "MAX_LAYER_WORDS",
+            width * most,
+            loxurfa::MAX_LAYER_WORDS as i64,
+        ),
+        ("SOURCE_LAYERS", sources, loxurfa::SOURCE_LAYERS.into()),
+        ("PLATE_LIMIT", plate, loxurfa::PLATE_LIMIT.into()),
         (
             "MAX_DENOMINATOR",
             denominator,
@@ -106,6 +146,11 @@ fn constants() -> Vec<(&'static str, i64, i64)> {
             "MAX_LAYER_FILE_WORDS",
             words,
             loxurfa::MAX_LAYER_FILE_WORDS as i64,
+        ),
+        (
+            "MAX_LAYER_FILE_BYTES",
+            file_bytes,
+            loxurfa::MAX_LAYER_FILE_BYTES as i64,
         ),
         ("TRIPLE_WORDS", triple, loxurfa::TRIPLE_WORDS as i64),
         // Measured: tests/calls.rs.
@@ -219,6 +264,11 @@ fn refusals() -> Vec<(&'static str, i64, i64)> {
             between(overlaps, "refuseOverlap true i c = Refused ", " i"),
             refused::OVERLAP.into(),
         ),
+        (
+            "LAYER",
+            between(rows, "row ", " (isSourceLayer"),
+            refused::LAYER.into(),
+        ),
     ]
 }
 
@@ -298,11 +348,13 @@ fn functions() {
     let records = "crates/records/src/lib.rt";
     let named: BTreeMap<&str, i64> = constants().iter().map(|c| (c.0, c.1)).collect();
     let width = named["TRAPEZOID_WORDS"];
-    assert_eq!(constant(records, "MEMORY_WIDTH: usize"), width);
-    assert_eq!(
-        constant(records, "FILE_WIDTH: usize"),
-        format("layerFile")["unit"]
-    );
+    let text = text(records);
+    assert!(text.contains("const MEMORY_WIDTH: usize = FILE_WIDTH + 1;"));
+    let in_file = constant(records, "FILE_WIDTH: usize");
+    assert_eq!(in_file, named["FILE_TRAPEZOID_WORDS"]);
+    assert_eq!(in_file, format("layerFile")["unit"]);
+    assert_eq!(width, in_file + 1);
+    assert_eq!(width, format("layerWords")["unit"]);
     let most = named["MAX_TRAPEZOIDS"];
     assert_eq!(constant(records, "MAX_RECORDS: usize"), most);
     let calls = "crates/calls/src/lib.rt";
@@ -313,6 +365,8 @@ fn functions() {
     assert_eq!(bytes, named["MAX_FILE_BYTES"]);
     let rows = "crates/rows_code/src/lib.rt";
     assert_eq!(constant(rows, "CODES: u32"), codes().len() as i64);
+    let sources = constant(rows, "SOURCE_LAYERS: u32");
+    assert_eq!(sources, named["SOURCE_LAYERS"]);
     let denominator = constant(calls, "MAX_DENOMINATOR: u32");
     assert_eq!(denominator, named["MAX_DENOMINATOR"]);
 }
@@ -335,8 +389,10 @@ fn sentences() {
     let (polygons, layers) = (format("polygonFile edition"), format("layerFile"));
     let (count, layer_count) = (polygons["count"], layers["count"]);
     let (least, largest) = (polygons["least"], polygons["most"]);
-    let words = said(defined(LIMITS, "memoryWidth") * defined(LIMITS, "maxRecords"));
-    let list = said(loxurfa::TRIPLE_WORDS as i64 * defined(LIMITS, "maxRecords"));
+    let in_file = &named["FILE_TRAPEZOID_WORDS"];
+    let words = &named["MAX_LAYER_WORDS"];
+    let last = loxurfa::SOURCE_LAYERS - 1;
+    let list = said(loxurfa::TRIPLE_WORDS as i64 * size("maxRecords"));
     let file_bytes =
         |f: &BTreeMap<String, i64>| said(4 * (1 + 2 * f["count"] + f["unit"] * f["total"]));
 
@@ -344,7 +400,9 @@ fn sentences() {
         format!("words, {width} to a trapezoid"),
         format!("trapezoids of a layer, of an output, of all layers of a layer file; {words} words"),
         format!("coordinates run from −{limit} to {limit}"),
-        format!("u is {} in a polygon file and {} in a layer file", polygons["unit"], layers["unit"]),
+        format!("u is {} in a polygon file, {} in a layer file and {} in the words that `write_layers` takes", polygons["unit"], layers["unit"], format("layerWords")["unit"]),
+        format!("the layer is not 0 to {last}"),
+        format!("{in_file} words of lines"),
         format!("is not a multiple of {width} words or is above {words}"),
         format!("the code is not 0 to {}", codes().len() - 1),
         format!("d is not 1 to {}, or x or y is below −{limit}·d or above {limit}·d", named["MAX_DENOMINATOR"]),
@@ -367,6 +425,8 @@ fn sentences() {
             "| a unit is | a vertex, {} words x y | a trapezoid, {} words |",
             polygons["unit"], layers["unit"]
         ),
+        format!("In memory a trapezoid has {width} words"),
+        format!("source layers 0 to {last}"),
         format!(
             "| units in all | at most {} ({count} times {largest}) | at most {} |",
             said(polygons["total"]),
@@ -384,6 +444,7 @@ fn sentences() {
         format!("{count} polygons of {least} to {largest} vertices"),
         format!("{most} trapezoids"),
         format!("{layer_count} layers"),
+        format!("source layers are 0 to {last}"),
     ];
     for (path, sentences) in [
         ("docs/CALLS.md", &calls[..]),

@@ -15,7 +15,7 @@ use support::{assert_met, rounds, words, Random};
 /// What each reader answers and writes of a file, with room for some trapezoids.
 fn both(file: &[u8], records: usize) -> [(u64, Vec<i32>); 2] {
     let (out, scratch) = (vec![7; records * WORDS], vec![9; records * WORDS]);
-    [Edition::First, Edition::New].map(|edition| fracture_by(edition, file, &out, &scratch))
+    [Edition::First, Edition::New].map(|edition| fracture_by(edition, 9, file, &out, &scratch))
 }
 
 /// The words with every length written in, of a file that the new reader takes.

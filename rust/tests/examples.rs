@@ -6,12 +6,12 @@ mod support;
 
 use loxurfa::fracture_first_edition;
 use reference::listing::{list, listing};
-use reference::{read_layer, WORDS};
+use reference::{read_layer, FILE_WORDS, WORDS};
 use std::fs::{self, File, OpenOptions};
 use std::path::{Path, PathBuf};
 use std::process::Command;
 use std::sync::atomic::{AtomicUsize, Ordering};
-use support::files::{damage_bytes, damage_file, file_bytes, file_words, leave_out};
+use support::files::{damage_bytes, damage_file, file_bytes, layer_file_words, leave_out};
 use support::polygons::{any_polygons, polygon_words};
 use support::programs::{example, file, root, run, written};
 use support::{rectangle, Random};
@@ -75,7 +75,8 @@ fn list_plate_of_the_new_edition() {
     let plate = file("examples/plate-new.polygons");
     assert_eq!(listed(&plate).as_bytes(), file("examples/plate.listing"));
     let (mut out, mut scratch) = (vec![0; 512 * WORDS], vec![0; 512 * WORDS]);
-    let refused = fracture_first_edition(&plate, &mut out, &mut scratch).map_err(|r| r.to_string());
+    let refused = fracture_first_edition(0, &plate, &mut out, &mut scratch);
+    let refused = refused.map_err(|r| r.to_string());
     assert_eq!(refused, Err("refused 6 place 0".to_string()));
 }
 
@@ -84,7 +85,7 @@ fn list_plate_of_the_new_edition() {
 fn list_triangle() {
     let triangle = file_bytes(&[1, 0, 3, 0, 0, 2, 0, 0, 2]);
     let line = [
-        0, 0, 1, 0, 0, 0, 1, 1, 0, 0, 1, 0, 2, 0, 3, 1, 0, 0, 2, 0, 0, 2, 2, 0,
+        0, 0, 1, 0, 0, 0, 1, 1, 0, 0, 1, 0, 2, 0, 3, 1, 0, 0, 2, 0, 0, 2, 2, 0, 1,
     ];
     let text = "pieces 1\n0 0 1 0 0 0 1 1 0 0 1 0 2 0 3 1 0 0 2 0 0 2 2 0\n";
     assert_eq!(listing(&line), text);
@@ -217,13 +218,15 @@ fn combined(words: &[i32], arguments: [&str; 3]) -> ((String, Option<i32>), Opti
     (written(printed), after)
 }
 
-/// The layers in words of a layer file.
+/// The layers in words of a layer file, with empty sets.
 fn layers_in(words: &[i32]) -> Vec<Vec<i32>> {
     let count = words[0] as usize;
     let (pairs, body) = words[1..].split_at(2 * count);
     let layer = |pair: &[i32]| {
         let (offset, length) = (pair[0] as usize, pair[1] as usize);
-        body[offset * WORDS..(offset + length) * WORDS].to_vec()
+        let body = &body[offset * FILE_WORDS..(offset + length) * FILE_WORDS];
+        let records = body.chunks(FILE_WORDS);
+        records.flat_map(|lines| [lines, &[0]].concat()).collect()
     };
     pairs.chunks(2).map(layer).collect()
 }
@@ -244,7 +247,7 @@ fn combine_two_layers() {
                 let (printed, file) = combined(&words, arguments.each_ref().map(|x| &x[..]));
                 let text = format!("layer 2 pieces {}\n", result.len());
                 assert_eq!(printed, (text, Some(0)));
-                let right = file_bytes(&file_words(&expected, WORDS));
+                let right = file_bytes(&layer_file_words(&expected));
                 assert!(file == Some(right), "{arguments:?}");
             }
         }
@@ -271,7 +274,7 @@ fn combine_in_place() {
         let text = format!("layer {} pieces {}\n", layers.len(), result.len());
         assert_eq!(printed, (text, Some(0)));
         layers.push(reference::layer_words(&result));
-        let right = file_bytes(&file_words(&layers, WORDS));
+        let right = file_bytes(&layer_file_words(&layers));
         assert!(fs::read(path).expect("there") == right);
     }
     fs::remove_file(path).expect("removed");
@@ -305,21 +308,21 @@ fn combine_refused() {
     let lying: Vec<i32> = (0..23)
         .flat_map(|k| rectangle(0, 60, 2 * k, 2 * k + 1))
         .collect();
-    let words = file_words(&[upright, lying], WORDS);
+    let words = layer_file_words(&[upright, lying]);
     refused(&words, ["1", "0", "1"], "refused 12 place 0");
     // Two trapezoids of a layer that overlap: the file is read, the layer is refused.
     let square = rectangle(0, 4, 0, 4);
     let overlapping = [square.clone(), rectangle(2, 6, 2, 6)].concat();
-    let words = file_words(&[square, overlapping], WORDS);
+    let words = layer_file_words(&[square, overlapping]);
     refused(&words, ["0", "0", "1"], "refused 13 place 2");
     refused(&words, ["1", "1", "0"], "refused 13 place 1");
     // The result is one layer, or some trapezoids, too many for a file.
-    let words = file_words(&vec![rectangle(0, 1, 0, 1); 16], WORDS);
+    let words = layer_file_words(&vec![rectangle(0, 1, 0, 1); 16]);
     refused(&words, ["0", "0", "1"], "refused 5 place 0");
     let row: Vec<i32> = (0..257)
         .flat_map(|k| rectangle(2 * k, 2 * k + 1, 0, 1))
         .collect();
-    let words = file_words(&[row, vec![]], WORDS);
+    let words = layer_file_words(&[row, vec![]]);
     refused(&words, ["0", "0", "1"], "refused 6 place 2");
 }
 

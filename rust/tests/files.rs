@@ -5,13 +5,18 @@ mod reference;
 mod support;
 
 use loxurfa::{raw, Refusal};
-use reference::{files, unfit, WORDS};
-use support::files::{about, damage_bytes, damage_file, file_bytes, file_words};
+use reference::{files, unfit, FILE_WORDS, WORDS};
+use support::files::{about, damage_bytes, damage_file, file_bytes};
+use support::files::{layer_file_words, layers_words};
 use support::outcomes::{refusal, Outcomes};
-use support::{assert_met, damage, rectangle, rounds, words, Random, Scene};
+use support::{assert_met, damage, damage_records, rectangle, rounds, with_sources, words};
+use support::{Random, Scene};
 
-/// Words of a layer file of at most 16 layers and 512 trapezoids.
+/// Words in memory of a layer file of 16 layers and 512 trapezoids.
 const LONGEST_WORDS: usize = 1 + 2 * 16 + 512 * WORDS;
+
+/// Its bytes.
+const LONGEST_BYTES: usize = 4 * (1 + 2 * 16 + 512 * FILE_WORDS);
 
 /// Reads by the library and by the reference and gives the answer and output they agree on.
 fn read(file: &[u8], before: &[i32]) -> (u64, Vec<i32>) {
@@ -47,12 +52,12 @@ fn write(words: &[i32], before: &[u8]) -> (u64, Vec<u8>) {
     (answer, out)
 }
 
-/// Reads the words' file and writes the words, with outputs long enough, and gives the answer, which
-/// is the same for both.
-fn both(words: &[i32]) -> u64 {
-    let (answer, _) = read(&file_bytes(words), &[77; LONGEST_WORDS]);
-    let (written, _) = write(words, &[77; 4 * LONGEST_WORDS]);
-    assert_eq!(answer, written, "{words:?}");
+/// Reads a file and writes words in memory, with outputs long enough, and gives the answer, which is the
+/// same for both. `words` makes them for trapezoids of so many words.
+fn both(words: impl Fn(usize) -> Vec<i32>) -> u64 {
+    let (answer, _) = read(&file_bytes(&words(FILE_WORDS)), &[77; LONGEST_WORDS]);
+    let (written, _) = write(&words(WORDS), &[77; LONGEST_BYTES]);
+    assert_eq!(answer, written, "{:?}", words(WORDS));
     answer
 }
 
@@ -84,17 +89,23 @@ fn layers(random: &mut Random) -> Vec<Vec<i32>> {
         .collect()
 }
 
-/// The words of a file, damaged half the time.
-fn any_words(random: &mut Random) -> Vec<i32> {
-    let mut words = file_words(&layers(random), WORDS);
+/// How many trapezoids the words of a file, or of layers in memory, have at most.
+fn trapezoids_in(words: &[i32], unit: usize) -> usize {
+    let directory = 1 + 2 * words.first().map_or(0, |&n| n.clamp(0, 16)) as usize;
+    words.len().saturating_sub(directory) / unit
+}
+
+/// The words of layers whose trapezoids have `unit` words, damaged half the time.
+fn any_words(random: &mut Random, unit: usize) -> Vec<i32> {
+    let mut words = layers_words(&layers(random), unit);
     if random.once_in(2) {
         for _ in 0..random.range(1, 2) {
             if random.once_in(2) {
                 let body = (1 + 2 * words.first().map_or(0, |&n| n.clamp(0, 16)) as usize)
                     .min(words.len());
-                damage(random, &mut words[body..]);
+                damage_records(random, &mut words[body..], unit);
             } else {
-                damage_file(random, &mut words, WORDS);
+                damage_file(random, &mut words, unit);
             }
         }
     }
@@ -110,17 +121,24 @@ fn reading_and_writing() {
     let mut writer = Outcomes::default();
     let (mut at_the_end, mut at_a_pair) = (0, 0);
     for _ in 0..rounds {
-        let words = any_words(random);
+        let words = any_words(random, FILE_WORDS);
         let mut file = file_bytes(&words);
         if random.once_in(12) {
             damage_bytes(random, &mut file);
         }
-        let length = about(random, words.len());
+        let length = about(random, words.len() + trapezoids_in(&words, FILE_WORDS));
         let (answer, out) = read(&file, &random.garbage(length));
         reader.note(answer);
         if answer >> 63 == 0 {
-            let (start, rest) = out.split_at(file.len() / 4);
-            assert!(file_bytes(start) == file && rest.iter().all(|&word| word == 0));
+            let pieces = (answer >> 32) as usize;
+            let (start, rest) = out.split_at(file.len() / 4 + pieces);
+            assert!(rest.iter().all(|&word| word == 0));
+            let (directory, body) = start.split_at(start.len() - WORDS * pieces);
+            let records = body.chunks(WORDS);
+            assert!(records.clone().all(|record| record[FILE_WORDS] == 0));
+            let lines = records.flat_map(|record| &record[..FILE_WORDS]);
+            let again: Vec<i32> = directory.iter().chain(lines).copied().collect();
+            assert!(file_bytes(&again) == file);
         }
         if answer >> 32 == refusal(6, 0) >> 32 {
             let end = (answer as u32).to_le_bytes() == file[..4];
@@ -128,13 +146,20 @@ fn reading_and_writing() {
             at_a_pair += !end as usize;
         }
 
-        let length = about(random, 4 * words.len());
+        let words = any_words(random, WORDS);
+        let length = 4 * (words.len() - trapezoids_in(&words, WORDS));
+        let length = about(random, length);
         let before = garbage_bytes(random, length);
         let (answer, out) = write(&words, &before);
         writer.note(answer);
         if answer >> 63 == 0 {
-            let (start, rest) = out.split_at(4 * words.len());
-            assert!(start == file_bytes(&words) && rest.iter().all(|&byte| byte == 0));
+            let pieces = (answer >> 32) as usize;
+            let (start, rest) = out.split_at(4 * (words.len() - pieces));
+            assert!(rest.iter().all(|&byte| byte == 0));
+            let (directory, body) = words.split_at(words.len() - WORDS * pieces);
+            let lines = body.chunks(WORDS).flat_map(|record| &record[..FILE_WORDS]);
+            let kept: Vec<i32> = directory.iter().chain(lines).copied().collect();
+            assert!(start == file_bytes(&kept));
         }
     }
     let numbers = [4, 5, 6, 7, 8, 9, 10, 11, 12];
@@ -149,39 +174,47 @@ fn reading_and_writing() {
     assert_met("6 at the end", at_the_end, rounds, 100);
 }
 
-/// By the library alone: what was read is written back as the same bytes, what was written reads
-/// back as the same words, and what one refuses the other refuses.
+/// By the library alone: what was read is written back as the same bytes, and what was written reads back
+/// as the same words with every set empty.
 #[test]
 fn round_trips() {
     let random = &mut Random(22);
     let rounds = rounds(60);
-    let mut met = Outcomes::default();
+    let mut reader = Outcomes::default();
+    let mut writer = Outcomes::default();
+    let mut sets_dropped = 0;
     for _ in 0..rounds {
-        let words = any_words(random);
+        let words = any_words(random, FILE_WORDS);
         let file = file_bytes(&words);
-        let mut read = random.garbage(words.len());
-        let mut written = garbage_bytes(random, file.len());
+        let mut read = random.garbage(words.len() + trapezoids_in(&words, FILE_WORDS));
         let answer = raw::read_layers(&file, &mut read);
-        let other = raw::write_layers(&words, &mut written);
-        if words.is_empty() {
-            assert_eq!((answer, other), (refusal(4, 0), refusal(5, 0)));
-            continue;
+        if !words.is_empty() {
+            reader.note(answer);
         }
-        met.note(answer);
-        assert_eq!(answer, other, "{words:?}");
-        if answer >> 63 == 1 {
-            continue;
+        if answer >> 63 == 0 {
+            let mut again = garbage_bytes(random, file.len());
+            assert_eq!(raw::write_layers(&read, &mut again), answer);
+            assert!(again == file, "{words:?}");
         }
-        assert!(read == words && written == file, "{words:?}");
-        let mut file_again = garbage_bytes(random, file.len());
-        assert_eq!(raw::write_layers(&read, &mut file_again), answer);
-        assert!(file_again == file, "{words:?}");
-        let mut words_again = random.garbage(words.len());
-        assert_eq!(raw::read_layers(&written, &mut words_again), answer);
-        assert!(words_again == words, "{words:?}");
+
+        let words = any_words(random, WORDS);
+        let mut file = garbage_bytes(random, 4 * (words.len() - trapezoids_in(&words, WORDS)));
+        let answer = raw::write_layers(&words, &mut file);
+        writer.note(answer);
+        if answer >> 63 == 0 {
+            let body = words.len() - WORDS * (answer >> 32) as usize;
+            let emptied = [&words[..body], &with_sources(&words[body..], 0)].concat();
+            sets_dropped += (emptied != words) as usize;
+            let mut again = random.garbage(words.len());
+            assert_eq!(raw::read_layers(&file, &mut again), answer);
+            assert!(again == emptied, "{words:?}");
+        }
     }
-    met.assert_refusals("both", &[5, 6, 7, 8, 9, 10, 11], rounds, 400);
-    met.assert_values("both", rounds, 50);
+    for met in [reader, writer] {
+        met.assert_refusals("either", &[5, 6, 7, 8, 9, 10, 11], rounds, 400);
+        met.assert_values("either", rounds, 50);
+    }
+    assert_met("sets dropped", sets_dropped, rounds, 8);
 }
 
 /// Small files, cut off after each byte and each word, lengthened, and with each word changed.
@@ -229,8 +262,9 @@ fn every_place_of_small_files() {
         -(1 << 24),
     ];
     for layers in &many {
-        let words = file_words(layers, WORDS);
-        let file = file_bytes(&words);
+        let words = layers_words(layers, WORDS);
+        let on_file = layer_file_words(layers);
+        let file = file_bytes(&on_file);
         reader.note(read(&file, &random.garbage(words.len())).0);
         writer.note(write(&words, &garbage_bytes(random, file.len())).0);
         // Cut off.
@@ -247,18 +281,29 @@ fn every_place_of_small_files() {
             let mut longer = words.clone();
             longer.resize(words.len() + more, 0);
             writer.note(write(&longer, &garbage_bytes(random, 4 * longer.len())).0);
-            reader.note(read(&file_bytes(&longer), &random.garbage(longer.len())).0);
+            let mut longer = on_file.clone();
+            longer.resize(on_file.len() + more, 0);
+            reader.note(read(&file_bytes(&longer), &random.garbage(words.len() + more)).0);
             let mut longer = file.clone();
             longer.resize(file.len() + more, 0);
             reader.note(read(&longer, &random.garbage(words.len() + more)).0);
         }
         // Each word changed.
-        for place in 0..words.len() {
-            let mut changed = words.clone();
-            let near = [words[place].wrapping_add(1), words[place].wrapping_sub(1)];
-            for word in wrong.into_iter().chain(near) {
+        let changes = |word: i32| {
+            let near = [word.wrapping_add(1), word.wrapping_sub(1)];
+            wrong.into_iter().chain(near)
+        };
+        for place in 0..on_file.len() {
+            let mut changed = on_file.clone();
+            for word in changes(on_file[place]) {
                 changed[place] = word;
                 reader.note(read(&file_bytes(&changed), &random.garbage(words.len())).0);
+            }
+        }
+        for place in 0..words.len() {
+            let mut changed = words.clone();
+            for word in changes(words[place]) {
+                changed[place] = word;
                 writer.note(write(&changed, &garbage_bytes(random, file.len())).0);
             }
         }
@@ -283,52 +328,55 @@ fn many(first: i32, count: i32) -> Vec<i32> {
 /// 16 layers and 512 trapezoids are a file, one more of either is not.
 #[test]
 fn most_layers_and_trapezoids() {
-    let file = |lengths: &[i32]| {
+    let file = |lengths: &[i32], unit: usize| {
         let mut layers = Vec::new();
         let mut first = 0;
         for &length in lengths {
-            layers.push(many(first, length));
+            layers.push(with_sources(&many(first, length), -first));
             first += length;
         }
-        file_words(&layers, WORDS)
+        layers_words(&layers, unit)
     };
+    let both = |lengths: &[i32]| both(|unit| file(lengths, unit));
 
-    assert_eq!(both(&file(&[1; 16])), pieces(16));
-    assert_eq!(both(&file(&[32; 16])), pieces(512));
-    assert_eq!(both(&file(&[32; 17])), refusal(5, 0));
+    assert_eq!(both(&[1; 16]), pieces(16));
+    assert_eq!(both(&[32; 16]), pieces(512));
+    assert_eq!(both(&[32; 17]), refusal(5, 0));
 
     // Totals of 512 and 513: refused at the layer that makes 513.
-    assert_eq!(both(&file(&[512])), pieces(512));
-    assert_eq!(both(&file(&[513])), refusal(6, 0));
-    assert_eq!(both(&file(&[256, 256])), pieces(512));
-    assert_eq!(both(&file(&[511, 1])), pieces(512));
-    assert_eq!(both(&file(&[512, 0])), pieces(512));
-    assert_eq!(both(&file(&[0, 512])), pieces(512));
-    assert_eq!(both(&file(&[512, 1])), refusal(6, 1));
-    assert_eq!(both(&file(&[1, 512])), refusal(6, 1));
-    assert_eq!(both(&file(&[256, 257])), refusal(6, 1));
-    assert_eq!(both(&file(&[0, 513])), refusal(6, 1));
-    assert_eq!(both(&file(&[200, 200, 112, 0, 0])), pieces(512));
-    assert_eq!(both(&file(&[200, 200, 113, 0, 0])), refusal(6, 2));
-    assert_eq!(both(&file(&[200, 200, 112, 0, 1])), refusal(6, 4));
+    assert_eq!(both(&[512]), pieces(512));
+    assert_eq!(both(&[513]), refusal(6, 0));
+    assert_eq!(both(&[256, 256]), pieces(512));
+    assert_eq!(both(&[511, 1]), pieces(512));
+    assert_eq!(both(&[512, 0]), pieces(512));
+    assert_eq!(both(&[0, 512]), pieces(512));
+    assert_eq!(both(&[512, 1]), refusal(6, 1));
+    assert_eq!(both(&[1, 512]), refusal(6, 1));
+    assert_eq!(both(&[256, 257]), refusal(6, 1));
+    assert_eq!(both(&[0, 513]), refusal(6, 1));
+    assert_eq!(both(&[200, 200, 112, 0, 0]), pieces(512));
+    assert_eq!(both(&[200, 200, 113, 0, 0]), refusal(6, 2));
+    assert_eq!(both(&[200, 200, 112, 0, 1]), refusal(6, 4));
     let lengths = [[32; 15].as_slice(), &[33]].concat();
-    assert_eq!(both(&file(&lengths)), refusal(6, 15));
+    assert_eq!(both(&lengths), refusal(6, 15));
 
     // The longest file there is, and outputs shorter by one.
-    let words = file(&[32; 16]);
+    let words = file(&[32; 16], WORDS);
     assert_eq!(words.len(), LONGEST_WORDS);
-    let bytes = file_bytes(&words);
-    for less in [0, 1, 24, LONGEST_WORDS] {
+    let bytes = file_bytes(&file(&[32; 16], FILE_WORDS));
+    assert_eq!(bytes.len(), LONGEST_BYTES);
+    assert_eq!((LONGEST_WORDS, LONGEST_BYTES), (12_833, 49_284));
+    for less in [0, 1, 25, 512, LONGEST_WORDS] {
         let (answer, _) = read(&bytes, &vec![5; LONGEST_WORDS - less]);
         let expected = [refusal(12, 0), pieces(512)][(less == 0) as usize];
         assert_eq!(answer, expected);
-        let (answer, _) = write(&words, &vec![5; 4 * LONGEST_WORDS - less]);
+        let (answer, _) = write(&words, &vec![5; LONGEST_BYTES - less]);
         assert_eq!(answer, expected);
     }
     for more in [1, 2, 3, 4, 5, 1000, 100_000] {
         let (answer, _) = read(&bytes, &vec![5; LONGEST_WORDS + more]);
         assert_eq!(answer, pieces(512));
-        let (answer, _) = write(&words, &vec![5; 4 * LONGEST_WORDS + more]);
+        let (answer, _) = write(&words, &vec![5; LONGEST_BYTES + more]);
         assert_eq!(answer, pieces(512));
     }
 }
@@ -395,7 +443,7 @@ fn counts() {
     let count = |first: i32, length: usize| {
         let mut file = vec![0; length];
         file[0] = first;
-        both(&file)
+        both(|_| file.clone())
     };
     // N = 0 and no body.
     assert_eq!(count(0, 1), pieces(0));
@@ -413,87 +461,97 @@ fn counts() {
     }
 }
 
-/// [0,4) by [0,4)
+/// [0,4) by [0,4), with the set of layer 31.
 fn square() -> Vec<i32> {
-    words("0 0 1 0  0 0 1 1  0 0 1 0  4 0 5 1  0 0 4 0  0 4 4 4")
+    let lines = words("0 0 1 0  0 0 1 1  0 0 1 0  4 0 5 1  0 0 4 0  0 4 4 4");
+    [lines, vec![i32::MIN]].concat()
 }
 
-/// Two pairs, and squares past them up to a number of words.
-fn two_layers(pairs: [i32; 4], length: usize) -> Vec<i32> {
+/// Two pairs, and past them the words of squares, of which each has `unit`, up to a number of words.
+fn two_layers(pairs: [i32; 4], unit: usize, length: usize) -> Vec<i32> {
     let mut file = vec![2];
     file.extend(pairs);
-    file.extend(square().iter().cycle().take(length - 5));
+    file.extend(square()[..unit].iter().cycle().take(length - 5));
     file
 }
 
 #[test]
 fn pairs() {
-    let answer = |pairs: [i32; 4], length: usize| both(&two_layers(pairs, length));
+    // A file of 53 words, or of one less or one more; in memory 55.
+    let with = |pairs: [i32; 4], more: i32| {
+        both(|unit| two_layers(pairs, unit, (5 + 2 * unit as i32 + more) as usize))
+    };
+    let answer = |pairs: [i32; 4]| with(pairs, 0);
     // Two layers of a square each.
-    assert_eq!(answer([0, 1, 1, 1], 53), pieces(2));
+    assert_eq!(answer([0, 1, 1, 1]), pieces(2));
     // The last word is missing.
-    assert_eq!(answer([0, 1, 1, 1], 52), refusal(6, 2));
+    assert_eq!(with([0, 1, 1, 1], -1), refusal(6, 2));
     // One word too many.
-    assert_eq!(answer([0, 1, 1, 1], 54), refusal(6, 2));
+    assert_eq!(with([0, 1, 1, 1], 1), refusal(6, 2));
     // The second offset is 2, not 1.
-    assert_eq!(answer([0, 1, 2, 1], 53), refusal(6, 1));
+    assert_eq!(answer([0, 1, 2, 1]), refusal(6, 1));
     // The first offset is 1, and the second is wrong too.
-    assert_eq!(answer([1, 1, 1, 1], 53), refusal(6, 0));
+    assert_eq!(answer([1, 1, 1, 1]), refusal(6, 0));
     // A negative offset.
-    assert_eq!(answer([0, 1, i32::MIN, 1], 53), refusal(6, 1));
+    assert_eq!(answer([0, 1, i32::MIN, 1]), refusal(6, 1));
     // A negative length.
-    assert_eq!(answer([0, i32::MIN, 1, 1], 53), refusal(6, 0));
+    assert_eq!(answer([0, i32::MIN, 1, 1]), refusal(6, 0));
     // A length above 512.
-    assert_eq!(answer([0, 1, 1, i32::MAX], 53), refusal(6, 1));
+    assert_eq!(answer([0, 1, 1, i32::MAX]), refusal(6, 1));
+    // The other number of words: a file with sets, words without them.
+    let two = |unit: usize| two_layers([0, 1, 1, 1], unit, 5 + 2 * unit);
+    assert_eq!(read(&file_bytes(&two(WORDS)), &[5; 60]).0, refusal(6, 2));
+    assert_eq!(write(&two(FILE_WORDS), &[5; 240]).0, refusal(6, 2));
 }
 
-/// Words of the third square, the second of the second layer, which starts at word 53, set to others.
+/// Words of the third square, the second of the second layer, set to others.
 #[test]
 fn rows() {
     let third = |changes: &[(usize, i32)]| {
-        let mut file = two_layers([0, 1, 1, 2], 77);
-        for &(place, word) in changes {
-            file[place] = word;
-        }
-        both(&file)
+        both(|unit| {
+            let mut file = two_layers([0, 1, 1, 2], unit, 5 + 3 * unit);
+            for &(place, word) in changes {
+                file[5 + 2 * unit + place] = word;
+            }
+            file
+        })
     };
     // The square's own words.
     assert_eq!(third(&[]), pieces(3));
     // 2,049 in the top.
-    assert_eq!(third(&[(76, 2049)]), refusal(7, 2));
-    assert_eq!(third(&[(76, i32::MIN)]), refusal(7, 2));
-    assert_eq!(third(&[(53, i32::MAX)]), refusal(7, 2));
+    assert_eq!(third(&[(23, 2049)]), refusal(7, 2));
+    assert_eq!(third(&[(23, i32::MIN)]), refusal(7, 2));
+    assert_eq!(third(&[(0, i32::MAX)]), refusal(7, 2));
     // The bottom's x1 and x2 are 0.
-    assert_eq!(third(&[(71, 0)]), refusal(8, 2));
+    assert_eq!(third(&[(18, 0)]), refusal(8, 2));
     // The lines of the left base coincide.
-    assert_eq!(third(&[(60, 0)]), refusal(9, 2));
+    assert_eq!(third(&[(7, 0)]), refusal(9, 2));
     // The left base is at 5, the right one at 4.
-    assert_eq!(third(&[(57, 5), (59, 6)]), refusal(10, 2));
+    assert_eq!(third(&[(4, 5), (6, 6)]), refusal(10, 2));
     // The top is at -1 at the left base, the bottom at 0.
-    assert_eq!(third(&[(74, -1)]), refusal(11, 2));
+    assert_eq!(third(&[(21, -1)]), refusal(11, 2));
 }
 
-/// What an output holds of a file of one square, 27 words. Nothing is written past the room that a call
-/// is given.
+/// What an output holds of a file of one square, 27 words, in memory 28. Nothing is written past the room
+/// that a call is given.
 #[test]
 fn outputs() {
-    let mut words = [vec![1, 0, 1], square()].concat();
-    words.push(0);
-    let file = file_bytes(&words);
-    // Words 0, 26, 27 and 63 of an output of sevens.
+    let words = [vec![1, 0, 1], square(), vec![0]].concat();
+    let file = file_bytes(&[&words[..27], &[0]].concat());
+    // Words 0, 26, 27, 28 and 63 of an output of sevens.
     let read = |length: usize, room: usize| {
         let mut out = [7; 64];
         let answer = raw::read_layers(&file[..length], &mut out[..room]);
-        (answer, [0, 26, 27, 63].map(|place| out[place]))
+        (answer, [0, 26, 27, 28, 63].map(|place| out[place]))
     };
-    // Zero past the file's words.
-    assert_eq!(read(108, 30), (pieces(1), [1, 4, 0, 7]));
+    // An empty set past the file's words, and zero past it.
+    assert_eq!(read(108, 30), (pieces(1), [1, 4, 0, 0, 7]));
     // They just fit.
-    assert_eq!(read(108, 27), (pieces(1), [1, 4, 7, 7]));
-    // Too short by one: the 26 words are zero.
-    assert_eq!(read(108, 26), (refusal(12, 0), [0, 7, 7, 7]));
+    assert_eq!(read(108, 28), (pieces(1), [1, 4, 0, 7, 7]));
+    // Too short by one: the 27 words are zero.
+    assert_eq!(read(108, 27), (refusal(12, 0), [0, 0, 7, 7, 7]));
     // One word too many: nothing changed.
-    assert_eq!(read(112, 30), (refusal(6, 1), [7, 7, 7, 7]));
+    assert_eq!(read(112, 30), (refusal(6, 1), [7, 7, 7, 7, 7]));
 
     // Bytes 0, 104, 108 and 255 of an output of nines.
     let write = |length: usize, room: usize| {
@@ -501,12 +559,15 @@ fn outputs() {
         let answer = raw::write_layers(&words[..length], &mut out[..room]);
         (answer, [0, 104, 108, 255].map(|place| out[place]))
     };
-    // Zero past the file.
-    assert_eq!(write(27, 112), (pieces(1), [1, 4, 0, 9]));
+    // Zero past the file, which has no set.
+    assert_eq!(write(28, 112), (pieces(1), [1, 4, 0, 9]));
+    // It just fits.
+    assert_eq!(write(28, 108), (pieces(1), [1, 4, 9, 9]));
     // Too short by one: the 107 bytes are zero.
-    assert_eq!(write(27, 107), (refusal(12, 0), [0, 0, 9, 9]));
-    // One word too many: nothing changed.
-    assert_eq!(write(28, 112), (refusal(6, 1), [9, 9, 9, 9]));
+    assert_eq!(write(28, 107), (refusal(12, 0), [0, 0, 9, 9]));
+    // One word too many, or the set missing: nothing changed.
+    assert_eq!(write(29, 112), (refusal(6, 1), [9, 9, 9, 9]));
+    assert_eq!(write(27, 112), (refusal(6, 1), [9, 9, 9, 9]));
 }
 
 /// Each row from 7 to 11 in each layer of a file, numbered through all layers; the lowest place
@@ -532,7 +593,8 @@ fn unfit_trapezoids() {
         if random.once_in(4) {
             damage(random, &mut layers[count / 2]);
         }
-        let mut words = file_words(&layers, WORDS);
+        let mut words = layers_words(&layers, WORDS);
+        let mut on_file = layer_file_words(&layers);
         let all = layers.concat();
         let mut bad = all
             .chunks(WORDS)
@@ -546,7 +608,7 @@ fn unfit_trapezoids() {
         // No room doesn't matter yet.
         for length in [0, words.len()] {
             assert_eq!(
-                read(&file_bytes(&words), &random.garbage(length)).0,
+                read(&file_bytes(&on_file), &random.garbage(length)).0,
                 expected
             );
             assert_eq!(
@@ -561,7 +623,8 @@ fn unfit_trapezoids() {
         // A wrong pair comes first.
         let pair = random.below(count);
         words[1 + 2 * pair] += 1;
-        let (answer, _) = read(&file_bytes(&words), &[]);
+        on_file[1 + 2 * pair] += 1;
+        let (answer, _) = read(&file_bytes(&on_file), &[]);
         assert_eq!(answer, refusal(6, pair as u64));
         assert_eq!(write(&words, &[]).0, refusal(6, pair as u64));
     }
@@ -580,7 +643,7 @@ fn wrappers() {
     let random = &mut Random(25);
     let mut met = Outcomes::default();
     for _ in 0..rounds(4) {
-        let words = any_words(random);
+        let words = any_words(random, FILE_WORDS);
         let file = file_bytes(&words);
         let meant = |answer: u64| {
             if answer >> 63 == 1 {
@@ -592,7 +655,7 @@ fn wrappers() {
                 Ok((answer >> 32) as u32)
             }
         };
-        let length = about(random, words.len());
+        let length = about(random, words.len() + trapezoids_in(&words, FILE_WORDS));
         let before = random.garbage(length);
         let mut out = before.clone();
         let (answer, expected) = read(&file, &before);
@@ -600,18 +663,20 @@ fn wrappers() {
         assert!(out == expected);
         met.note(answer);
 
-        let length = about(random, file.len());
+        let words = any_words(random, WORDS);
+        let length = 4 * (words.len() - trapezoids_in(&words, WORDS));
+        let length = about(random, length);
         let before = garbage_bytes(random, length);
         let mut out = before.clone();
         let (answer, expected) = write(&words, &before);
         assert_eq!(loxurfa::write_layers(&words, &mut out), meant(answer));
         assert!(out == expected);
     }
-    met.assert_values("read", rounds(4), 50);
+    met.assert_values("read", rounds(4), 100);
     assert_met("refused", met.refusals.iter().sum(), rounds(4), 4);
 }
 
-/// Layers decoded and encoded: the words and refusals of reading and writing.
+/// Layers decoded, with empty sets, and encoded, without sets: the words and refusals of reading and writing.
 #[test]
 fn layers_of_files() {
     let random = &mut Random(26);
@@ -624,16 +689,17 @@ fn layers_of_files() {
     };
     for _ in 0..rounds {
         // Any file.
-        let mut file = file_bytes(&any_words(random));
+        let mut file = file_bytes(&any_words(random, FILE_WORDS));
         if random.once_in(12) {
             damage_bytes(random, &mut file);
         }
-        let (answer, words) = read(&file, &vec![0; file.len() / 4]);
+        let (answer, mut words) = read(&file, &[0; LONGEST_WORDS]);
         decoded.note(answer);
         match loxurfa::decode_layers(&file) {
             Ok(layers) => {
-                assert_eq!(answer, (layers.concat().len() as u64 / 24) << 32);
-                assert_eq!(file_words(&layers, WORDS), words);
+                assert_eq!(answer, (layers.concat().len() as u64 / 25) << 32);
+                words.truncate(file.len() / 4 + (answer >> 32) as usize);
+                assert_eq!(layers_words(&layers, WORDS), words);
             }
             Err(refusal) => assert_eq!(refusal, refused(answer)),
         }
@@ -657,14 +723,16 @@ fn layers_of_files() {
             }
             _ => {}
         }
-        let words = file_words(&layers, WORDS);
-        let (answer, file) = write(&words, &vec![0; 4 * words.len()]);
+        let words = layers_words(&layers, WORDS);
+        let (answer, mut file) = write(&words, &[0; LONGEST_BYTES]);
         encoded.note(answer);
         match loxurfa::encode_layers(&layers) {
             Ok(bytes) => {
                 assert_eq!(answer >> 63, 0);
+                file.truncate(4 * (words.len() - (answer >> 32) as usize));
                 assert!(bytes == file);
-                assert_eq!(loxurfa::decode_layers(&bytes), Ok(layers));
+                let emptied: Vec<_> = layers.iter().map(|layer| with_sources(layer, 0)).collect();
+                assert_eq!(loxurfa::decode_layers(&bytes), Ok(emptied));
             }
             Err(refusal) => assert_eq!(refusal, refused(answer)),
         }
@@ -676,7 +744,7 @@ fn layers_of_files() {
     encoded.assert_values("encode", rounds, 50);
 
     // One word too many in one layer and one too few in the next.
-    let split = [vec![0; 25], vec![0; 23]];
+    let split = [vec![0; 26], vec![0; 24]];
     let refusal = Refusal {
         number: 6,
         place: 2,

@@ -5,10 +5,11 @@ mod support;
 
 use loxurfa::{combine, decode_layers, deoverlap, encode_layers};
 use loxurfa::{fracture, fracture_first_edition, Code};
-use loxurfa::{Refusal, MAX_TRAPEZOIDS, TRAPEZOID_WORDS};
+use loxurfa::{Refusal, MAX_LAYER_WORDS};
 use reference::listing::{list, listing};
 use support::files::file_bytes;
 use support::programs::file;
+use support::with_sources;
 
 /// The bytes of each dump: indented lines that begin with the number of their first byte in hex.
 fn dumps(text: &str) -> Vec<Vec<u8>> {
@@ -39,9 +40,9 @@ fn text() -> String {
 
 /// The words of a polygon file's trapezoids, fractured and deoverlapped.
 fn trapezoids(file: &[u8]) -> Result<Vec<i32>, Refusal> {
-    let room = || vec![0; MAX_TRAPEZOIDS * TRAPEZOID_WORDS];
+    let room = || vec![0; MAX_LAYER_WORDS];
     let (mut layer, mut out, mut scratch) = (room(), room(), room());
-    let done = fracture(file, &mut layer, &mut scratch)?;
+    let done = fracture(0, file, &mut layer, &mut scratch)?;
     let done = deoverlap(&layer[..done.words()], &mut out, &mut scratch)?;
     out.truncate(done.words());
     Ok(out)
@@ -75,8 +76,8 @@ fn polygon_file_of_the_new_edition() {
     };
     let refused = |number, place| Err(Refusal { number, place });
     let by_first_edition = |file: &[u8]| {
-        let room = || vec![0; MAX_TRAPEZOIDS * TRAPEZOID_WORDS];
-        fracture_first_edition(file, &mut room(), &mut room()).map(|done| done.pieces)
+        let room = || vec![0; MAX_LAYER_WORDS];
+        fracture_first_edition(0, file, &mut room(), &mut room()).map(|done| done.pieces)
     };
     let both = trapezoids(left_out).expect("not refused");
     let triangle = file_bytes(&[1, 0, 3, 4, 0, 6, 0, 4, 2]);
@@ -117,8 +118,8 @@ fn overlaps_on_file() {
     let polygon = trapezoids(&dumps[0]).expect("not refused");
     let twice = vec![[&polygon[..], &polygon].concat()];
     let file = encode_layers(&twice).expect("not refused");
-    assert_eq!(decode_layers(&file), Ok(twice.clone()));
-    let room = || vec![0; MAX_TRAPEZOIDS * TRAPEZOID_WORDS];
+    assert_eq!(decode_layers(&file), Ok(vec![with_sources(&twice[0], 0)]));
+    let room = || vec![0; MAX_LAYER_WORDS];
     let refused = Refusal {
         number: 13,
         place: 1,
@@ -137,7 +138,10 @@ fn layer_file() {
         panic!("four dumps");
     };
     let first = trapezoids(polygons).expect("not refused");
-    assert_eq!(decode_layers(layers), Ok(vec![first, vec![]]));
+    assert_eq!(
+        decode_layers(layers),
+        Ok(vec![with_sources(&first, 0), vec![]])
+    );
     let longer = [&layers[..], &[0; 4]].concat();
     let refused = Refusal {
         number: 6,

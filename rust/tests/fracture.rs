@@ -8,7 +8,7 @@ use loxurfa::{raw, Done, Refusal};
 use reference::files::{Edition, Polygon};
 use reference::fracture::{edges, events, fracture_polygon, winding};
 use reference::listing::{list, list_answer};
-use reference::{read_layer, Fraction, Line, Point, WORDS};
+use reference::{read_layer, Fraction, Line, Point, FILE_WORDS, WORDS};
 use std::cmp::Ordering;
 use support::files::{about, damage_bytes, damage_file, file_bytes, leave_out};
 use support::outcomes::{refusal, Outcomes};
@@ -280,7 +280,7 @@ fn refusals_by(edition: Edition, seed: u64, left_out: usize, rounds: usize) {
                     }
                 }
                 1 => {
-                    let length = *random.pick(&[1, 23, 25, 12_288, 12_289, 12_312]);
+                    let length = *random.pick(&[1, 24, 26, 12_288, 12_800, 12_801, 12_825]);
                     out = random.garbage(length);
                     scratch = out.clone();
                 }
@@ -301,15 +301,23 @@ fn refusals_by(edition: Edition, seed: u64, left_out: usize, rounds: usize) {
         if cut {
             damage_bytes(random, &mut file);
         }
-        let (answer, _) = fracture_by(edition, &file, &out, &scratch);
+        let layer = match random.below(8) {
+            0 => *random.pick(&[32, 33, 64, 255, 1 << 31, u32::MAX]),
+            _ => random.below(32) as u32,
+        };
+        let (answer, out) = fracture_by(edition, layer, &file, &out, &scratch);
         met.note(answer);
+        if answer >> 63 == 0 {
+            let mut written = out.chunks(WORDS).take((answer >> 32) as usize);
+            assert!(written.all(|record| record[FILE_WORDS] == 1 << layer));
+        }
         if answer >> 32 == refusal(6, 0) >> 32 {
             let end = (answer as u32).to_le_bytes() == file[..4];
             at_the_end += end as usize;
             at_a_pair += !end as usize;
         }
     }
-    met.assert_refusals("fracture", &[1, 4, 5, 6, 7, 12], rounds, 100);
+    met.assert_refusals("fracture", &[1, 4, 5, 6, 7, 12, 14], rounds, 100);
     met.assert_later("fracture", &[6, 7], rounds, 100);
     met.assert_values("fracture", rounds, 1000);
     assert_met("6 at a pair", at_a_pair, rounds, 50);
@@ -328,7 +336,7 @@ fn every_place_of_small_files() {
 
 fn every_place(edition: Edition, left_out: bool) {
     let fracture =
-        |file: &[u8], out: &[i32], scratch: &[i32]| fracture_by(edition, file, out, scratch);
+        |file: &[u8], out: &[i32], scratch: &[i32]| fracture_by(edition, 31, file, out, scratch);
     let triangle = || vec![[0, 0], [4, 1], [1, 3]];
     let square = || vec![[0, 0], [2, 0], [2, 2], [0, 2]];
     let room = vec![3; 40 * WORDS];
@@ -451,22 +459,25 @@ fn lengths() {
     let lent = |file: &[u8], out: usize, scratch: usize| {
         fracture(file, &vec![5; out], &vec![6; scratch]).0
     };
-    assert_eq!(lent(&file, 24, 24), pieces(1));
-    assert_eq!(lent(&file, 12_288, 12_288), pieces(1));
+    assert_eq!(lent(&file, 25, 25), pieces(1));
+    assert_eq!(lent(&file, 12_800, 12_800), pieces(1));
     assert_eq!(lent(&file, 0, 0), refusal(12, 0));
     for (out, scratch) in [
-        (24, 0),
-        (0, 24),
-        (24, 48),
-        (48, 24),
-        (23, 23),
-        (25, 25),
-        (24, 25),
-        (12_289, 12_289),
-        (12_312, 12_312),
-        (12_288, 12_312),
-        (12_312, 12_288),
-        (24_576, 24_576),
+        (25, 0),
+        (0, 25),
+        (25, 50),
+        (50, 25),
+        (24, 24),
+        (26, 26),
+        (25, 26),
+        // As before there were sets.
+        (48, 48),
+        (12_288, 12_288),
+        (12_801, 12_801),
+        (12_825, 12_825),
+        (12_800, 12_825),
+        (12_825, 12_800),
+        (25_600, 25_600),
     ] {
         assert_eq!(lent(&file, out, scratch), refusal(1, 0));
         // Row 1 comes first.
@@ -474,23 +485,23 @@ fn lengths() {
         assert_eq!(lent(&[255; 4], out, scratch), refusal(1, 0));
     }
     for bytes in [0, 1, 2, 3, 5, 6, 7, 65_533, 65_536, 1 << 20] {
-        assert_eq!(lent(&vec![0; bytes], 24, 24), refusal(4, 0));
+        assert_eq!(lent(&vec![0; bytes], 25, 25), refusal(4, 0));
     }
-    assert_eq!(lent(&[0; 65_532], 24, 24), refusal(6, 0));
-    assert_eq!(lent(&[0; 8], 24, 24), refusal(6, 0));
-    assert_eq!(lent(&[0; 4], 24, 24), pieces(0));
+    assert_eq!(lent(&[0; 65_532], 25, 25), refusal(6, 0));
+    assert_eq!(lent(&[0; 8], 25, 25), refusal(6, 0));
+    assert_eq!(lent(&[0; 4], 25, 25), pieces(0));
     let mut long = vec![0; 65_532];
     long[0] = 65;
-    assert_eq!(lent(&long, 24, 24), refusal(5, 0));
+    assert_eq!(lent(&long, 25, 25), refusal(5, 0));
     long[0] = 64;
-    assert_eq!(lent(&long, 24, 24), refusal(6, 0));
+    assert_eq!(lent(&long, 25, 25), refusal(6, 0));
 }
 
-/// The lister's text by the library: fracture, then deoverlap, each into 512 records.
+/// The lister's text by the library: fracture, as any layer, then deoverlap, each into 512 records.
 fn list_by_library(file: &[u8]) -> String {
     let (mut fractured, mut out) = (vec![1; 512 * WORDS], vec![1; 512 * WORDS]);
     let mut scratch = vec![1; 512 * WORDS];
-    let mut answer = raw::fracture(file, &mut fractured, &mut scratch);
+    let mut answer = raw::fracture(31, file, &mut fractured, &mut scratch);
     if answer >> 63 == 0 {
         let words = (answer >> 32) as usize * WORDS;
         answer = raw::deoverlap(&fractured[..words], &mut out, &mut scratch);
@@ -568,11 +579,12 @@ fn wrapper() {
         let records = random.below(30);
         let before = random.garbage(records * WORDS);
         let edition = *random.pick(&[Edition::First, Edition::New]);
-        let (answer, expected) = fracture_by(edition, &file, &before, &before);
+        let layer = random.below(33) as u32;
+        let (answer, expected) = fracture_by(edition, layer, &file, &before, &before);
         let (mut out, mut scratch) = (before.clone(), before);
         let typed = match edition {
-            Edition::First => loxurfa::fracture_first_edition(&file, &mut out, &mut scratch),
-            Edition::New => loxurfa::fracture(&file, &mut out, &mut scratch),
+            Edition::First => loxurfa::fracture_first_edition(layer, &file, &mut out, &mut scratch),
+            Edition::New => loxurfa::fracture(layer, &file, &mut out, &mut scratch),
         };
         let low = (answer & 0xffff_ffff) as u32;
         let meant = if answer >> 63 == 1 {

@@ -5,7 +5,7 @@ mod reference;
 mod support;
 
 use loxurfa::{raw, Code, Done, Equality, Refusal};
-use reference::{read_layer, Trapezoid, WORDS};
+use reference::{read_layer, Trapezoid, FILE_WORDS, WORDS};
 use support::outcomes::refusal;
 use support::{assert_met, damage, point_near, rectangle, rounds, whole_point, Random, Scene};
 
@@ -427,10 +427,10 @@ fn contains() {
 /// A length that row 1 refuses.
 fn odd_length(random: &mut Random, length: usize) -> usize {
     match random.below(4) {
-        0 => length + 1 + random.below(23),
-        1 => (length + 1 + random.below(23)).saturating_sub(24),
-        2 => 12_288 + 24 * (1 + random.below(3)),
-        _ => 12_288 + random.below(30),
+        0 => length + 1 + random.below(24),
+        1 => (length + 1 + random.below(24)).saturating_sub(25),
+        2 => 12_800 + 25 * (1 + random.below(3)),
+        _ => 12_800 + random.below(30),
     }
 }
 
@@ -575,7 +575,8 @@ fn noise() {
         };
         // Lines from left to right, so that later rows are reached.
         if random.below(8) > 0 {
-            for line in call.a.chunks_mut(4).chain(call.b.chunks_mut(4)) {
+            let records = call.a.chunks_mut(WORDS).chain(call.b.chunks_mut(WORDS));
+            for line in records.flat_map(|record| record[..FILE_WORDS].chunks_mut(4)) {
                 if line[0] > line[2] {
                     line.swap(0, 2);
                 } else if line[0] == line[2] && line[2] < 2048 {
@@ -705,7 +706,7 @@ fn lengths() {
     let bad = refusal(1, 0);
     for code in 0..5 {
         assert!(!answers(&call(code, &q, &r)).into_iter().any(is_refused));
-        for length in [1, 23, 25, 47, 12_287, 12_289, 12_312, 24_576] {
+        for length in [1, 24, 26, 48, 49, 12_288, 12_799, 12_801, 12_825, 25_600] {
             let mut wrong = call(code, &q, &r);
             wrong.a.resize(length, 0);
             assert_eq!(answers(&wrong), [bad; 4], "A {length}");
@@ -714,7 +715,7 @@ fn lengths() {
             let [combine, deoverlap, equal, contains] = answers(&wrong);
             assert_eq!([combine, equal, contains], [bad; 3], "B {length}");
             assert!(!is_refused(deoverlap));
-            for (out, scratch) in [(length, 960), (960, length), (length, length)] {
+            for (out, scratch) in [(length, 1000), (1000, length), (length, length)] {
                 let mut wrong = call(code, &q, &r);
                 wrong.out.resize(out, 7);
                 wrong.scratch.resize(scratch, 9);
@@ -724,7 +725,7 @@ fn lengths() {
             }
         }
         // Fit by themselves, but unlike.
-        for (out, scratch) in [(960, 936), (936, 960), (0, 24), (24, 0), (12_288, 0)] {
+        for (out, scratch) in [(1000, 975), (975, 1000), (0, 25), (25, 0), (12_800, 0)] {
             let mut wrong = call(code, &q, &r);
             wrong.out.resize(out, 7);
             wrong.scratch.resize(scratch, 9);
@@ -732,8 +733,8 @@ fn lengths() {
             assert_eq!([combine, deoverlap, equal], [bad; 3], "{out} {scratch}");
         }
         let mut longest = call(code, &q, &r);
-        longest.out.resize(12_288, 7);
-        longest.scratch.resize(12_288, 9);
+        longest.out.resize(12_800, 7);
+        longest.scratch.resize(12_800, 9);
         assert!(!answers(&longest).into_iter().any(is_refused));
     }
 }
@@ -859,7 +860,7 @@ fn refusal_as_text() {
         pieces: 512,
         overlays: 7,
     };
-    assert_eq!(done.words(), 12_288);
+    assert_eq!(done.words(), 12_800);
 }
 
 /// The safe wrappers read the answers as they are meant.

@@ -10,8 +10,8 @@ use support::calls::{Buffer, Call, Function};
 use support::cells::cells;
 use support::outcomes::refusal;
 use support::shapes::{near_bases, near_sides, reordered};
-use support::{assert_met, disjoint, mark, point_near, rectangle, repeat_one, rounds, six_lines};
-use support::{whole_point, words, Random, Scene};
+use support::{assert_met, disjoint, layer_of, mark, point_near, rectangle, repeat_one, rounds};
+use support::{six_lines, whole_point, with_sources, words, Random, Scene};
 
 // ---------------------------------------------------------------------------------------------
 // Calls
@@ -251,8 +251,8 @@ fn last_pair() {
 /// One trapezoid twice, by the same words and by other lines.
 #[test]
 fn twice() {
-    let q = words("0 0 1 0  0 0 1 1  0 0 1 0  4 0 5 1  0 0 4 0  0 4 4 4");
-    let again = words("0 0 1 1  0 0 1 2  0 4 4 0  0 0 1 0  0 0 8 0  0 4 8 4");
+    let q = layer_of("0 0 1 0  0 0 1 1  0 0 1 0  4 0 5 1  0 0 4 0  0 4 4 4");
+    let again = layer_of("0 0 1 1  0 0 1 2  0 4 4 0  0 0 1 0  0 0 8 0  0 4 8 4");
     assert_overlap(&[&q[..], &q].concat(), 1);
     assert_overlap(&[&q[..], &again].concat(), 1);
     assert_overlap(&[&again[..], &q].concat(), 1);
@@ -523,7 +523,8 @@ fn taken_by_the_others() {
             points += 1;
         }
         let file = encode_layers(&layers).expect("written");
-        assert_eq!(decode_layers(&file), Ok(layers.to_vec()));
+        let emptied = layers.iter().map(|layer| with_sources(layer, 0)).collect();
+        assert_eq!(decode_layers(&file), Ok(emptied));
     }
     assert_met("overlapping", overlapping, rounds, 3);
     assert_met("points", points, rounds, 4);
@@ -532,7 +533,7 @@ fn taken_by_the_others() {
     let file = words("2  0 3  3 3  0 0  4 0  0 4  0 0  4 0  0 4");
     let file: Vec<u8> = file.iter().flat_map(|word| word.to_le_bytes()).collect();
     let (mut out, mut scratch) = (vec![0; 4 * WORDS], vec![0; 4 * WORDS]);
-    let done = loxurfa::fracture(&file, &mut out, &mut scratch).expect("fractured");
+    let done = loxurfa::fracture(3, &file, &mut out, &mut scratch).expect("fractured");
     assert_eq!(done.pieces, 2);
     assert_overlap(&out[..2 * WORDS], 1);
     let (mut result, mut scratch) = (vec![0; 4 * WORDS], vec![0; 4 * WORDS]);

@@ -10,7 +10,7 @@ mod support;
 
 use loxurfa::{Code, Done, Refusal};
 use support::outputs::combined;
-use support::words;
+use support::{layer_of, with_sources};
 
 // Trapezoids: left base, right base, bottom, top. The lines 0 0 1 0 and k 0 k+1 1 meet at k.
 
@@ -74,10 +74,15 @@ const NO_SPACE: Refusal = Refusal {
     place: 0,
 };
 
+/// The sets of A and B: layers 0 and 2, layers 0 and 31.
+const SOURCES_A: i32 = 5;
+const SOURCES_B: i32 = i32::MIN + 1;
+
 /// The words of a combination of one overlay that has so many parts: they just fit into as many
 /// records, and not into one fewer.
 fn parts(code: Code, a: &str, b: &str, count: usize) -> Vec<i32> {
-    let (a, b) = (words(a), words(b));
+    let a = with_sources(&layer_of(a), SOURCES_A);
+    let b = with_sources(&layer_of(b), SOURCES_B);
     let (done, parts) = combined(code, &a, &b, count).expect("room for all parts");
     let one = Done {
         pieces: count as u32,
@@ -90,7 +95,8 @@ fn parts(code: Code, a: &str, b: &str, count: usize) -> Vec<i32> {
     parts
 }
 
-/// The trapezoids of each combination.
+/// The trapezoids of each combination. Those of a difference have the set of the one in hand, those of both
+/// have the two joined: layers 0, 2 and 31.
 struct Overlay<'a> {
     a_minus_b: &'a [&'a str],
     both: &'a [&'a str],
@@ -99,13 +105,14 @@ struct Overlay<'a> {
 
 impl Overlay<'_> {
     fn assert_of(&self, a: &str, b: &str) {
-        for (code, right) in [
-            (Code::AMinusB, self.a_minus_b),
-            (Code::Intersection, self.both),
-            (Code::BMinusA, self.b_minus_a),
+        for (code, right, sources) in [
+            (Code::AMinusB, self.a_minus_b, SOURCES_A),
+            (Code::Intersection, self.both, i32::MIN + 5),
+            (Code::BMinusA, self.b_minus_a, SOURCES_B),
         ] {
             let found = parts(code, a, b, right.len());
-            assert_eq!(found, words(&right.join(" ")), "{code:?}");
+            let right = with_sources(&layer_of(&right.join(" ")), sources);
+            assert_eq!(found, right, "{code:?}");
         }
     }
 }

@@ -9,7 +9,7 @@ use reference::WORDS;
 use support::files::file_bytes;
 use support::outcomes::refusal;
 use support::outputs::fracture;
-use support::words;
+use support::{layer_of, with_sources, words};
 
 /// A file with these words has these trapezoids. They just fit into as many records, and not into one
 /// fewer.
@@ -20,7 +20,8 @@ fn assert_fractured(file: &str, trapezoids: &[&str]) {
         let room = vec![7; records * WORDS];
         fracture(&file, &room, &room)
     };
-    let mut right = words(&trapezoids.join(" "));
+    // Fractured as layer 0.
+    let mut right = with_sources(&layer_of(&trapezoids.join(" ")), 1);
     let pieces = (count as u64) << 32;
     assert_eq!(with_room(count), (pieces, right.clone()));
     // The rest is zero.

@@ -137,7 +137,7 @@ fn j_empty_layers() {
         equal(&[], &[], &mut [], &mut []),
         Ok(Equality::Same { overlays: 0 })
     );
-    let (mut out, mut scratch) = (vec![5; 48], vec![5; 48]);
+    let (mut out, mut scratch) = (vec![5; 2 * WORDS], vec![5; 2 * WORDS]);
     assert_eq!(
         equal(&[], &[], &mut out, &mut scratch),
         Ok(Equality::Same { overlays: 0 })
@@ -230,7 +230,7 @@ fn deoverlap_of_q_and_r() {
     );
     assert_eq!(out[..WORDS], q());
     assert_eq!(
-        deoverlap(&layer, &mut out[..48], &mut scratch[..48]),
+        deoverlap(&layer, &mut out[..2 * WORDS], &mut scratch[..2 * WORDS]),
         Err(NO_SPACE)
     );
 }

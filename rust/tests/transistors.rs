@@ -10,8 +10,8 @@ use reference::{lies_in, read_layer, Line, WORDS};
 use support::cells::{cells, ring};
 use support::outcomes::{refusal, Outcomes};
 use support::shapes::{apart, comb, far_bases, reordered, snake, tiles};
-use support::{assert_met, damage, level, mark, mostly_disjoint, point_near, rectangle};
-use support::{repeat_one, rounds, six_lines, words};
+use support::{assert_met, damage, layer_of, level, mark, mostly_disjoint, point_near, rectangle};
+use support::{repeat_one, rounds, six_lines};
 use support::{Random, Scene};
 
 /// Collectors, bases and emitters.
@@ -356,7 +356,7 @@ fn at_the_edge() {
         assert_listed(&layers, &[[0, 0, 0]], 2, 0);
     }
     // [0,12) by [0,12) by other lines.
-    let again = words("0 0 1 1  0 0 1 2  0 12 12 0  0 0 1 0  0 0 8 0  0 12 8 12");
+    let again = layer_of("0 0 1 1  0 0 1 2  0 12 12 0  0 0 1 0  0 0 8 0  0 12 8 12");
     assert_listed(&[c.clone(), again.clone(), e.clone()], &[[0, 0, 0]], 2, 0);
     assert_listed(&[again, c.clone(), e.clone()], &[[0, 0, 0]], 2, 0);
     // A base that sticks out to one side, and to all: four parts are left.
@@ -426,7 +426,7 @@ fn nothing_is_kept() {
     // The same layer three times.
     assert_listed(&[row(0), row(0), row(0)], &triples, 200, 1);
     let (layer, mut list) = (row(0), [1; 30]);
-    let (mut out, mut scratch) = ([1; 24], [1; 24]);
+    let (mut out, mut scratch) = ([1; WORDS], [1; WORDS]);
     let lent = loxurfa::transistors(&layer, &layer, &layer, &mut list, &mut out, &mut scratch);
     let right = Transistors {
         triples: 10,
@@ -443,13 +443,13 @@ fn nothing_is_kept() {
 #[test]
 fn lengths() {
     let bad = refusal(1, 0);
-    for length in [1, 23, 25, 47, 12_287, 12_289, 12_312, 24_576] {
+    for length in [1, 24, 26, 48, 49, 12_288, 12_799, 12_801, 12_825, 25_600] {
         for layer in 0..3 {
             let mut wrong = Call::new(&cell(), 9, 4);
             wrong.layers[layer].resize(length, 0);
             assert_eq!(wrong.perform().0, bad, "layer {layer} {length}");
         }
-        for (out, scratch) in [(length, 96), (96, length), (length, length)] {
+        for (out, scratch) in [(length, 100), (100, length), (length, length)] {
             let mut wrong = Call::new(&cell(), 9, 4);
             wrong.out.resize(out, 7);
             wrong.scratch.resize(scratch, 9);
@@ -459,7 +459,7 @@ fn lengths() {
         assert_eq!(answer, done(1, 2), "list {length}");
     }
     // Fit by themselves, but unlike.
-    for (out, scratch) in [(96, 72), (72, 96), (0, 24), (24, 0), (12_288, 0)] {
+    for (out, scratch) in [(100, 75), (75, 100), (0, 25), (25, 0), (12_800, 0)] {
         let mut wrong = Call::new(&cell(), 9, 4);
         wrong.out.resize(out, 7);
         wrong.scratch.resize(scratch, 9);

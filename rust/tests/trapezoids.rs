@@ -48,9 +48,14 @@ const HIGH: Line = [-2048, 2048, 2048, 2048];
 const Q: [Line; 6] = [Y0, UP0, Y0, UP4, Y0, Y4];
 const TRIANGLE: [Line; 6] = [Y0, UP0, Y0, UP4, Y0, RISING];
 
+/// The words of a trapezoid, with the set of layers 1 and 31.
+fn trapezoid(lines: [Line; 6]) -> Vec<i32> {
+    [&lines.concat()[..], &[i32::MIN + 2]].concat()
+}
+
 /// The row that refuses a layer of this trapezoid, at place 0. A layer of a fit one stays as it is.
 fn row(lines: [Line; 6]) -> Option<u8> {
-    let layer = lines.concat();
+    let layer = trapezoid(lines);
     match deoverlapped(&layer, 1) {
         Err(refusal) => {
             assert_eq!(refusal.place, 0);
@@ -172,7 +177,7 @@ fn order(l: Line, m: Line, base: Base, neighbours: [Base; 2]) -> (Ordering, Orde
     let above = |first: Line, second: Line| {
         let under = between(before, base, LOW, first);
         let over = between(base, after, second, HIGH);
-        components(&[under, over].concat().concat(), &mut [7; 2]) == Ok(1)
+        components(&[under, over].map(trapezoid).concat(), &mut [7; 2]) == Ok(1)
     };
     let at = match (above(l, m), above(m, l)) {
         (false, true) => Less,
@@ -185,9 +190,9 @@ fn order(l: Line, m: Line, base: Base, neighbours: [Base; 2]) -> (Ordering, Orde
     let below = |first: Line, second: Line| {
         let over = between(base, after, first, HIGH);
         let under = between(base, after, LOW, second);
-        let (over, under) = (over.concat(), under.concat());
+        let (over, under) = (trapezoid(over), trapezoid(under));
         let (done, words) = combined(Code::Intersection, &over, &under, 1).expect("room");
-        let shared = between(base, after, first, second).concat();
+        let shared = trapezoid(between(base, after, first, second));
         assert!(words.is_empty() || words == shared);
         done.pieces == 1
     };
@@ -228,7 +233,7 @@ fn orders() {
 #[test]
 fn points() {
     let lies_in = |lines: [Line; 6], x: i32, y: i32, d: i32| {
-        contains(x, y, d, &lines.concat(), &[], Code::Union)
+        contains(x, y, d, &trapezoid(lines), &[], Code::Union)
     };
     // (0, 4) doesn't lie in Q: the top is left out.
     assert_eq!(lies_in(Q, 0, 4, 1), Ok(false));

@@ -1,7 +1,7 @@
 -- The hypotheses can be met: a polygon file with the triangle of paper 01's listing, once fractured and once fractured and deoverlapped; the union of the two is put
--- into a layer file, which is written and read back.
+-- into a layer file, which is written and read back. The layer number is 3, and what is read back has empty sets.
 use mathlib.Core.Path.{_≡_, refl}
-use mathlib.Core.List.{List, [], _∷_, map}
+use mathlib.Core.List.{List, [], _∷_, _++_, map}
 use Prim.Native.Nat.{ℕ, _≤_}
 use native.Mathlib.Omega.{arith}
 use lib.IntN.{ℤ, pos}
@@ -23,6 +23,7 @@ use Rattle.geometry.specs.Trapezoids.{trapezoidOf, trapezoidWords}
 use Rattle.geometry.specs.Fitness.{lineOnGrid, isLine, belowBetween, shapeVerdict, verdict, firstRefusal}
 use Rattle.geometry.specs.Ranges.{commonLeft, commonRight}
 use Rattle.geometry.specs.Polygons.{vertexOnGrid}
+use Rattle.sources.specs.Sets.{single}
 use Rattle.sweep.specs.Sums.{sum}
 use Rattle.sweep.specs.Segments.{spans, inside, crossInside}
 use Rattle.sweep.specs.Columns.{slabs, upTo, column}
@@ -30,6 +31,7 @@ use Rattle.sweep.specs.Sweep.{columns, sweep}
 use Rattle.overlay.specs.Overlaps.{crossesInCommon, overlapRight, overlapFrom, overlaps, overlapPast}
 use Rattle.overlay.specs.Overlay as overlays
 use Rattle.boolean.specs.Operations.{minus, minusAll, difference, deoverlappedFrom}
+use Rattle.boolean.specs.Sources.{sourcedDifference, sourcedDeoverlappedFrom}
 use Rattle.boolean.specs.Space.{minusStages, minusAllStages, differenceStages, deoverlappedStages, space}
 use Rattle.fracture.specs.Polygons.{edge, edgesFrom, edges}
 use Rattle.fracture.specs.Fracture as fractures
@@ -39,7 +41,7 @@ use Rattle.files.specs.declared.Edition.the-variants.{New}
 use Rattle.files.specs.Formats.{fileSized}
 use Rattle.files.specs.Pairs.{nextOffset, lengthRead}
 use Rattle.files.specs.Directory.{numberFrom, countOf, pairLength, endOf, pairsFrom, directoryOf}
-use Rattle.files.specs.Contents.{lengthsFrom, vertexOf, vertexWords, pairsOf, layerFileWords}
+use Rattle.files.specs.Contents.{lengthsFrom, vertexOf, vertexWords, memoryWords, writtenWords, pairsOf, layerFileWords}
 use Rattle.files.specs.Rows.{firstOffGrid, polygonFileChecked, layersChecked, layerFileChecked}
 use Rattle.files.specs.Outcomes.{readLayers, writeLayers}
 use Rattle.files.specs.Statements.{WordsHold}
@@ -55,24 +57,32 @@ use Rattle.archive.specs.Calls.{FractureCall, DeoverlapCall, WriteCall, 
 use Rattle.archive.specs.Archive.{Source, polygons, disjoint-polygons, layerFrom, Accepted, archiveWords}
 
 -- "0 0 1 0 0 0 1 1 0 0 1 0 2 0 3 1 0 0 2 0 0 2 2 0"
-abbrev triangle : Layer
+abbrev triangle : List ℤ
 triangle = map pos (0 ∷ 0 ∷ 1 ∷ 0 ∷ 0 ∷ 0 ∷ 1 ∷ 1 ∷ 0 ∷ 0 ∷ 1 ∷ 0 ∷ 2 ∷ 0 ∷ 3 ∷ 1 ∷ 0 ∷ 0 ∷ 2 ∷ 0 ∷ 0 ∷ 2 ∷ 2 ∷ 0 ∷ [])
+
+-- in memory, with the set of layer 3 and with the empty set
+abbrev of-layer-3 : Layer
+of-layer-3 = triangle ++ (pos 8 ∷ [])
+
+abbrev of-none : Layer
+of-none = triangle ++ (pos 0 ∷ [])
 
 abbrev fracturing : FractureCall
 fracturing =
     record {
       edition = New;
       limit = plateLimit;
+      layer = 3;
       file = fileOf (vertex 0 0 ∷ vertex 2 0 ∷ vertex 0 2 ∷ []);
       out = lent 1;
       scratch = lent 1;
       answer = fractured.Done 1 0;
-      out-then = triangle;
+      out-then = of-layer-3;
       scratch-then = cleared 1;
     }
 
 abbrev deoverlapping : DeoverlapCall
-deoverlapping = record { limit = plateLimit; layer = triangle; out = lent 1; scratch = lent 1; answer = deoverlapped.Done 1 0; out-then = triangle; scratch-then = cleared 1 }
+deoverlapping = record { limit = plateLimit; layer = of-layer-3; out = lent 1; scratch = lent 1; answer = deoverlapped.Done 1 0; out-then = of-layer-3; scratch-then = cleared 1 }
 
 abbrev sources : List Source
 sources = polygons fracturing ∷ disjoint-polygons fracturing deoverlapping ∷ []
@@ -83,23 +93,26 @@ calls =
     record {
       step = record { limit = plateLimit; code = 0; first = 0; second = 1; out = lent 1; scratch = lent 1 };
       answer = combined.Done 1 1;
-      out = triangle;
+      out = of-layer-3;
       scratch = cleared 1;
     }
     ∷ []
 
--- one layer, its offset 0 and length 1, and its trapezoid
+-- one layer, its offset 0 and length 1, and its trapezoid: in memory, and on file
+abbrev head : List ℤ → List ℤ
+head ws = pos 1 ∷ pos 0 ∷ pos 1 ∷ ws
+
 abbrev words : List ℤ
-words = pos 1 ∷ pos 0 ∷ pos 1 ∷ triangle
+words = head of-layer-3
 
 abbrev bytes : List ℕ
-bytes = wordsOf wordCodec words
+bytes = wordsOf wordCodec (head triangle)
 
 abbrev writing : WriteCall
 writing = record { limit = plateLimit; words = words; out = replicate 108 7; answer = written.Done 1 0; out-then = bytes }
 
 abbrev reading : ReadCall
-reading = record { limit = plateLimit; file = bytes; out = replicate 27 (pos 7); answer = read.Done 1 0; out-then = words }
+reading = record { limit = plateLimit; file = bytes; out = replicate 28 (pos 7); answer = read.Done 1 0; out-then = head of-none }
 
 examples : All Accepted sources × Contracts (map layerFrom sources) calls × (words ≡ archiveWords (held (map layerFrom sources) calls) (2 ∷ []))
     × WordsHold plateLimit × WriteAccepted writing × (plateLimit ≤ plateLimit) × (reading .file ≡ bytesBy writing) × ReadRight reading
@@ -108,8 +121,8 @@ unfolding _⊕_ _⊖_ _⊗_ ⊝_ orderOf before sized recordAt recordsFrom words
     order oneSign horizontal lineOnGrid isLine belowBetween shapeVerdict verdict firstRefusal keep sum spans inside crossInside slabs upTo column columns sweep
     commonLeft commonRight crossesInCommon overlapRight overlapFrom overlaps overlapPast overlays.sides overlays.sideCrossings overlays.overlayEvents overlays.fills
     overlays.tagAbove overlays.stack overlays.parts overlays.subdivision overlays.overlay overlays.tagged
-    minus minusAll difference deoverlappedFrom minusStages minusAllStages differenceStages deoverlappedStages space
-    fileSized nextOffset lengthRead numberFrom countOf pairLength endOf pairsFrom directoryOf lengthsFrom cut vertexOf vertexWords pairsOf layerFileWords
+    minus minusAll difference deoverlappedFrom single sourcedDifference sourcedDeoverlappedFrom minusStages minusAllStages differenceStages deoverlappedStages space
+    fileSized nextOffset lengthRead numberFrom countOf pairLength endOf pairsFrom directoryOf lengthsFrom cut vertexOf vertexWords memoryWords writtenWords pairsOf layerFileWords
     vertexOnGrid firstOffGrid polygonFileChecked layersChecked layerFileChecked readLayers writeLayers
     edge edgesFrom edges fractures.mark fractures.marks fractures.edgeCrossingsWith fractures.edgeCrossings fractures.polygonEvents
     fractures.trapezoids fractures.fracture fractures.fractureAll

@@ -1,4 +1,5 @@
 pub mod Points
 pub mod Sources
 pub mod Archive
+pub mod Sets
 mod Examples

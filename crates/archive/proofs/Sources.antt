@@ -2,7 +2,7 @@
 use mathlib.Core.Path.{_≡_, refl, sym, _∙_, ap, subst}
 use mathlib.Core.List.{List, [], _∷_, map}
 use mathlib.Core.Logic.{_↔_}
-use Prim.Native.Nat.{ℕ, zero, suc, _/_, _<_}
+use Prim.Native.Nat.{ℕ, zero, suc, _<_}
 use native.Mathlib.Omega.{arith}
 use lib.Dec.{T}
 use lib.IntN.{ℤ}
@@ -10,17 +10,24 @@ use lib.ListN.{length, take, getD}
 use Rattle.lists.specs.Lists.{All, Any, At}
 use Rattle.lists.proofs.Tests.{same-test}
 use Rattle.geometry.specs.declared.Trapezoid.{Trapezoid}
+use Rattle.geometry.specs.declared.Checked.the-variants.{Passed}
 use Rattle.geometry.specs.Points.{Point, IsPoint}
 use Rattle.geometry.specs.Trapezoids.{trapezoidCodec, layerOf, LiesInLayer, liesInLayer}
 use Rattle.geometry.proofs.Layers.{lies-in-layer-exact}
+use Rattle.sources.specs.Sets.{empty}
+use Rattle.sources.specs.Sourced.{Sourced, sourcedOf, bearing}
 use Rattle.boolean.specs.Statements.{SamePoints}
 use Rattle.fracture.specs.Statements.{Wound}
-use Rattle.files.specs.Formats.{fileWords, layerWords}
+use Rattle.files.specs.Formats.{fileWords, layerFile, layerWords}
 use Rattle.files.specs.Pairs.{countIn}
-use Rattle.files.specs.Contents.{polygonsOf, layersOf, fileLayersOf, layerWordsAt}
+use Rattle.files.specs.Rows.{layersChecked}
+use Rattle.files.specs.Contents.{polygonsOf, layersOf, fileLayersOf, sourcedLayersOf, fileCodec, memoryWords, layerWordsAt}
 use Rattle.files.specs.Outcomes as files
 use Rattle.files.specs.Statements.{wordsRead}
 use Rattle.files.proofs.Pairs.{lists-length}
+use Rattle.files.proofs.Bounds.{passes}
+use Rattle.files.proofs.Calls.{file-passes}
+use Rattle.files.proofs.Widths.{memory-layers, memory-sets}
 use Rattle.files.proofs.RoundTrip.{read-passed, read-words}
 use Rattle.files.proofs.Words.{layer-at, read-pairs}
 use Rattle.files.specs.Outcomes.{Answer, isDone}
@@ -34,7 +41,7 @@ use Rattle.archive.proofs.Points.{sent-exact}
 
 -- ---- a polygon file, fractured, and then deoverlapped
 -- what holds of the layer that the definition gives, where it gives one, holds of the layer that an accepted call wrote
-by-definition : (R : Layer → Type 0) (seen defined : Outcome Answer) → seen ≡ defined → T (isDone (seen .answer))
+pub by-definition : (R : Layer → Type 0) (seen defined : Outcome Answer) → seen ≡ defined → T (isDone (seen .answer))
     → (T (isDone (defined .answer)) → R (recordsOf (defined .answer) (defined .out))) → R (recordsOf (seen .answer) (seen .out))
 by-definition R seen defined e t f =
     subst (λ (o : Outcome Answer). T (isDone (o .answer)) → R (recordsOf (o .answer) (o .out))) (sym e) f t
@@ -42,7 +49,7 @@ by-definition R seen defined e t f =
 fractured-points : (f : FractureCall) → FractureAccepted f → (P : Point) → IsPoint P → LiesInLayer P (layerOf (fracturedBy f)) ↔ Any (Wound P) (polygonsOf (f .edition) (fileWords (f .file)))
 fractured-points f h P hP =
     by-definition (λ (A : Layer). LiesInLayer P (layerOf A) ↔ Any (Wound P) (polygonsOf (f .edition) (fileWords (f .file)))) _ _ (h .kept) (h .accepted)
-    (λ t. fracture-file-exact (f .edition) (f .limit) (f .file) (f .out) (f .scratch) t .1 P hP)
+    (λ t. fracture-file-exact (f .edition) (f .limit) (f .layer) (f .file) (f .out) (f .scratch) t .1 P hP)
 
 module _ (f : FractureCall) (d : DeoverlapCall) (h : BothAccepted f d) where
   deoverlapped-right : DisjointLayer (deoverlappedBy d) × SamePoints (layerOf (deoverlappedBy d)) (layerOf (d .layer))
@@ -64,10 +71,16 @@ module _ (r : ReadCall) (n : ℕ) (h : LayerAccepted r n) where
   read-done = subst (λ (o : files.FileOutcome ℤ). T (files.isDone (o .answer))) (h .read .kept) (h .read .accepted)
 
   words-are : wordsBy r ≡ wordsRead (r .limit) (r .file) (r .out)
-  words-are = ap (λ (o : files.FileOutcome ℤ). take (length (r .file) / 4) (o .out)) (h .read .kept)
+  words-are = ap (λ (o : files.FileOutcome ℤ). take (length (memoryWords (fileWords (r .file)))) (o .out)) (h .read .kept)
+
+  read-are : wordsRead (r .limit) (r .file) (r .out) ≡ memoryWords (fileWords (r .file))
+  read-are = let p = read-passed (r .limit) (r .file) (r .out) read-done in read-words (r .limit) (r .file) (r .out) (p .0) (p .1)
+
+  checked : layersChecked (r .limit) layerFile fileCodec (fileWords (r .file)) ≡ Passed
+  checked = file-passes (r .limit) (r .file) (read-passed (r .limit) (r .file) (r .out) read-done .0) .1
 
   layers-are : layersOf (wordsRead (r .limit) (r .file) (r .out)) ≡ fileLayersOf (fileWords (r .file))
-  layers-are = let p = read-passed (r .limit) (r .file) (r .out) read-done in ap layersOf (read-words (r .limit) (r .file) (r .out) (p .0) (p .1))
+  layers-are = ap layersOf read-are ∙ memory-layers (fileWords (r .file)) (passes (r .limit) layerFile fileCodec (fileWords (r .file)) checked .found)
 
   counted : n < countIn (wordsRead (r .limit) (r .file) (r .out))
   counted = omega (arith, h .within, ap length layers-are, lists-length layerWords trapezoidCodec (wordsRead (r .limit) (r .file) (r .out)))
@@ -75,8 +88,15 @@ module _ (r : ReadCall) (n : ℕ) (h : LayerAccepted r n) where
   layer-is : layerOf (layerWordsAt (wordsBy r) n) ≡ fileLayerAt (r .file) n
   layer-is =
       ap (λ (ws : List ℤ). layerOf (layerWordsAt ws n)) words-are
-      ∙ layer-at (wordsRead (r .limit) (r .file) (r .out)) (countIn (wordsRead (r .limit) (r .file) (r .out))) n (read-pairs (r .limit) (r .file) (r .out) read-done) counted
+      ∙ layer-at (wordsRead (r .limit) (r .file) (r .out)) (countIn (wordsRead (r .limit) (r .file) (r .out))) n (read-pairs (r .limit) (r .file) (r .out) read-done) counted .1
       ∙ ap (λ (tss : List (List Trapezoid)). getD tss n []) layers-are
+
+  -- with their sets, which are empty
+  pub layer-sets : sourcedOf (layerWordsAt (wordsBy r) n) ≡ getD (map (bearing empty) (fileLayersOf (fileWords (r .file)))) n []
+  layer-sets =
+      ap (λ (ws : List ℤ). sourcedOf (layerWordsAt ws n)) words-are
+      ∙ layer-at (wordsRead (r .limit) (r .file) (r .out)) (countIn (wordsRead (r .limit) (r .file) (r .out))) n (read-pairs (r .limit) (r .file) (r .out) read-done) counted .0
+      ∙ ap (λ (rss : List (List Sourced)). getD rss n []) (ap sourcedLayersOf read-are ∙ memory-sets (fileWords (r .file)) (passes (r .limit) layerFile fileCodec (fileWords (r .file)) checked .found))
 
 -- ---- any source
 source-disjoint : (s : Source) → Accepted s → DisjointSource s → DisjointLayer (layerFrom s)
@@ -84,7 +104,7 @@ source-disjoint (polygons f) h k = k
 source-disjoint (disjoint-polygons f d) h k = deoverlapped-right f d h .0
 source-disjoint (archived r n) h k = k
 
-source-points : (P : Point) → IsPoint P → (s : Source) → Accepted s → LiesInLayer P (layerOf (layerFrom s)) ↔ Sent P s
+pub source-points : (P : Point) → IsPoint P → (s : Source) → Accepted s → LiesInLayer P (layerOf (layerFrom s)) ↔ Sent P s
 source-points P hP (polygons f) h = fractured-points f h P hP
 source-points P hP (disjoint-polygons f d) h = polygons-points f d h P hP
 source-points P hP (archived r n) h =

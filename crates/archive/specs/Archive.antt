@@ -10,8 +10,10 @@ use lib.ListN.{length, getD}
 use Rattle.lists.specs.Lists.{Any}
 use Rattle.geometry.specs.declared.Trapezoid.{Trapezoid}
 use Rattle.geometry.specs.Points.{Point}
-use Rattle.geometry.specs.Trapezoids.{layerOf, LiesInLayer, liesInLayer}
+use Rattle.geometry.specs.Trapezoids.{LiesInLayer, liesInLayer}
 use Rattle.geometry.specs.Polygons.{Polygon}
+use Rattle.sources.specs.Sets.{empty, single}
+use Rattle.sources.specs.Sourced.{Sourced, sourcedOf}
 use Rattle.sweep.specs.Columns.{isZero}
 use Rattle.fracture.specs.Polygons.{windingNumber}
 use Rattle.fracture.specs.Statements.{Wound}
@@ -80,9 +82,15 @@ sent P (archived r n) = liesInLayer P (fileLayerAt (r .file) n)
 abbrev pub SentExact : Type 0
 SentExact = (P : Point) (s : Source) → T (sent P s) ↔ Sent P s
 
+-- ---- paper 02 (vii): the set that the trapezoids of a starting layer have: that of the layer number that the polygon file was fractured with, and none where a layer file was read
+abbrev pub setOf : Source → ℤ
+setOf (polygons f) = single (f .layer)
+setOf (disjoint-polygons f d) = single (f .layer)
+setOf (archived r n) = empty
+
 -- ---- the layers with these numbers, in this order, and the words of the layer file with these layers
-abbrev pub chosen : List Layer → List ℕ → List (List Trapezoid)
-chosen layers numbers = map (λ (n : ℕ). layerOf (layerAt layers n)) numbers
+abbrev pub chosen : List Layer → List ℕ → List (List Sourced)
+chosen layers numbers = map (λ (n : ℕ). sourcedOf (layerAt layers n)) numbers
 
 abbrev pub archiveWords : List Layer → List ℕ → List ℤ
 archiveWords layers numbers = layerFileWords (chosen layers numbers)

@@ -15,12 +15,15 @@ use Rattle.geometry.specs.declared.Trapezoid.{Trapezoid}
 use Rattle.geometry.specs.Lines.{dx, dy, offset, det, numer}
 use Rattle.geometry.specs.Positions.{crosses, ratio, meet, heights, rightOf, below}
 use Rattle.geometry.specs.Ranges.{crossing, commonLeft, commonRight}
+use Rattle.sources.specs.Sets.{single, joined}
+use Rattle.sources.specs.Sourced.{Sourced}
 use Rattle.sweep.specs.Segments.{spans}
 use Rattle.sweep.specs.Sweep.{columns, sweep}
 use Rattle.overlay.specs.Overlaps.{crossesInCommon, overlapRight, overlapFrom, overlaps}
 use Rattle.overlay.specs.Overlay.{sides, sideCrossings, overlayEvents, fills, tagAbove, stack, parts, subdivision, overlay, tagged}
 use Rattle.boolean.specs.Operations.{union, intersect, a-minus-b, b-minus-a, symmetric-difference, codeAt, minus, minusAll, difference, common, intersection, result, deoverlappedFrom, deoverlapped, OperandOf}
 use Rattle.boolean.specs.Space.{overlaid, addition, enough, no-room, space, stages, minusStages, minusAllStages, differenceStages, commonStages, intersectionStages, equalityStages}
+use Rattle.boolean.specs.Sources.{sourcedDifference, sourcedCommon, sourcedIntersection, sourcedResult, sourcedDeoverlappedFrom, sourcedDeoverlapped}
 
 abbrev line : ℕ → ℕ → ℕ → ℕ → Line
 line a b c d = record { x1 = pos a; y1 = pos b; x2 = pos c; y2 = pos d }
@@ -159,10 +162,24 @@ InDeoverlapping =
     × (deoverlapped (falling ∷ square ∷ []) ≡ falling ∷ right-corner ∷ [])
     × (deoverlapped (upon ∷ square ∷ []) ≡ upon ∷ square ∷ [])
 
-examples : NoOverlap × Sum × Itself × Differ × Union × Either × Order × InDifference × InDeoverlapping
+-- ---- sets
+-- A of the source layer 0 and B of the source layer 31
+abbrev of : ℕ → Trapezoid → Sourced
+of k t = record { shape = t; sources = single k }
+
+-- both in the intersection, and in the differences and the deoverlapped layer the one in hand
+abbrev Sets : Type 0
+Sets =
+    (sourcedResult intersect (of 0 A ∷ []) (of 31 B ∷ []) ≡ record { shape = cell 1 2 (line 0 0 2 0) (line 0 1 2 1); sources = joined (single 0) (single 31) } ∷ [])
+    × (sourcedResult union (of 0 A ∷ []) (of 31 B ∷ []) ≡ of 0 A ∷ of 31 B-minus-A ∷ [])
+    × (sourcedResult symmetric-difference (of 0 A ∷ []) (of 31 B ∷ []) ≡ of 0 A-minus-B ∷ of 31 B-minus-A ∷ [])
+    × (sourcedDeoverlapped (of 31 B ∷ of 0 A ∷ []) ≡ of 31 B ∷ of 0 A-minus-B ∷ [])
+
+examples : NoOverlap × Sum × Itself × Differ × Union × Either × Order × InDifference × InDeoverlapping × Sets
 unfolding _⊕_ _⊖_ _⊗_ ⊝_ orderOf before insert levels dx dy offset det numer crosses ratio meet heights rightOf below keep spans columns sweep
     commonLeft commonRight crossesInCommon overlapRight overlapFrom overlaps sides sideCrossings overlayEvents fills tagAbove stack parts subdivision overlay tagged
     minus minusAll difference common intersection deoverlappedFrom space minusStages minusAllStages differenceStages commonStages intersectionStages
+    sourcedDifference sourcedCommon sourcedIntersection sourcedDeoverlappedFrom
 examples = (
   (refl, refl),
   (refl, refl, refl, refl),
@@ -173,4 +190,5 @@ examples = (
   refl,
   (refl, refl, refl),
   (refl, refl, refl),
+  (refl, refl, refl, refl),
 )

@@ -10,4 +10,6 @@ pub mod Stages
 pub mod Counts
 pub mod Shifting
 pub mod Apart
+pub mod Forgetting
+pub mod Sources
 pub mod Examples

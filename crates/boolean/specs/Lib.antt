@@ -3,3 +3,4 @@ pub mod Operations
 pub mod Space
 pub mod Counts
 pub mod Statements
+pub mod Sources

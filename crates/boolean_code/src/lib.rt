@@ -4,7 +4,6 @@ ghost use Prim.Native.Nat.{_<_, _≤_};
 ghost use lib.IntN.{pos};
 ghost use Rattle.records.specs.Limits.{maxRecords};
 ghost use Rattle.records.specs.Records.{Blank};
-ghost use Rattle.geometry.specs.Trapezoids.{layerOf};
 ghost use Rattle.boolean.specs.Operations.{union, symmetric-difference, codeAt};
 ghost use Rattle.trapezoids_code.specs.Tails.{Borrowed};
 ghost use Rattle.boxes_code.specs.Code.{BoxedLayer};
@@ -24,7 +23,7 @@ fn union_into(
     requires { ⌜ BoxedLayer (now first) (now «first_boxes») × BoxedLayer (now second) (now «second_boxes») ⌝ }
     requires { ⌜ Borrowed (now out) room × (room ≤ maxRecords) ⌝ }
     requires { ⌜ ScratchFor (now out) (now scratch) ⌝ }
-    ensures { λ r. ⌜ ResultWritten union (now (out .entry)) room (layerOf (now (first .entry))) (layerOf (now (second .entry))) r (now (out .exit)) ⌝ }
+    ensures { λ r. ⌜ ResultWritten union (now (out .entry)) room (now (first .entry)) (now (second .entry)) r (now (out .exit)) ⌝ }
     ensures { λ r. ⌜ OverlaysWithin overlaysOfLayer r ⌝ }
     ensures { λ _. ⌜ Blank (pos 0) (now (scratch .exit)) ⌝ }
 {
@@ -59,7 +58,7 @@ fn symmetric_difference_into(
     requires { ⌜ BoxedLayer (now first) (now «first_boxes») × BoxedLayer (now second) (now «second_boxes») ⌝ }
     requires { ⌜ Borrowed (now out) room × (room ≤ maxRecords) ⌝ }
     requires { ⌜ ScratchFor (now out) (now scratch) ⌝ }
-    ensures { λ r. ⌜ ResultWritten symmetric-difference (now (out .entry)) room (layerOf (now (first .entry))) (layerOf (now (second .entry))) r (now (out .exit)) ⌝ }
+    ensures { λ r. ⌜ ResultWritten symmetric-difference (now (out .entry)) room (now (first .entry)) (now (second .entry)) r (now (out .exit)) ⌝ }
     ensures { λ r. ⌜ OverlaysWithin maxOverlays r ⌝ }
     ensures { λ _. ⌜ Blank (pos 0) (now (scratch .exit)) ⌝ }
 {
@@ -107,7 +106,7 @@ pub fn combine_boxed(
     requires { ⌜ (code < 5) × BoxedLayer (now first) (now «first_boxes») × BoxedLayer (now second) (now «second_boxes») ⌝ }
     requires { ⌜ Borrowed (now out) room × (room ≤ maxRecords) ⌝ }
     requires { ⌜ ScratchFor (now out) (now scratch) ⌝ }
-    ensures { λ r. ⌜ ResultWritten (codeAt code) (now (out .entry)) room (layerOf (now (first .entry))) (layerOf (now (second .entry))) r (now (out .exit)) ⌝ }
+    ensures { λ r. ⌜ ResultWritten (codeAt code) (now (out .entry)) room (now (first .entry)) (now (second .entry)) r (now (out .exit)) ⌝ }
     ensures { λ r. ⌜ OverlaysWithin maxOverlays r ⌝ }
     ensures { λ _. ⌜ Blank (pos 0) (now (scratch .exit)) ⌝ }
 {

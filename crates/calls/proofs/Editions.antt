@@ -8,6 +8,8 @@ use lib.IntN.{ℤ}
 use Rattle.geometry.specs.declared.Checked.{Checked}
 use Rattle.geometry.specs.declared.Checked.the-variants.{Passed, Refused}
 use Rattle.geometry.specs.Polygons.{Polygon}
+use Rattle.sources.specs.Sets.{isSourceLayer, single}
+use Rattle.sources.specs.Sourced.{bearing}
 use Rattle.boolean.specs.Space.{addition}
 use Rattle.fracture.specs.Fracture.{fractureAll}
 use Rattle.files.specs.declared.Edition.{Edition}
@@ -23,42 +25,45 @@ use Rattle.calls.specs.Outcomes.{Outcome, outcome, fractureOutcome}
 use Rattle.calls.specs.Editions.{Takes, BothFracture, FractureAsBefore, FirstEditionRefuses, FilledInFractures}
 use Rattle.calls.proofs.Checks.{row-passed}
 
-module _ (L : ℕ) (out scratch : List ℤ) where
+module _ (L layer : ℕ) (out scratch : List ℤ) where
   -- a call's outcome, of what its rows say and the polygons that it reads: these matter only where the rows find nothing
   abbrev outcomeOf : Checked → List Polygon → Outcome Answer
-  outcomeOf c ps = outcome c out scratch (fractureAll L ps) (addition (length (fractureAll L ps)) ∷ [])
+  outcomeOf c ps = outcome c out scratch (bearing (single layer) (fractureAll L ps)) (addition (length (fractureAll L ps)) ∷ [])
 
   same-outcome : (c : Checked) (ps qs : List Polygon) → (c ≡ Passed → ps ≡ qs) → outcomeOf c ps ≡ outcomeOf c qs
   same-outcome Passed ps qs h = ap (outcomeOf Passed) (h refl)
   same-outcome (Refused number place) ps qs h = refl
 
-  rows : (edition : Edition) (file : List ℕ) → Takes edition L file out scratch → (buffersSized (length out) (length scratch) ≡ true) × (polygonFileChecked edition L file ≡ Passed)
+  rows : (edition : Edition) (file : List ℕ) → Takes edition L layer file out scratch → (buffersSized (length out) (length scratch) ≡ true) × (isSourceLayer layer ≡ true) × (polygonFileChecked edition L file ≡ Passed)
   unfolding fractureChecked
-  rows edition file e = row-passed 1 (buffersSized (length out) (length scratch)) (polygonFileChecked edition L file) e
+  rows edition file e =
+      let h = row-passed 1 (buffersSized (length out) (length scratch)) (row 14 (isSourceLayer layer) (polygonFileChecked edition L file)) e in
+      let k = row-passed 14 (isSourceLayer layer) (polygonFileChecked edition L file) (h .1) in
+      (h .0, k .0, k .1)
 
 pub both-fracture : BothFracture
 unfolding fractureOutcome
-both-fracture L file out scratch a b = λ j. outcomeOf L out scratch ((b ∙ sym a) j) (same-polygons L L file (rows L out scratch First file a .1) (rows L out scratch New file b .1) j)
+both-fracture L layer file out scratch a b = λ j. outcomeOf L layer out scratch ((b ∙ sym a) j) (same-polygons L L file (rows L layer out scratch First file a .2) (rows L layer out scratch New file b .2) j)
 
 pub fracture-as-before : FractureAsBefore
 unfolding fractureOutcome fractureChecked
-fracture-as-before L file out scratch h =
-    let e : fractureChecked New L file (length out) (length scratch) ≡ fractureChecked First L file (length out) (length scratch) = ap (row 1 (buffersSized (length out) (length scratch))) (reads-as-before L file h) in
-    ap (λ (c : Checked). outcomeOf L out scratch c (polygonsOf New (fileWords file))) e
-    ∙ same-outcome L out scratch (fractureChecked First L file (length out) (length scratch)) (polygonsOf New (fileWords file)) (polygonsOf First (fileWords file))
-    (λ p. same-polygons L L file (rows L out scratch First file p .1) (rows L out scratch New file (e ∙ p) .1))
+fracture-as-before L layer file out scratch h =
+    let e : fractureChecked New L layer file (length out) (length scratch) ≡ fractureChecked First L layer file (length out) (length scratch) = ap (λ (c : Checked). row 1 (buffersSized (length out) (length scratch)) (row 14 (isSourceLayer layer) c)) (reads-as-before L file h) in
+    ap (λ (c : Checked). outcomeOf L layer out scratch c (polygonsOf New (fileWords file))) e
+    ∙ same-outcome L layer out scratch (fractureChecked First L layer file (length out) (length scratch)) (polygonsOf New (fileWords file)) (polygonsOf First (fileWords file))
+    (λ p. same-polygons L L file (rows L layer out scratch First file p .2) (rows L layer out scratch New file (e ∙ p) .2))
 
 pub first-edition-refuses : FirstEditionRefuses
 unfolding fractureOutcome fractureChecked
-first-edition-refuses L file out scratch i e l z =
-    let h = rows L out scratch New file e in
-    let r = older-refuses L L file i (h .1) l z in
-    record { place = r .place; first = r .first; is = rw (h .0, r .is) }
+first-edition-refuses L layer file out scratch i e l z =
+    let h = rows L layer out scratch New file e in
+    let r = older-refuses L L file i (h .2) l z in
+    record { place = r .place; first = r .first; is = rw (h .0, h .1, r .is) }
 
 pub filled-in-fractures : FilledInFractures
 unfolding fractureOutcome fractureChecked
-filled-in-fractures L file out scratch bytes e edition =
-    let h = rows L out scratch New file e in
-    let r = filled-in-reads L file bytes (h .1) edition in
-    let c : fractureChecked edition L (fileFilledIn file) (length out) (length scratch) ≡ fractureChecked New L file (length out) (length scratch) = ap (row 1 (buffersSized (length out) (length scratch))) (r .0 ∙ sym (h .1)) in
-    λ j. outcomeOf L out scratch (c j) (r .1 j)
+filled-in-fractures L layer file out scratch bytes e edition =
+    let h = rows L layer out scratch New file e in
+    let r = filled-in-reads L file bytes (h .2) edition in
+    let c : fractureChecked edition L layer (fileFilledIn file) (length out) (length scratch) ≡ fractureChecked New L layer file (length out) (length scratch) = ap (λ (c : Checked). row 1 (buffersSized (length out) (length scratch)) (row 14 (isSourceLayer layer) c)) (r .0 ∙ sym (h .2)) in
+    λ j. outcomeOf L layer out scratch (c j) (r .1 j)

@@ -30,8 +30,8 @@ use Rattle.calls.proofs.Same.{equal-exactly}
 use Rattle.calls.proofs.Fracturing.{fracture-accepted}
 
 pub fracture-file-exact : FractureFileExact
-fracture-file-exact edition L file out scratch h =
-    let k = fracture-accepted edition L file out scratch h in
+fracture-file-exact edition L layer file out scratch h =
+    let k = fracture-accepted edition L layer file out scratch h in
     let ps = polygonsOf edition (fileWords file) in (
       k .fit,
       (λ P hP. subst (λ (ts : List Trapezoid). LiesInLayer P ts ↔ Any (Wound P) ps) (sym (k .is)) (fracture-exact L ps P hP)),

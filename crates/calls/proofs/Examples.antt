@@ -21,6 +21,8 @@ use Rattle.geometry.specs.Points.{orientation, under}
 use Rattle.geometry.specs.Trapezoids.{trapezoidOf, trapezoidWords, liesIn}
 use Rattle.geometry.specs.Fitness.{lineOnGrid, isLine, belowBetween, shapeVerdict, verdict, firstRefusal}
 use Rattle.geometry.specs.Polygons.{vertexOnGrid}
+use Rattle.sources.specs.Sets.{mask, single, joined}
+use Rattle.sources.specs.Sourced.{sourcedCodec, sourcesAt, bearing}
 use Rattle.sweep.specs.Sums.{sum}
 use Rattle.sweep.specs.Segments.{spans, inside, crossInside}
 use Rattle.sweep.specs.Columns.{slabs, upTo, column}
@@ -29,7 +31,8 @@ use Rattle.geometry.specs.Ranges.{commonLeft, commonRight}
 use Rattle.overlay.specs.Overlaps.{crossesInCommon, overlapRight, overlapFrom, overlaps, overlapPast}
 use Rattle.overlay.specs.Overlay as overlays
 use Rattle.boolean.specs.Operations.{minus, minusAll, difference, deoverlappedFrom}
-use Rattle.boolean.specs.Space.{minusStages, minusAllStages, differenceStages, deoverlappedStages, space}
+use Rattle.boolean.specs.Sources.{sourcedDifference, sourcedCommon, sourcedIntersection, sourcedDeoverlappedFrom}
+use Rattle.boolean.specs.Space.{minusStages, minusAllStages, differenceStages, commonStages, intersectionStages, deoverlappedStages, space}
 use Rattle.connectivity.specs.Touching.{notAbove, touchesRight, touchesFrom, touchesAlong, lowerAt, touchesUpright, touches}
 use Rattle.connectivity.specs.Components.{ownNumbers, relabelled, joinedNumbers, joinedFirst, joinedAll, touchingAt, componentNumbers}
 use Rattle.extraction.specs.Shapes.{havingNumber, shapeOf, shapeNumbers}
@@ -40,7 +43,7 @@ use Rattle.files.specs.declared.Edition.the-variants.{First, New}
 use Rattle.files.specs.Formats.{fileSized}
 use Rattle.files.specs.Pairs.{nextOffset, lengthRead}
 use Rattle.files.specs.Directory.{numberFrom, countOf, pairLength, endOf, pairsFrom, directoryOf}
-use Rattle.files.specs.Contents.{lengthsFrom, vertexOf, vertexWords}
+use Rattle.files.specs.Contents.{lengthsFrom, vertexOf, vertexWords, fileCodec, memoryWords, writtenWords}
 use Rattle.files.specs.Rows.{firstOffGrid, polygonFileChecked, layersChecked, layerFileChecked}
 use Rattle.files.specs.Outcomes as files
 use Rattle.files.specs.Outcomes.{refused, done}
@@ -49,7 +52,7 @@ use Rattle.calls.specs.Answers.{refused-equality, refused-point, yes}
 use Rattle.calls.specs.Rows.{plateLimit, pointPasses, fractureChecked, combineChecked, deoverlapChecked, equalChecked, containsChecked}
 use Rattle.calls.specs.Outcomes.{observed, fractureOutcome, combined, deoverlapOutcome, equalOutcome, containsAnswer}
 use Rattle.calls.specs.Transistors.{transistorsChecked, observedTransistors, transistorsOutcome}
-use Rattle.calls.specs.Table.{box, Q, R, S, layer, q, lent, cleared, vertex, fileOf, point}
+use Rattle.calls.specs.Table.{box, Q, R, S, layer, q, lent, cleared, vertex, fileOf, square, point}
 
 -- ---- "Rows are checked downward": each input below breaks two rows or more
 -- no height (row 11), and beyond the grid (row 7)
@@ -59,7 +62,7 @@ flat = box 0 1 4 1
 abbrev far : Trapezoid
 far = box 0 0 2049 4
 
--- a number of words that is no multiple of 24
+-- a number of words that is no multiple of 25
 abbrev odd : List ℤ
 odd = pos 1 ∷ []
 
@@ -106,18 +109,22 @@ bytes ws = wordsOf wordCodec ws
 -- three bytes; 65 polygons; a length of 2; a vertex beyond the grid
 abbrev Polygons : Type 0
 Polygons =
-    (fractureOutcome New plateLimit (1 ∷ 2 ∷ 3 ∷ []) odd odd .answer ≡ refused 1 0)
-    × (fractureOutcome New plateLimit (1 ∷ 2 ∷ 3 ∷ []) [] [] .answer ≡ refused 4 0)
-    × (fractureOutcome New plateLimit (bytes (pos 65 ∷ pos 1 ∷ [])) [] [] .answer ≡ refused 5 0)
-    × (fractureOutcome New plateLimit (bytes (pos 1 ∷ pos 0 ∷ pos 2 ∷ pos 2049 ∷ pos 0 ∷ [])) [] [] .answer ≡ refused 6 0)
-    × (fractureOutcome New plateLimit (fileOf (vertex 2049 0 ∷ vertex 2 0 ∷ vertex 0 2 ∷ [])) [] [] .answer ≡ refused 7 0)
-    × (fractureOutcome New plateLimit (fileOf (vertex 0 0 ∷ vertex 2 0 ∷ vertex 0 2 ∷ [])) [] [] .answer ≡ refused 12 0)
+    (fractureOutcome New plateLimit 0 (1 ∷ 2 ∷ 3 ∷ []) odd odd .answer ≡ refused 1 0)
+    × (fractureOutcome New plateLimit 0 (1 ∷ 2 ∷ 3 ∷ []) [] [] .answer ≡ refused 4 0)
+    × (fractureOutcome New plateLimit 0 (bytes (pos 65 ∷ pos 1 ∷ [])) [] [] .answer ≡ refused 5 0)
+    × (fractureOutcome New plateLimit 0 (bytes (pos 1 ∷ pos 0 ∷ pos 2 ∷ pos 2049 ∷ pos 0 ∷ [])) [] [] .answer ≡ refused 6 0)
+    × (fractureOutcome New plateLimit 0 (fileOf (vertex 2049 0 ∷ vertex 2 0 ∷ vertex 0 2 ∷ [])) [] [] .answer ≡ refused 7 0)
+    × (fractureOutcome New plateLimit 0 (fileOf (vertex 0 0 ∷ vertex 2 0 ∷ vertex 0 2 ∷ [])) [] [] .answer ≡ refused 12 0)
 
 -- a length left out, before an output that is too short: the older reader, with the first rule, and the new one
 abbrev LeftOut : Type 0
 LeftOut =
-    (fractureOutcome First plateLimit (bytes (pos 1 ∷ pos 0 ∷ pos 0 ∷ pos 0 ∷ pos 0 ∷ pos 2 ∷ pos 0 ∷ pos 0 ∷ pos 2 ∷ [])) [] [] .answer ≡ refused 6 0)
-    × (fractureOutcome New plateLimit (bytes (pos 1 ∷ pos 0 ∷ pos 0 ∷ pos 0 ∷ pos 0 ∷ pos 2 ∷ pos 0 ∷ pos 0 ∷ pos 2 ∷ [])) [] [] .answer ≡ refused 12 0)
+    (fractureOutcome First plateLimit 0 (bytes (pos 1 ∷ pos 0 ∷ pos 0 ∷ pos 0 ∷ pos 0 ∷ pos 2 ∷ pos 0 ∷ pos 0 ∷ pos 2 ∷ [])) [] [] .answer ≡ refused 6 0)
+    × (fractureOutcome New plateLimit 0 (bytes (pos 1 ∷ pos 0 ∷ pos 0 ∷ pos 0 ∷ pos 0 ∷ pos 2 ∷ pos 0 ∷ pos 0 ∷ pos 2 ∷ [])) [] [] .answer ≡ refused 12 0)
+
+-- a layer's words on file: 24 for each trapezoid
+abbrev onFile : List Trapezoid → List ℤ
+onFile ts = wordsOf fileCodec ts
 
 -- 17 layers; an offset of 1; a trapezoid beyond the grid; and an output that is too short for any of them. "in a book they are numbered through all
 -- layers": the second layer's first trapezoid is number 1.
@@ -125,9 +132,9 @@ abbrev Layers : Type 0
 Layers =
     (files.readLayers plateLimit (1 ∷ 2 ∷ 3 ∷ []) [] .answer ≡ files.refused 4 0)
     × (files.readLayers plateLimit (bytes (pos 17 ∷ pos 1 ∷ [])) [] .answer ≡ files.refused 5 0)
-    × (files.readLayers plateLimit (bytes (pos 1 ∷ pos 1 ∷ pos 1 ∷ layer (far ∷ []))) [] .answer ≡ files.refused 6 0)
-    × (files.readLayers plateLimit (bytes (pos 1 ∷ pos 0 ∷ pos 1 ∷ layer (far ∷ []))) [] .answer ≡ files.refused 7 0)
-    × (files.readLayers plateLimit (bytes (pos 1 ∷ pos 0 ∷ pos 1 ∷ q)) [] .answer ≡ files.refused 12 0)
+    × (files.readLayers plateLimit (bytes (pos 1 ∷ pos 1 ∷ pos 1 ∷ onFile (far ∷ []))) [] .answer ≡ files.refused 6 0)
+    × (files.readLayers plateLimit (bytes (pos 1 ∷ pos 0 ∷ pos 1 ∷ onFile (far ∷ []))) [] .answer ≡ files.refused 7 0)
+    × (files.readLayers plateLimit (bytes (pos 1 ∷ pos 0 ∷ pos 1 ∷ onFile (Q ∷ []))) [] .answer ≡ files.refused 12 0)
     × (files.writeLayers plateLimit (pos 17 ∷ pos 1 ∷ []) [] .answer ≡ files.refused 5 0)
     × (files.writeLayers plateLimit (pos 2 ∷ pos 0 ∷ pos 1 ∷ pos 1 ∷ pos 1 ∷ layer (Q ∷ far ∷ [])) [] .answer ≡ files.refused 7 1)
     × (files.writeLayers plateLimit (pos 1 ∷ pos 0 ∷ pos 1 ∷ q) [] .answer ≡ files.refused 12 0)
@@ -143,9 +150,9 @@ Bytes =
 examples : Written × Combined × Places × Asked × Others × Polygons × LeftOut × Layers × Bytes
 unfolding _⊕_ _⊖_ _⊗_ ⊝_ orderOf before sized recordAt recordsFrom wordsOf unsigned signed wordOf bytesOf insert levels
     onGrid dx dy offset det numer crosses ratio meet heights rightOf below trapezoidOf trapezoidWords
-    order oneSign horizontal lineOnGrid isLine belowBetween shapeVerdict verdict firstRefusal overlapPast keep sum spans inside crossInside slabs upTo column columns sweep space difference differenceStages
+    order oneSign horizontal lineOnGrid isLine belowBetween shapeVerdict verdict firstRefusal overlapPast keep sum spans inside crossInside slabs upTo column columns sweep space difference sourcedDifference differenceStages
     fileSized nextOffset lengthRead numberFrom countOf pairLength endOf pairsFrom directoryOf lengthsFrom cut vertexOf vertexWords vertexOnGrid firstOffGrid polygonFileChecked
-    layersChecked layerFileChecked files.readLayers files.writeLayers
+    layersChecked layerFileChecked memoryWords writtenWords files.readLayers files.writeLayers
     edge edgesFrom edges fractures.mark fractures.marks fractures.edgeCrossingsWith fractures.edgeCrossings fractures.polygonEvents
     fractures.trapezoids fractures.fracture fractures.fractureAll
     connectivity.listsSized connectivity.componentsChecked connectivity.componentsOutcome
@@ -223,7 +230,56 @@ unfolding keep _⊕_ _⊖_ _⊗_ ⊝_ orderOf before sized recordAt recordsFrom 
     order oneSign horizontal lineOnGrid isLine belowBetween shapeVerdict verdict firstRefusal sum spans inside crossInside slabs upTo column columns sweep
     commonLeft commonRight crossesInCommon overlapRight overlapFrom overlaps overlapPast overlays.sides overlays.sideCrossings overlays.overlayEvents overlays.fills
     overlays.tagAbove overlays.stack overlays.parts overlays.subdivision overlays.overlay overlays.tagged
-    minus minusAll difference deoverlappedFrom minusStages minusAllStages differenceStages deoverlappedStages space
+    minus minusAll difference deoverlappedFrom sourcedDifference sourcedDeoverlappedFrom minusStages minusAllStages differenceStages deoverlappedStages space
     connectivity.listsSized connectivity.componentsChecked connectivity.componentsOutcome
     pointPasses combineChecked deoverlapChecked equalChecked containsChecked combined deoverlapOutcome equalOutcome containsAnswer transistorsChecked transistorsOutcome
 overlap-examples = ((refl, refl, refl, refl, refl, refl, refl, refl, refl, refl), (refl, refl))
+
+-- ---- sets, paper 02 (vii)
+-- the words of trapezoids that all have this set
+abbrev marked : ℤ → List Trapezoid → List ℤ
+marked z ts = wordsOf sourcedCodec (bearing z ts)
+
+-- "Cutting takes a layer number and sets that bit.": bit 31 makes the word negative, and the rest is zero
+abbrev FracturedSets : Type 0
+FracturedSets =
+    (fractureOutcome New plateLimit 31 (fileOf square) (lent 2) (lent 2) .answer ≡ done 1 0)
+    × (sourcesAt (fractureOutcome New plateLimit 31 (fileOf square) (lent 2) (lent 2) .out) 0 ≡ negsuc 2147483647)
+    × (sourcesAt (fractureOutcome New plateLimit 31 (fileOf square) (lent 2) (lent 2) .out) 1 ≡ pos 0)
+    × (sourcesAt (fractureOutcome First plateLimit 5 (fileOf square) (lent 1) (lent 1) .out) 0 ≡ pos 32)
+
+-- "14, layer number not 0 to 31, place 0": below row 1 and above row 4, and nothing changes
+abbrev LayerNumbers : Type 0
+LayerNumbers =
+    (fractureOutcome New plateLimit 32 (fileOf square) (lent 1) (lent 1) ≡ observed (refused 14 0) (lent 1) (lent 1))
+    × (fractureOutcome New plateLimit 32 (fileOf square) odd odd .answer ≡ refused 1 0)
+    × (fractureOutcome New plateLimit 32 (1 ∷ 2 ∷ 3 ∷ []) [] [] .answer ≡ refused 14 0)
+
+-- "an intersection piece has both sets joined bit by bit": 1 and 2, bit 31 and bit 0, and 3 and 1; "A difference or disjointing piece keeps the set of the piece in hand", and so does
+-- what a union leaves of B
+abbrev CombinedSets : Type 0
+CombinedSets =
+    (sourcesAt (combined plateLimit 1 (marked (pos 1) (Q ∷ [])) (marked (pos 2) (R ∷ [])) (lent 1) (lent 1) .out) 0 ≡ pos 3)
+    × (sourcesAt (combined plateLimit 1 (marked (negsuc 2147483647) (Q ∷ [])) (marked (pos 1) (R ∷ [])) (lent 1) (lent 1) .out) 0 ≡ negsuc 2147483646)
+    × (sourcesAt (combined plateLimit 1 (marked (pos 3) (Q ∷ [])) (marked (pos 1) (R ∷ [])) (lent 1) (lent 1) .out) 0 ≡ pos 3)
+    × (sourcesAt (combined plateLimit 2 (marked (pos 1) (Q ∷ [])) (marked (pos 2) (R ∷ [])) (lent 2) (lent 2) .out) 1 ≡ pos 1)
+    × (sourcesAt (combined plateLimit 3 (marked (pos 1) (Q ∷ [])) (marked (pos 2) (R ∷ [])) (lent 2) (lent 2) .out) 1 ≡ pos 2)
+    × (sourcesAt (combined plateLimit 0 (marked (pos 1) (Q ∷ [])) (marked (pos 2) (R ∷ [])) (lent 3) (lent 3) .out) 0 ≡ pos 1)
+    × (sourcesAt (combined plateLimit 0 (marked (pos 1) (Q ∷ [])) (marked (pos 2) (R ∷ [])) (lent 3) (lent 3) .out) 2 ≡ pos 2)
+    × (sourcesAt (deoverlapOutcome plateLimit (marked (pos 1) (Q ∷ []) ++ marked (pos 2) (R ∷ [])) (lent 4) (lent 4) .out) 0 ≡ pos 1)
+    × (sourcesAt (deoverlapOutcome plateLimit (marked (pos 1) (Q ∷ []) ++ marked (pos 2) (R ∷ [])) (lent 4) (lent 4) .out) 2 ≡ pos 2)
+    × (sourcesAt (deoverlapOutcome plateLimit (marked (pos 1) (Q ∷ []) ++ marked (pos 2) (R ∷ [])) (lent 4) (lent 4) .out) 3 ≡ pos 0)
+
+set-examples : FracturedSets × LayerNumbers × CombinedSets
+unfolding keep _⊕_ _⊖_ _⊗_ ⊝_ orderOf before sized recordAt recordsFrom wordsOf unsigned signed wordOf bytesOf insert levels
+    onGrid dx dy offset det numer crosses ratio meet heights rightOf below trapezoidOf trapezoidWords
+    order oneSign horizontal lineOnGrid isLine belowBetween shapeVerdict verdict firstRefusal sum spans inside crossInside slabs upTo column columns sweep
+    commonLeft commonRight crossesInCommon overlapRight overlapFrom overlaps overlapPast overlays.sides overlays.sideCrossings overlays.overlayEvents overlays.fills
+    overlays.tagAbove overlays.stack overlays.parts overlays.subdivision overlays.overlay overlays.tagged
+    fileSized nextOffset lengthRead numberFrom countOf pairLength endOf pairsFrom directoryOf lengthsFrom cut vertexOf vertexWords vertexOnGrid firstOffGrid polygonFileChecked
+    edge edgesFrom edges fractures.mark fractures.marks fractures.edgeCrossingsWith fractures.edgeCrossings fractures.polygonEvents
+    fractures.trapezoids fractures.fracture fractures.fractureAll
+    minus minusAll mask single joined sourcedDifference sourcedCommon sourcedIntersection sourcedDeoverlappedFrom
+    minusStages minusAllStages differenceStages commonStages intersectionStages deoverlappedStages space
+    fractureChecked combineChecked deoverlapChecked fractureOutcome combined deoverlapOutcome
+set-examples = ((refl, refl, refl, refl), (refl, refl, refl), (refl, refl, refl, refl, refl, refl, refl, refl, refl, refl))

@@ -12,6 +12,7 @@ pub mod Fracturing
 pub mod Disjoint
 pub mod Numbers
 pub mod Exact
+pub mod Sets
 pub mod Editions
 pub mod Table
 mod Examples

@@ -1,5 +1,5 @@
 -- The numbers of refusals: rows 1 to 11 have none above 11, and past them and row 13 only 12 is met.
-use mathlib.Core.Path.{_≡_, refl, sym, _∙_}
+use mathlib.Core.Path.{_≡_, refl}
 use mathlib.Core.Bool.{Bool, true, false, _&&_}
 use mathlib.Core.List.{List, [], _∷_, _++_}
 use Prim.Native.Nat.{ℕ, _+_, _≤_}
@@ -17,14 +17,16 @@ use Rattle.geometry.specs.Fitness.{verdict, refuse, firstRefusal}
 use Rattle.geometry.proofs.Fitness.{row-exact}
 use Rattle.overlay.specs.Overlaps.{firstOverlap}
 use Rattle.overlay.proofs.Search.{first-overlap-exact}
-use Rattle.boolean.specs.Operations.{codeAt, result, difference, isCode}
+use Rattle.sources.specs.Sourced.{Sourced, sourcedOf}
+use Rattle.boolean.specs.Operations.{codeAt, difference, isCode}
+use Rattle.boolean.specs.Sources.{sourcedResult}
 use Rattle.boolean.specs.Space.{Stage, Space, enough, no-room, space, stages, equalityStages}
 use Rattle.extraction.specs.Extraction.{Triple, triples, extractionStages}
 use Rattle.files.specs.Outcomes.{refused}
-use Rattle.calls.specs.Answers.{EqualityAnswer, refused-equality}
+use Rattle.calls.specs.Answers.{refused-equality}
 use Rattle.calls.specs.Rows.{row, andThen, buffersSized, bothChecked, bothDisjoint, combineChecked, equalChecked}
 use Rattle.calls.specs.Outcomes.{roomOf, written, outcome, combined, compared, comparedIn, equalityOutcome, equalOutcome}
-use Rattle.calls.specs.Components.{listsSized, componentsChecked, ComponentsOutcome, refused-components, countOutcome, componentsOutcome}
+use Rattle.calls.specs.Components.{listsSized, componentsChecked, refused-components, countOutcome, componentsOutcome}
 use Rattle.calls.specs.Transistors.{threeChecked, threeDisjoint, transistorsChecked, extractedIn, listFits, transistorsOutcomeOf, transistorsOutcome}
 use Rattle.calls.specs.Disjoint.{DisjointTaken}
 use Rattle.calls.proofs.Checks.{combine-ready, equal-ready}
@@ -82,13 +84,13 @@ other : _≡_ {A = ℕ} 12 13 → ⊥
 other e = omega (arith, e)
 
 module _ (place : ℕ) where
-  written-not : (n : ℕ) (ts : List Trapezoid) (s : Space) → written n ts s .answer ≡ refused 13 place → ⊥
-  written-not n ts (enough k) e = let z : _≡_ {A = ℕ} 0 1 = cc in absurd (omega arith)
-  written-not n ts (no-room k) e = let z : _≡_ {A = ℕ} 12 13 = cc in other z
+  written-not : (n : ℕ) (rs : List Sourced) (s : Space) → written n rs s .answer ≡ refused 13 place → ⊥
+  written-not n rs (enough k) e = let z : _≡_ {A = ℕ} 0 1 = cc in absurd (omega arith)
+  written-not n rs (no-room k) e = let z : _≡_ {A = ℕ} 12 13 = cc in other z
 
-  outcome-not : (c : Checked) (out scratch : List ℤ) (ts : List Trapezoid) (ms : List Stage) → UpTo11 c → outcome c out scratch ts ms .answer ≡ refused 13 place → ⊥
-  outcome-not Passed out scratch ts ms h e = written-not (length out) ts (space (roomOf out) ms) e
-  outcome-not (Refused n k) out scratch ts ms h e = let z : n ≡ 13 = cc in over h z
+  outcome-not : (c : Checked) (out scratch : List ℤ) (rs : List Sourced) (ms : List Stage) → UpTo11 c → outcome c out scratch rs ms .answer ≡ refused 13 place → ⊥
+  outcome-not Passed out scratch rs ms h e = written-not (length out) rs (space (roomOf out) ms) e
+  outcome-not (Refused n k) out scratch rs ms h e = let z : n ≡ 13 = cc in over h z
 
   compared-not : (ts us : List Trapezoid) (k : ℕ) → compared ts us k ≡ refused-equality 13 place → ⊥
   compared-not [] [] k e = let z : _≡_ {A = ℕ} 0 1 = cc in absurd (omega arith)
@@ -117,7 +119,7 @@ combine-taken : (L code : ℕ) (a b out scratch : List ℤ) → Disjoint (layerO
 unfolding combined
 combine-taken L code a b out scratch d f place e =
     let rows = combineChecked L code a b (length out) (length scratch) in
-    outcome-not place (andThen rows (bothDisjoint a b)) out scratch (result (codeAt code) (layerOf a) (layerOf b)) (stages (codeAt code) (layerOf a) (layerOf b))
+    outcome-not place (andThen rows (bothDisjoint a b)) out scratch (sourcedResult (codeAt code) (sourcedOf a) (sourcedOf b)) (stages (codeAt code) (layerOf a) (layerOf b))
     (and-up rows (bothDisjoint a b) (combine-up L code a b (length out) (length scratch)) (λ p.
     let r = combine-ready L code a b (length out) (length scratch) p in both-pass L a b (r .first .fit) (r .second .fit) d f)) e
 

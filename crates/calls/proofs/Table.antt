@@ -25,6 +25,7 @@ use Rattle.sweep.specs.Sweep.{columns, sweep}
 use Rattle.overlay.specs.Overlaps.{crossesInCommon, overlapRight, overlapFrom, overlaps, overlapPast}
 use Rattle.overlay.specs.Overlay as overlays
 use Rattle.boolean.specs.Operations.{minus, minusAll, difference}
+use Rattle.boolean.specs.Sources.{sourcedDifference}
 use Rattle.boolean.specs.Space.{minusStages, minusAllStages, differenceStages, space}
 use Rattle.connectivity.specs.Touching.{notAbove, touchesRight, touchesFrom, touchesAlong, lowerAt, touchesUpright, touches}
 use Rattle.connectivity.specs.Components.{ownNumbers, relabelled, joinedNumbers, joinedFirst, joinedAll, owners, touchingAt, componentNumbers, componentCount}
@@ -48,7 +49,7 @@ unfolding _⊕_ _⊖_ _⊗_ ⊝_ orderOf before sized recordAt recordsFrom words
     overlays.tagAbove overlays.stack overlays.parts overlays.subdivision overlays.overlay overlays.tagged
     notAbove touchesRight touchesFrom touchesAlong lowerAt touchesUpright touches ownNumbers relabelled joinedNumbers joinedFirst joinedAll owners
     touchingAt componentNumbers componentCount listsSized componentsChecked componentsOutcome
-    minus minusAll difference minusStages minusAllStages differenceStages space
+    minus minusAll difference sourcedDifference minusStages minusAllStages differenceStages space
     fileSized nextOffset lengthRead numberFrom countOf pairLength endOf pairsFrom directoryOf lengthsFrom cut vertexOf vertexWords vertexOnGrid firstOffGrid polygonFileChecked
     edge edgesFrom edges fractures.mark fractures.marks fractures.edgeCrossingsWith fractures.edgeCrossings fractures.polygonEvents
     fractures.trapezoids fractures.fracture fractures.fractureAll

@@ -24,7 +24,7 @@ use Rattle.boolean.specs.Space.{Space, enough, no-room, space}
 use Rattle.boolean.specs.Counts.{isNoRoom}
 use Rattle.extraction.specs.Extraction.{Triple, triples, extractionStages, tripleCodec}
 use Rattle.extraction.specs.Statements.{TransistorsOf}
-use Rattle.extraction.proofs.Codec.{triples-faithful}
+use Rattle.extraction.proofs.Codec.{triples-readable}
 use Rattle.extraction.proofs.Triples.{transistors-exact}
 use Rattle.files.specs.Outcomes.{refused, done}
 use Rattle.calls.specs.Rows.{andThen, buffersSized}
@@ -140,7 +140,7 @@ success : (m : ℕ) (ts : List Triple) (fits : Bool) (s : Space) (out scratch n 
     → firstTriples n (extractedIn m ts fits s out scratch .list) ≡ ts
 success m ts true (enough k) out scratch n overlays h =
     let l : length ts ≡ n = cc in
-    subst (λ (k : ℕ). firstTriples k (image tripleCodec m ts) ≡ ts) l (image-records tripleCodec triples-faithful m ts (all-of (λ (t : Triple). Unit {0}) (λ t. tt) ts))
+    subst (λ (k : ℕ). firstTriples k (image tripleCodec m ts) ≡ ts) l (image-records tripleCodec triples-readable m ts (all-of (λ (t : Triple). Unit {0}) (λ t. tt) ts))
 success m ts true (no-room k) out scratch n overlays h = let z : _≡_ {A = ℕ} 0 1 = cc in absurd (omega arith)
 success m ts false (enough k) out scratch n overlays h = let z : _≡_ {A = ℕ} 0 1 = cc in absurd (omega arith)
 success m ts false (no-room k) out scratch n overlays h = let z : _≡_ {A = ℕ} 0 1 = cc in absurd (omega arith)

@@ -19,7 +19,8 @@ use Rattle.calls.specs.declared.Connected.the-variants as connected
 use Rattle.calls.specs.Rows.{row, andThen}
 
 -- ---- the rows
--- row 1: "layer, output or work area for pieces not a multiple of 24 words or above 12,288; work area unlike output; component list not one entry per piece"
+-- row 1: "layer, output or work area for pieces not a multiple of 24 words or above 12,288; work area unlike output; component list not one entry per piece"; paper 02 (vii): "Lent
+-- lengths are then multiples of 25 words, at most 12,800."
 unfoldable pub listsSized : List ℤ → ℕ → Bool
 listsSized a n = sized (length a) && eqb n (count trapezoidCodec a)
 

@@ -23,8 +23,8 @@ use Rattle.calls.specs.Rows.{pointAt}
 use Rattle.calls.specs.Outcomes.{Outcome, observed, fractureOutcome, combined, deoverlapOutcome, equalOutcome, containsAnswer}
 
 -- ---- calls with an output and a scratch area (paper 01: work area): what the two held before, the answer, and what they hold then
-abbrev pub FractureKept : Edition → ℕ → List ℕ → List ℤ → List ℤ → Fractured → List ℤ → List ℤ → Type 0
-FractureKept edition L file out scratch answer out-then scratch-then = observed (fracturedAnswer answer) out-then scratch-then ≡ fractureOutcome edition L file out scratch
+abbrev pub FractureKept : Edition → ℕ → ℕ → List ℕ → List ℤ → List ℤ → Fractured → List ℤ → List ℤ → Type 0
+FractureKept edition L layer file out scratch answer out-then scratch-then = observed (fracturedAnswer answer) out-then scratch-then ≡ fractureOutcome edition L layer file out scratch
 
 abbrev pub CombineKept : ℕ → ℕ → List ℤ → List ℤ → List ℤ → List ℤ → Combined → List ℤ → List ℤ → Type 0
 CombineKept L code a b out scratch answer out-then scratch-then = observed (combinedAnswer answer) out-then scratch-then ≡ combined L code a b out scratch
@@ -60,8 +60,8 @@ SeenFromC pack o answer out scratch = (answer ≡ pack (o .answer)) × (out ≡ 
 abbrev pub FileSeenFromC : {W : Type 0} → files.FileOutcome W → ℕ → List W → Type 0
 FileSeenFromC o answer out = (answer ≡ packed (o .answer)) × (out ≡ o .out)
 
-abbrev pub FractureKeptForC : Edition → ℕ → List ℕ → List ℤ → List ℤ → ℕ → List ℤ → List ℤ → Type 0
-FractureKeptForC edition L file out scratch answer out-then scratch-then = SeenFromC packed (fractureOutcome edition L file out scratch) answer out-then scratch-then
+abbrev pub FractureKeptForC : Edition → ℕ → ℕ → List ℕ → List ℤ → List ℤ → ℕ → List ℤ → List ℤ → Type 0
+FractureKeptForC edition L layer file out scratch answer out-then scratch-then = SeenFromC packed (fractureOutcome edition L layer file out scratch) answer out-then scratch-then
 
 abbrev pub CombineKeptForC : ℕ → ℕ → List ℤ → List ℤ → List ℤ → List ℤ → ℕ → List ℤ → List ℤ → Type 0
 CombineKeptForC L code a b out scratch answer out-then scratch-then = SeenFromC packed (combined L code a b out scratch) answer out-then scratch-then

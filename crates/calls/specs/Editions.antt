@@ -1,4 +1,4 @@
--- The two readers of polygon files, `fracture` and `fracture_first_edition`, as calls on the same bytes, output and scratch area. Each statement is proved under its name in
+-- The two readers of polygon files, `fracture` and `fracture_first_edition`, as calls on the same bytes, output and scratch area, with the same layer number. Each statement is proved under its name in
 -- lower case in proofs/Editions.antt.
 use mathlib.Core.Path.{_≡_}
 use mathlib.Core.List.{List}
@@ -18,30 +18,30 @@ use Rattle.calls.specs.Rows.{fractureChecked}
 use Rattle.calls.specs.Outcomes.{observed, fractureOutcome}
 
 -- the rows of a reader find nothing
-abbrev pub Takes : Edition → ℕ → List ℕ → List ℤ → List ℤ → Type 0
-Takes edition L file out scratch = fractureChecked edition L file (length out) (length scratch) ≡ Passed
+abbrev pub Takes : Edition → ℕ → ℕ → List ℕ → List ℤ → List ℤ → Type 0
+Takes edition L layer file out scratch = fractureChecked edition L layer file (length out) (length scratch) ≡ Passed
 
 -- "For any sheet that both accept, they show the same polygons": they answer and write the same
 abbrev pub BothFracture : Type 0
 BothFracture =
-    (L : ℕ) (file : List ℕ) (out scratch : List ℤ) → Takes First L file out scratch → Takes New L file out scratch → fractureOutcome New L file out scratch ≡ fractureOutcome First L file out scratch
+    (L layer : ℕ) (file : List ℕ) (out scratch : List ℤ) → Takes First L layer file out scratch → Takes New L layer file out scratch → fractureOutcome New L layer file out scratch ≡ fractureOutcome First L layer file out scratch
 
 -- "A sheet with every length present reads as before": accepted or refused, both answer and write the same
 abbrev pub FractureAsBefore : Type 0
-FractureAsBefore = (L : ℕ) (file : List ℕ) (out scratch : List ℤ) → AllPresent (fileWords file) → fractureOutcome New L file out scratch ≡ fractureOutcome First L file out scratch
+FractureAsBefore = (L layer : ℕ) (file : List ℕ) (out scratch : List ℤ) → AllPresent (fileWords file) → fractureOutcome New L layer file out scratch ≡ fractureOutcome First L layer file out scratch
 
 -- the older reader "refuses with 6 every sheet with a length 0 that the new reader accepts": at the first pair that carries it, and changes nothing
-pub record OlderRefusal (L : ℕ) (file : List ℕ) (out scratch : List ℤ) : Type 0 where
+pub record OlderRefusal (L layer : ℕ) (file : List ℕ) (out scratch : List ℤ) : Type 0 where
   pub place : ℕ
   pub first : FirstLeftOut (fileWords file) place
-  pub is : fractureOutcome First L file out scratch ≡ observed (refused 6 place) out scratch
+  pub is : fractureOutcome First L layer file out scratch ≡ observed (refused 6 place) out scratch
 
 abbrev pub FirstEditionRefuses : Type 0
 FirstEditionRefuses =
-    (L : ℕ) (file : List ℕ) (out scratch : List ℤ) (i : ℕ) → Takes New L file out scratch → i < countIn (fileWords file) → LeftOut (fileWords file) i → OlderRefusal L file out scratch
+    (L layer : ℕ) (file : List ℕ) (out scratch : List ℤ) (i : ℕ) → Takes New L layer file out scratch → i < countIn (fileWords file) → LeftOut (fileWords file) i → OlderRefusal L layer file out scratch
 
 -- a file that the new reader accepts, with its lengths written in: either reader answers and writes of it what the new one does of the file as it was
 abbrev pub FilledInFractures : Type 0
 FilledInFractures =
-    (L : ℕ) (file : List ℕ) (out scratch : List ℤ) → All Byte file → Takes New L file out scratch → (edition : Edition)
-    → fractureOutcome edition L (fileFilledIn file) out scratch ≡ fractureOutcome New L file out scratch
+    (L layer : ℕ) (file : List ℕ) (out scratch : List ℤ) → All Byte file → Takes New L layer file out scratch → (edition : Edition)
+    → fractureOutcome edition L layer (fileFilledIn file) out scratch ≡ fractureOutcome New L layer file out scratch

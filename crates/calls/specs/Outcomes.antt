@@ -10,8 +10,11 @@ use Rattle.geometry.specs.declared.Trapezoid.{Trapezoid}
 use Rattle.geometry.specs.declared.Checked.{Checked}
 use Rattle.geometry.specs.declared.Checked.the-variants.{Passed, Refused}
 use Rattle.geometry.specs.Points.{Point}
-use Rattle.geometry.specs.Trapezoids.{trapezoidCodec, layerOf, liesInLayer}
-use Rattle.boolean.specs.Operations.{codeAt, result, difference, deoverlapped}
+use Rattle.geometry.specs.Trapezoids.{layerOf, liesInLayer}
+use Rattle.sources.specs.Sets.{single}
+use Rattle.sources.specs.Sourced.{Sourced, sourcedCodec, sourcedOf, bearing}
+use Rattle.boolean.specs.Operations.{codeAt, result, difference}
+use Rattle.boolean.specs.Sources.{sourcedResult, sourcedDeoverlapped}
 use Rattle.boolean.specs.Space.{Stage, addition, Space, enough, no-room, space, stages, deoverlappedStages, equalityStages}
 use Rattle.fracture.specs.Fracture.{fractureAll}
 use Rattle.files.specs.declared.Edition.{Edition}
@@ -42,34 +45,35 @@ abbrev pub recordsOf : Answer → List ℤ → List ℤ
 recordsOf (refused number place) out = []
 recordsOf (done pieces overlays) out = take (memoryWidth * pieces) out
 
--- ---- operations that write trapezoids
+-- ---- operations that write trapezoids, with their sets
 -- "Pieces go to the output from its first free record on; the rest is zero, and so is the work area." "12 occurs if, and only if, after some cut or
 -- addition of the definition, the result so far plus the pieces in hand exceed the output; output and work area are then zero."
-abbrev pub written : ℕ → List Trapezoid → Space → Outcome Answer
-written n ts (enough overlays) = record { answer = done (length ts) overlays; out = image trapezoidCodec n ts; scratch = zeros n }
-written n ts (no-room overlays) = record { answer = refused 12 0; out = zeros n; scratch = zeros n }
+abbrev pub written : ℕ → List Sourced → Space → Outcome Answer
+written n rs (enough overlays) = record { answer = done (length rs) overlays; out = image sourcedCodec n rs; scratch = zeros n }
+written n rs (no-room overlays) = record { answer = refused 12 0; out = zeros n; scratch = zeros n }
 
--- "1 to 11 change nothing.", and neither does 13
-abbrev pub outcome : Checked → List ℤ → List ℤ → List Trapezoid → List Stage → Outcome Answer
-outcome (Refused number place) out scratch ts ms = record { answer = refused number place; out = out; scratch = scratch }
-outcome Passed out scratch ts ms = written (length out) ts (space (roomOf out) ms)
+-- "1 to 11 change nothing.", and neither do 13 and 14
+abbrev pub outcome : Checked → List ℤ → List ℤ → List Sourced → List Stage → Outcome Answer
+outcome (Refused number place) out scratch rs ms = record { answer = refused number place; out = out; scratch = scratch }
+outcome Passed out scratch rs ms = written (length out) rs (space (roomOf out) ms)
 
 -- fracturing the polygons of a polygon file of an edition: "Cutting reports 0 cuts."
 abbrev pub fracturedOf : Edition → ℕ → List ℕ → List Trapezoid
 fracturedOf edition L file = fractureAll L (polygonsOf edition (fileWords file))
 
-unfoldable pub fractureOutcome : Edition → ℕ → List ℕ → List ℤ → List ℤ → Outcome Answer
-fractureOutcome edition L file out scratch =
-    outcome (fractureChecked edition L file (length out) (length scratch)) out scratch (fracturedOf edition L file) (addition (length (fracturedOf edition L file)) ∷ [])
+-- paper 02 (vii): "Cutting takes a layer number and sets that bit."
+unfoldable pub fractureOutcome : Edition → ℕ → ℕ → List ℕ → List ℤ → List ℤ → Outcome Answer
+fractureOutcome edition L layer file out scratch =
+    outcome (fractureChecked edition L layer file (length out) (length scratch)) out scratch (bearing (single layer) (fracturedOf edition L file)) (addition (length (fracturedOf edition L file)) ∷ [])
 
 -- the five set operations, by the code's number. Paper 02 (vi): "Each layer given to a set operation, sameness, components or the extraction is refused at the first overlapping pair".
 unfoldable pub combined : ℕ → ℕ → List ℤ → List ℤ → List ℤ → List ℤ → Outcome Answer
 combined L code a b out scratch =
-    outcome (andThen (combineChecked L code a b (length out) (length scratch)) (bothDisjoint a b)) out scratch (result (codeAt code) (layerOf a) (layerOf b)) (stages (codeAt code) (layerOf a) (layerOf b))
+    outcome (andThen (combineChecked L code a b (length out) (length scratch)) (bothDisjoint a b)) out scratch (sourcedResult (codeAt code) (sourcedOf a) (sourcedOf b)) (stages (codeAt code) (layerOf a) (layerOf b))
 
 -- deoverlapping (paper 01: disjointing): "Disjointing and the point question still take overlaps."
 unfoldable pub deoverlapOutcome : ℕ → List ℤ → List ℤ → List ℤ → Outcome Answer
-deoverlapOutcome L a out scratch = outcome (deoverlapChecked L a (length out) (length scratch)) out scratch (deoverlapped (layerOf a)) (deoverlappedStages [] (layerOf a))
+deoverlapOutcome L a out scratch = outcome (deoverlapChecked L a (length out) (length scratch)) out scratch (sourcedDeoverlapped (sourcedOf a)) (deoverlappedStages [] (layerOf a))
 
 -- ---- equality (paper 01: sameness)
 -- "A−B, and B−A only if that was empty. Answers same, or differs with side 0 (A−B) or 1."

@@ -14,6 +14,7 @@ use Rattle.geometry.specs.Limit.{maxDenominator}
 use Rattle.geometry.specs.Points.{Point}
 use Rattle.geometry.specs.Trapezoids.{layerOf}
 use Rattle.geometry.specs.Fitness.{firstRefusal}
+use Rattle.sources.specs.Sets.{isSourceLayer}
 use Rattle.overlay.specs.Overlaps.{firstOverlap}
 use Rattle.boolean.specs.Operations.{isCode}
 use Rattle.files.specs.declared.Edition.{Edition}
@@ -34,8 +35,8 @@ abbrev pub andThen : Checked → Checked → Checked
 andThen Passed below = below
 andThen (Refused number place) below = Refused number place
 
--- row 1: "layer, output or work area for pieces not a multiple of 24 words or above 12,288; work area unlike output"
--- of an output and a scratch area of so many words
+-- row 1: "layer, output or work area for pieces not a multiple of 24 words or above 12,288; work area unlike output"; paper 02 (vii): "Lent lengths are
+-- then multiples of 25 words, at most 12,800." Of an output and a scratch area of so many words
 abbrev pub buffersSized : ℕ → ℕ → Bool
 buffersSized out scratch = sized out && (sized scratch && eqb scratch out)
 
@@ -58,9 +59,10 @@ bothChecked L a b = firstRefusal L 0 (layerOf a ++ layerOf b)
 abbrev pub bothDisjoint : List ℤ → List ℤ → Checked
 bothDisjoint a b = andThen (firstOverlap 0 (layerOf a)) (firstOverlap (length (layerOf a)) (layerOf b))
 
--- ---- rows 1 to 11 of each call, under a coordinate limit, with an output and a scratch area of so many words
-unfoldable pub fractureChecked : Edition → ℕ → List ℕ → ℕ → ℕ → Checked
-fractureChecked edition L file out scratch = row 1 (buffersSized out scratch) (polygonFileChecked edition L file)
+-- ---- rows 1 to 11 of each call, and 14, under a coordinate limit, with an output and a scratch area of so many words
+-- paper 02 (vii): "14, layer number not 0 to 31, place 0, checked after 2." A fracture has no row 2 or 3.
+unfoldable pub fractureChecked : Edition → ℕ → ℕ → List ℕ → ℕ → ℕ → Checked
+fractureChecked edition L layer file out scratch = row 1 (buffersSized out scratch) (row 14 (isSourceLayer layer) (polygonFileChecked edition L file))
 
 unfoldable pub combineChecked : ℕ → ℕ → List ℤ → List ℤ → ℕ → ℕ → Checked
 combineChecked L code a b out scratch = row 1 (sized (length a) && (sized (length b) && buffersSized out scratch)) (row 2 (isCode code) (bothChecked L a b))

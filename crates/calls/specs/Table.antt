@@ -108,14 +108,15 @@ pub record Table : Type 0 where
   -- "(f) (4,0,1) isn't in Q, (0,0,1) is." Asked of the union (code 0) of Q and the empty layer.
   pub f-outside : containsAnswer plateLimit (point 4 0 1) q [] 0 ≡ no
   pub f-inside : containsAnswer plateLimit (point 0 0 1) q [] 0 ≡ yes
+  -- (g) to (i) with the layer number 0
   -- "(g) Polygon (0,0),(4,4),(4,0),(0,4): 2 pieces."
-  pub g-counts : fractureOutcome New plateLimit (fileOf bowTie) (lent 2) (lent 2) .answer ≡ done 2 0
+  pub g-counts : fractureOutcome New plateLimit 0 (fileOf bowTie) (lent 2) (lent 2) .answer ≡ done 2 0
   -- "(h) (0,0),(2,0),(2,2),(0,2) run through twice: 1 piece."
-  pub h-counts : fractureOutcome New plateLimit (fileOf (square ++ square)) (lent 1) (lent 1) .answer ≡ done 1 0
+  pub h-counts : fractureOutcome New plateLimit 0 (fileOf (square ++ square)) (lent 1) (lent 1) .answer ≡ done 1 0
   -- "(i) (2048,2048),(2047,2048),(2048,2047): 1 piece; 2,049 gives 7." The place is polygon 0, and nothing changes.
-  pub i-counts : fractureOutcome New plateLimit (fileOf (cornerFrom 2048 2048)) (lent 1) (lent 1) .answer ≡ done 1 0
-  pub i-beyond-x : fractureOutcome New plateLimit (fileOf (cornerFrom 2049 2048)) (lent 1) (lent 1) ≡ observed (refused 7 0) (lent 1) (lent 1)
-  pub i-beyond-y : fractureOutcome New plateLimit (fileOf (cornerFrom 2048 2049)) (lent 1) (lent 1) ≡ observed (refused 7 0) (lent 1) (lent 1)
+  pub i-counts : fractureOutcome New plateLimit 0 (fileOf (cornerFrom 2048 2048)) (lent 1) (lent 1) .answer ≡ done 1 0
+  pub i-beyond-x : fractureOutcome New plateLimit 0 (fileOf (cornerFrom 2049 2048)) (lent 1) (lent 1) ≡ observed (refused 7 0) (lent 1) (lent 1)
+  pub i-beyond-y : fractureOutcome New plateLimit 0 (fileOf (cornerFrom 2048 2049)) (lent 1) (lent 1) ≡ observed (refused 7 0) (lent 1) (lent 1)
   -- "(j) Empty layers are the same, 0 cuts." Output and scratch area are then zero; they may have no words.
   pub j-same : equalOutcome plateLimit [] [] (lent 1) (lent 1) ≡ observed (same 0) (cleared 1) (cleared 1)
   pub j-no-words : equalOutcome plateLimit [] [] (lent 0) (lent 0) .answer ≡ same 0

@@ -1,7 +1,7 @@
 // Parts of the programs `cases` and `layer_cases`: the lines that they print, polygon files of staircases, and layers of squares.
 use libc::STDOUT_FILENO;
 ghost use mathlib.Core.Path.{_≡_};
-ghost use Prim.Native.Nat.{_≤_};
+ghost use Prim.Native.Nat.{_<_, _≤_};
 ghost use Rattle.case_parts.specs.Code.{withWord, withNumber};
 
 pub fn refused(number: u32, place: usize) {
@@ -29,6 +29,13 @@ pub fn done(trapezoids: usize, overlays: usize) {
 pub fn done_file(trapezoids: usize) {
     io::write_all(STDOUT_FILENO, b"done ");
     io::print_decimal(STDOUT_FILENO, trapezoids as u64);
+    io::write_all(STDOUT_FILENO, b"\n");
+}
+
+// A set of source layers, as a mask.
+pub fn show_sources(sources: i32) {
+    io::write_all(STDOUT_FILENO, b"sources ");
+    io::print_decimal(STDOUT_FILENO, records_code::pattern(sources));
     io::write_all(STDOUT_FILENO, b"\n");
 }
 
@@ -159,8 +166,8 @@ pub fn staircases(file: &mut [u8], n: usize)
     stairs(file, 2 * n + 1);
 }
 
-// Word number j of square number k. Its left lower corner is at 4 times column and row, of 32 columns, and its side is 2.
-fn square_word(k: usize, j: usize) -> i32 {
+// Word number j of square number k with this set. Its left lower corner is at 4 times column and row, of 32 columns, and its side is 2.
+fn square_word(k: usize, j: usize, sources: i32) -> i32 {
     let x = 4 * (k % 32);
     let y = 4 * (k / 32 % 32);
     match j {
@@ -185,20 +192,32 @@ fn square_word(k: usize, j: usize) -> i32 {
         2 | 7 | 10 | 15 => {
             return 1;
         }
+        24 => {
+            return sources;
+        }
         _ => {
             return 0;
         }
     }
 }
 
-// Squares from number 0 on, from a place on to the end.
-pub fn squares(words: &mut [i32], start: usize) {
+// Squares of so many words from number 0 on, from a place on to the end.
+fn fill_squares(words: &mut [i32], start: usize, width: usize, sources: i32)
+    requires { ⌜ 0 < width ⌝ }
+{
     let mut i = start;
     while i < words.len() {
-        words[i] = square_word(
-            (i - start) / records::MEMORY_WIDTH,
-            (i - start) % records::MEMORY_WIDTH,
-        );
+        words[i] = square_word((i - start) / width, (i - start) % width, sources);
         i += 1;
     }
+}
+
+// Squares in memory, all with this set.
+pub fn squares(words: &mut [i32], start: usize, sources: i32) {
+    fill_squares(words, start, records::MEMORY_WIDTH, sources);
+}
+
+// Squares in a layer file.
+pub fn file_squares(words: &mut [i32], start: usize) {
+    fill_squares(words, start, records::FILE_WIDTH, 0);
 }

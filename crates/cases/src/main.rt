@@ -1,5 +1,6 @@
-// The limits of paper 01 on files, through the public functions of `loxurfa_files`: 2, 3, 32, 33 vertices and 64, 65 polygons in a polygon
-// file, 512, 513 trapezoids in a layer file. Each case has its answer, which stands in the file `stdout`, and the reason.
+// The limits of papers 01 and 02 on files, through the public functions of `loxurfa_files`: 2, 3, 32, 33 vertices and 64, 65 polygons in a
+// polygon file, source layers 31 and 32, 512, 513 trapezoids in a layer file. Each case has its answer, which stands in the file `stdout`,
+// and the reason.
 use calls::Fractured;
 use files::LayersRead;
 use files::LayersWritten;
@@ -11,7 +12,7 @@ fn fracture(file: &[u8], bytes: usize) {
     let mut out = [7i32; records::MAX_WORDS];
     let mut scratch = [7i32; records::MAX_WORDS];
     if bytes <= file.len() {
-        let r = loxurfa_files::fracture(&file[..bytes], &mut out, &mut scratch);
+        let r = loxurfa_files::fracture(0, &file[..bytes], &mut out, &mut scratch);
         match r {
             Fractured::Refused { number, place } => case_parts::refused(number, place),
             Fractured::Done { pieces, overlays } => case_parts::done(pieces, overlays),
@@ -59,6 +60,32 @@ fn polygon_counts() {
     fracture(&file, 16900);
 }
 
+// The triangle of `vertices`, and the set of its trapezoid.
+fn source_layer(layer: u32) {
+    let mut file = [0u8; 36];
+    case_parts::put_number(&mut file, 0, 1);
+    case_parts::put_number(&mut file, 2, 3);
+    case_parts::stairs(&mut file, 3);
+    let mut out = [7i32; records::MEMORY_WIDTH];
+    let mut scratch = [7i32; records::MEMORY_WIDTH];
+    let r = loxurfa_files::fracture(layer, &file, &mut out, &mut scratch);
+    match r {
+        Fractured::Refused { number, place } => case_parts::refused(number, place),
+        Fractured::Done { pieces, overlays } => case_parts::done(pieces, overlays),
+    }
+    case_parts::show_sources(out[records::FILE_WIDTH]);
+}
+
+fn source_layers() {
+    io::write_all(STDOUT_FILENO, b"source layers\n");
+    // done 1, sources 1
+    source_layer(0);
+    // done 1, sources 2147483648
+    source_layer(31);
+    // refused 14 place 0, sources 7: as lent
+    source_layer(32);
+}
+
 // The bytes of words, as many as fit.
 fn bytes_of(words: &[i32], file: &mut [u8]) {
     let mut i = 0;
@@ -87,32 +114,37 @@ fn read_layers(file: &[u8], words: &mut [i32]) {
 
 fn layer_file_1() {
     io::write_all(STDOUT_FILENO, b"layer files\n");
-    let mut words = [0i32; 12291];
-    // one layer of 512 squares, from trapezoid 0 on
+    let mut words = [0i32; 12803];
+    // one layer of 512 squares, from trapezoid 0 on, all with the set of all source layers
     words[0] = 1;
     words[2] = 512;
-    case_parts::squares(&mut words, 3);
+    case_parts::squares(&mut words, 3, -1);
     let mut file = [9u8; 49164];
-    // done 512
+    // done 512: 24 words a square
     write_layers(&words, &mut file);
-    let mut back = [7i32; 12291];
+    let mut back = [7i32; 12803];
     // done 512
     read_layers(&file, &mut back);
-    // the same words
+    case_parts::squares(&mut words, 3, 0);
+    // the same words: with empty sets
     case_parts::show_same(&words, &back);
 }
 
 fn layer_file_2() {
-    let mut words = [0i32; 12315];
+    let mut words = [0i32; 12828];
     // one layer of 513 squares, from trapezoid 0 on
     words[0] = 1;
     words[2] = 513;
-    case_parts::squares(&mut words, 3);
+    case_parts::squares(&mut words, 3, -1);
     let mut file = [9u8; 49260];
     // refused 6 place 0
     write_layers(&words, &mut file);
-    bytes_of(&words, &mut file);
-    let mut back = [7i32; 12315];
+    let mut file_words = [0i32; 12315];
+    file_words[0] = 1;
+    file_words[2] = 513;
+    case_parts::file_squares(&mut file_words, 3);
+    bytes_of(&file_words, &mut file);
+    let mut back = [7i32; 12828];
     // refused 6 place 0
     read_layers(&file, &mut back);
 }
@@ -120,6 +152,7 @@ fn layer_file_2() {
 fn main() {
     vertices();
     polygon_counts();
+    source_layers();
     layer_file_1();
     layer_file_2();
 }

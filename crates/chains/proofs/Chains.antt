@@ -8,13 +8,16 @@ use lib.ListN.{length, drop, length-map}
 use Rattle.lists.specs.Lists.{All}
 use Rattle.geometry.specs.Points.{Point, IsPoint}
 use Rattle.geometry.specs.Trapezoids.{layerOf, LiesInLayer, liesInLayer}
+use Rattle.sources.specs.Sourced.{sourcedOf}
 use Rattle.boolean.specs.Statements.{IsYes, SamePoints}
+use Rattle.boolean.specs.Sources.{Traced}
 use Rattle.calls.specs.Statements.{FitAsInput}
-use Rattle.chains.specs.Chains.{Layer, layerAt, run, limits, Step, told, evaluate, Call, stepsOf, held, Contracts, entryAt, fed, evaluation, merged}
+use Rattle.chains.specs.Chains.{Layer, layerAt, run, limits, Step, told, evaluate, Call, stepsOf, held, Contracts, entryAt, fed, evaluation, originAt, origins, merged}
 use Rattle.chains.specs.Statements.{DisjointLayer, startingTrapezoids, Each, Agree, NeverDiffers, Promised, Joined, EveryChain}
 use Rattle.chains.proofs.Steps.{found-fit, found-disjoint}
 use Rattle.chains.proofs.Calls.{held-runs, calls-defined, held-kept}
 use Rattle.chains.proofs.Points.{run-points, evaluate-length}
+use Rattle.chains.proofs.Sets.{run-sets}
 use Rattle.chains.proofs.Lines.{LayerLines, run-lines}
 use Rattle.chains.proofs.Merged.{mergedSteps, merged-holds, first-layer, second-layer, first-entry, second-entry}
 use Rattle.chains.proofs.Contracts.{merged-contracts, merged-steps}
@@ -51,6 +54,7 @@ promised start calls h =
       entries = λ ys e. evaluate-length ys start (stepsOf calls) e ∙ ap length (sym are);
       disjoint = subst (λ (now : List Layer). All DisjointLayer (drop (length start) now)) (sym are) (found-disjoint start (stepsOf calls));
       lines = subst (All (LayerLines (startingTrapezoids start))) (sym are) (run-lines start (stepsOf calls));
+      sets = λ n. subst (λ (now : List Layer). All (Traced (originAt (origins start calls) n)) (sourcedOf (layerAt now n))) (sym are) (run-sets start (stepsOf calls) n);
       fit = subst (λ (now : List Layer). Each FitAsInput (limits start (stepsOf calls)) (drop (length start) now)) (sym are) (found-fit start (stepsOf calls));
       same = λ m n. same-exactly (layerAt (held start calls) m) (layerAt (held start calls) n);
       agreed = agreed start calls calls h h;

@@ -12,6 +12,7 @@ use Rattle.integer.specs.Compare.{orderOf}
 use Rattle.integer.specs.Fraction.{before, order}
 use Rattle.records.specs.Limits.{sized}
 use Rattle.records.specs.Records.{recordAt, recordsFrom, wordsOf}
+use Rattle.records.specs.Words.{signed}
 use Rattle.levels.specs.Levels.{insert, levels}
 use Rattle.geometry.specs.declared.Line.{Line}
 use Rattle.geometry.specs.declared.Trapezoid.{Trapezoid}
@@ -22,18 +23,21 @@ use Rattle.geometry.specs.Standing.{oneSign, horizontal}
 use Rattle.geometry.specs.Trapezoids.{trapezoidOf, trapezoidWords}
 use Rattle.geometry.specs.Fitness.{lineOnGrid, isLine, belowBetween, shapeVerdict, verdict, firstRefusal}
 use Rattle.geometry.specs.Ranges.{commonLeft, commonRight}
+use Rattle.sources.specs.Sets.{mask, joined}
+use Rattle.sources.specs.Sourced.{Sourced}
 use Rattle.sweep.specs.Segments.{spans}
 use Rattle.sweep.specs.Sweep.{columns, sweep}
 use Rattle.overlay.specs.Overlaps.{crossesInCommon, overlapRight, overlapFrom, overlaps, overlapPast}
 use Rattle.overlay.specs.Overlay.{sides, sideCrossings, overlayEvents, fills, tagAbove, stack, parts, subdivision, overlay, tagged}
 use Rattle.boolean.specs.Operations.{minus, minusAll, difference, common, intersection, codes}
+use Rattle.boolean.specs.Sources.{sourcedDifference, sourcedCommon, sourcedIntersection}
 use Rattle.boolean.specs.Space.{minusStages, minusAllStages, differenceStages, commonStages, intersectionStages, space}
 use Rattle.calls.specs.declared.Combined.{Combined}
 use Rattle.calls.specs.declared.Combined.the-variants.{Refused, Done}
 use Rattle.calls.specs.Rows.{plateLimit, combineChecked}
 use Rattle.calls.specs.Outcomes.{combined}
 use Rattle.calls.specs.Table.{line, baseAt, Q, R, layer, q, r, lent, cleared}
-use Rattle.chains.specs.Chains.{Layer, Step, outcomeOf, called, run, limits, Call, stepsOf, held, Contracts, Told, told, evaluate, merged}
+use Rattle.chains.specs.Chains.{Layer, Step, outcomeOf, called, run, limits, Call, stepsOf, held, Contracts, Told, told, evaluate, originsBy, merged}
 use Rattle.chains.specs.Memberships.{Membership, memberships, membershipAt}
 
 -- layers 0 and 1 are Q and R
@@ -128,7 +132,7 @@ unfolding _⊕_ _⊖_ _⊗_ ⊝_ orderOf before sized recordAt recordsFrom words
     onGrid dx dy offset det numer crosses ratio meet heights rightOf below trapezoidOf trapezoidWords
     order oneSign horizontal lineOnGrid isLine belowBetween shapeVerdict verdict firstRefusal keep spans columns sweep
     commonLeft commonRight crossesInCommon overlapRight overlapFrom overlaps overlapPast sides sideCrossings overlayEvents fills tagAbove stack parts subdivision overlay tagged
-    minus minusAll difference common intersection minusStages minusAllStages differenceStages commonStages intersectionStages space
+    minus minusAll difference common intersection signed mask joined sourcedDifference sourcedCommon sourcedIntersection minusStages minusAllStages differenceStages commonStages intersectionStages space
     combineChecked combined outcomeOf called run limits held Contracts told
 chains = (
   ((λ f g. refl, (λ f g. refl, (λ f g. refl, (λ f g. absurd (absent 3 g), tt)))), (λ f g. refl, (λ f g. refl, tt))),
@@ -160,6 +164,11 @@ numbered = refl
 evaluated : evaluate (true ∷ false ∷ []) tells ≡ true ∷ false ∷ true ∷ false ∷ true ∷ []
 unfolding evaluate
 evaluated = refl
+
+-- where the sets of the layers of both come from: Q−R and Q minus layer 3 have those of Q, and Q∩R those of both
+originated : (A B : List Sourced) → originsBy (A ∷ B ∷ []) tells ≡ A ∷ B ∷ A ∷ (A ++ B) ∷ A ∷ []
+unfolding originsBy
+originated A B = refl
 
 -- ---- the table of the point question
 abbrev lying : Bool → Bool → Membership

@@ -2,7 +2,9 @@ pub mod Success
 pub mod Steps
 pub mod Calls
 pub mod Possible
+mod Each
 pub mod Points
+pub mod Sets
 pub mod Lines
 pub mod Raised
 pub mod Merged

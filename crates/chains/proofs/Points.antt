@@ -1,8 +1,8 @@
 -- The evaluation tells of each layer of a chain whether a point lies in it.
 use mathlib.Core.Path.{_≡_, refl, sym, subst, _∙_, ap}
 use mathlib.Core.Bool.{Bool, true, false}
-use mathlib.Core.List.{List, [], _∷_, _++_}
-use Prim.Native.Nat.{ℕ, zero, suc, _+_}
+use mathlib.Core.List.{List, [], _∷_}
+use Prim.Native.Nat.{ℕ, _+_}
 use lib.Dec.{T}
 use lib.ListN.{length, length-append}
 use Rattle.records.specs.Records.{recordsFrom}
@@ -14,14 +14,16 @@ use Rattle.boolean.specs.Operations.{codeAt}
 use Rattle.boolean.specs.Statements.{IsYes}
 use Rattle.boolean.proofs.Results.{result-exact}
 use Rattle.chains.specs.Chains.{Layer, layerAt, Step, succeeds, added, resultOf, stepped, run, toldOf, told, entryAt, said, evaluate, fed}
+use Rattle.chains.specs.Statements.{Each}
+use Rattle.chains.proofs.Each.{each-at, each-added}
 use Rattle.chains.proofs.Success.{success-gives}
 
 -- ---- an entry for each layer, that tells whether the point lies in it
+abbrev TellsOf : Point → Bool → Layer → Type 0
+TellsOf P y A = IsYes y (LiesInLayer P (layerOf A))
+
 abbrev Tells : Point → List Bool → List Layer → Type 0
-Tells P [] [] = Unit {0}
-Tells P [] (A ∷ layers) = ⊥
-Tells P (y ∷ ys) [] = ⊥
-Tells P (y ∷ ys) (A ∷ layers) = IsYes y (LiesInLayer P (layerOf A)) × Tells P ys layers
+Tells P ys layers = Each (TellsOf P) ys layers
 
 tells-fed : (P : Point) (layers : List Layer) → Tells P (fed P layers) layers
 tells-fed P [] = tt
@@ -32,18 +34,7 @@ unfolding recordsFrom
 no-words = refl
 
 tells-at : (P : Point) (ys : List Bool) (layers : List Layer) → Tells P ys layers → (n : ℕ) → IsYes (entryAt ys n) (LiesInLayer P (layerOf (layerAt layers n)))
-tells-at P [] [] h n = ((λ k. absurd k), (λ k. absurd (subst (LiesInLayer P) no-words k)))
-tells-at P [] (A ∷ layers) h n = absurd h
-tells-at P (y ∷ ys) [] h n = absurd h
-tells-at P (y ∷ ys) (A ∷ layers) h zero = h .0
-tells-at P (y ∷ ys) (A ∷ layers) h (suc n) = tells-at P ys layers (h .1) n
-
-tells-more : (P : Point) (ys : List Bool) (layers : List Layer) (y : Bool) (A : Layer) → Tells P ys layers → IsYes y (LiesInLayer P (layerOf A))
-    → Tells P (ys ++ (y ∷ [])) (layers ++ (A ∷ []))
-tells-more P [] [] y A h k = (k, tt)
-tells-more P [] (B ∷ layers) y A h k = absurd h
-tells-more P (x ∷ ys) [] y A h k = absurd h
-tells-more P (x ∷ ys) (B ∷ layers) y A h k = (h .0, tells-more P ys layers y A (h .1) k)
+tells-at P = each-at (TellsOf P) false [] ((λ k. absurd k), (λ k. absurd (subst (LiesInLayer P) no-words k)))
 
 module _ (P : Point) (hP : IsPoint P) where
   -- a success's entry tells of its result
@@ -56,17 +47,12 @@ module _ (P : Point) (hP : IsPoint P) where
       (tells-at P ys layers h (s .first))
       (tells-at P ys layers h (s .second)))
 
-  tells-added : (b : Bool) (ys : List Bool) (layers : List Layer) (y : Bool) (A : Layer) → Tells P ys layers → (T b → IsYes y (LiesInLayer P (layerOf A)))
-      → Tells P (added b ys y) (added b layers A)
-  tells-added true ys layers y A h f = tells-more P ys layers y A h (f tt)
-  tells-added false ys layers y A h f = h
-
   tells-run : (ys : List Bool) (layers : List Layer) (steps : List Step) → Tells P ys layers → Tells P (evaluate ys (told layers steps)) (run layers steps)
   unfolding run told evaluate
   tells-run ys layers [] h = h
   tells-run ys layers (s ∷ steps) h =
       tells-run (added (succeeds layers s) ys (said ys (toldOf s (succeeds layers s)))) (stepped layers s) steps
-      (tells-added (succeeds layers s) ys layers _ (resultOf layers s) h (tells-result ys layers s h))
+      (each-added (TellsOf P) (succeeds layers s) ys layers _ (resultOf layers s) h (tells-result ys layers s h))
 
   pub run-points : (start : List Layer) (steps : List Step) (n : ℕ) → IsYes (entryAt (evaluate (fed P start) (told start steps)) n) (LiesInLayer P (layerOf (layerAt (run start steps) n)))
   run-points start steps n = tells-at P (evaluate (fed P start) (told start steps)) (run start steps) (tells-run (fed P start) start steps (tells-fed P start)) n

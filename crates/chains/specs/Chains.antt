@@ -9,7 +9,9 @@ use lib.ListN.{length, getD, drop}
 use lib.IntN.{ℤ}
 use Rattle.geometry.specs.Points.{Point}
 use Rattle.geometry.specs.Trapezoids.{layerOf, liesInLayer}
+use Rattle.sources.specs.Sourced.{Sourced, sourcedOf}
 use Rattle.boolean.specs.Operations.{codeAt, says}
+use Rattle.boolean.specs.Sources.{origin}
 use Rattle.files.specs.Outcomes.{Answer, isDone}
 use Rattle.calls.specs.declared.Combined.{Combined}
 use Rattle.calls.specs.declared.Equality.{Equality}
@@ -147,6 +149,20 @@ fed P start = map (λ (A : Layer). liesInLayer P (layerOf A)) start
 -- the evaluation of a chain, whatever it is fed
 abbrev pub evaluation : List Bool → List Layer → List Call → List Bool
 evaluation entries start calls = evaluate entries (told start (stepsOf calls))
+
+-- ---- paper 02 (vii), which layer was this: the starting trapezoids that the sets of each layer come from
+-- those of the layer with the number n; none if there is none
+abbrev pub originAt : List (List Sourced) → ℕ → List Sourced
+originAt origins n = getD origins n []
+
+-- a success adds those of its two layers, and of a difference those of the layer in hand alone
+unfoldable pub originsBy : List (List Sourced) → List Told → List (List Sourced)
+originsBy origins [] = origins
+originsBy origins (t ∷ ts) = originsBy (added (t .success) origins (origin (codeAt (t .code)) (originAt origins (t .first)) (originAt origins (t .second)))) ts
+
+-- of a chain: at first each starting layer's own
+abbrev pub origins : List Layer → List Call → List (List Sourced)
+origins start calls = originsBy (map sourcedOf start) (told start (stepsOf calls))
 
 -- ---- two chains from the same layers
 -- "each layer number in them past the starting layers raised by the count of the first's results"

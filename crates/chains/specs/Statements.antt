@@ -9,11 +9,13 @@ use Rattle.lists.specs.Lists.{All}
 use Rattle.geometry.specs.declared.Trapezoid.{Trapezoid}
 use Rattle.geometry.specs.Points.{Point, IsPoint}
 use Rattle.geometry.specs.Trapezoids.{layerOf, LiesInLayer, Disjoint}
+use Rattle.sources.specs.Sourced.{sourcedOf}
 use Rattle.boolean.specs.Statements.{IsYes, LinesFrom}
+use Rattle.boolean.specs.Sources.{Traced}
 use Rattle.files.specs.Outcomes.{refused}
 use Rattle.calls.specs.Answers.{combinedAnswer, equalityAnswer, refused-equality, isRefused, isSame}
 use Rattle.calls.specs.Statements.{FitAsInput, Compares}
-use Rattle.chains.specs.Chains.{Layer, layerAt, Step, stepped, run, limits, Call, stepsOf, KeptIfCalled, grown, held, results, Contracts, entryAt, fed, evaluation, raised, merged, Test, Tested}
+use Rattle.chains.specs.Chains.{Layer, layerAt, Step, stepped, run, limits, Call, stepsOf, KeptIfCalled, grown, held, results, Contracts, entryAt, fed, evaluation, originAt, origins, raised, merged, Test, Tested}
 
 -- of a layer's words: no rational point lies in two of its trapezoids
 abbrev pub DisjointLayer : Layer → Type 0
@@ -65,6 +67,9 @@ pub record Promised (start : List Layer) (calls : List Call) : Type 0 where
   pub disjoint : All DisjointLayer (results start calls)
   -- every line in a held layer is a line of a starting trapezoid, word for word
   pub lines : All (λ (A : Layer). LinesFrom (startingTrapezoids start) (layerOf A)) (held start calls)
+  -- what the sets in a held layer say: where a bit is in a trapezoid's set, it is in the set of a starting trapezoid of a layer that this one was made from, and all points of the
+  -- trapezoid lie in that one. The converse is false: a union drops the sets of B where A lies.
+  pub sets : (n : ℕ) → All (Traced (originAt (origins start calls) n)) (sourcedOf (layerAt (held start calls) n))
   -- no result is unfit as input, under the limit of the call that made it
   pub fit : Each FitAsInput (limits start (stepsOf calls)) (results start calls)
   -- the equality test between any two held layers

@@ -5,14 +5,13 @@ ghost use lib.ListN.{length};
 ghost use lib.IntN.{pos};
 ghost use Rattle.records.specs.Limits.{maxRecords};
 ghost use Rattle.records.specs.Records.{Blank};
-ghost use Rattle.geometry.specs.Trapezoids.{layerOf};
 ghost use Rattle.geometry.specs.Fitness.{FitLayer};
 ghost use Rattle.trapezoids_code.specs.Tails.{Borrowed};
 ghost use Rattle.boxes_code.specs.Code.{boxWidth};
 ghost use Rattle.remainder_code.specs.Code.{maxOverlays, OverlaysWithin, ScratchFor};
 ghost use Rattle.deoverlap_code.specs.Code.{DeoverlappedWritten};
 
-// Each trapezoid of a layer in turn, minus all that the result already holds, is added. `boxes` takes the boxes of the result.
+// Each trapezoid of a layer in turn, minus all that the result already holds, is added with its set. `boxes` takes the boxes of the result.
 fn deoverlap_with(
     layer: &[i32],
     boxes: &mut [i64],
@@ -23,7 +22,7 @@ fn deoverlap_with(
     requires { ⌜ FitLayer (now layer) × (boxWidth * room ≤ length (now boxes)) ⌝ }
     requires { ⌜ Borrowed (now out) room × (room ≤ maxRecords) ⌝ }
     requires { ⌜ ScratchFor (now out) (now scratch) ⌝ }
-    ensures { λ r. ⌜ DeoverlappedWritten (now (out .entry)) room (layerOf (now (layer .entry))) r (now (out .exit)) ⌝ }
+    ensures { λ r. ⌜ DeoverlappedWritten (now (out .entry)) room (now (layer .entry)) r (now (out .exit)) ⌝ }
     ensures { λ r. ⌜ OverlaysWithin maxOverlays r ⌝ }
     ensures { λ _. ⌜ Blank (pos 0) (now (scratch .exit)) ⌝ }
 {
@@ -34,7 +33,8 @@ fn deoverlap_with(
     while i < count {
         let a = trapezoids_code::placed_at(layer, i);
         let e = boxes_code::box_of(a);
-        let f = front_code::one_by_front(a, e, boxes, k, out, scratch, room);
+        let sources = sources_code::sources_at(layer, i);
+        let f = front_code::one_bearing_by_front(a, e, boxes, k, out, scratch, room, sources);
         match f {
             Folded::NoRoom(c) => {
                 records_code::clear(out);
@@ -63,7 +63,7 @@ pub fn deoverlap_into(layer: &[i32], out: &mut [i32], scratch: &mut [i32], room:
     requires { ⌜ FitLayer (now layer) ⌝ }
     requires { ⌜ Borrowed (now out) room × (room ≤ maxRecords) ⌝ }
     requires { ⌜ ScratchFor (now out) (now scratch) ⌝ }
-    ensures { λ r. ⌜ DeoverlappedWritten (now (out .entry)) room (layerOf (now (layer .entry))) r (now (out .exit)) ⌝ }
+    ensures { λ r. ⌜ DeoverlappedWritten (now (out .entry)) room (now (layer .entry)) r (now (out .exit)) ⌝ }
     ensures { λ r. ⌜ OverlaysWithin maxOverlays r ⌝ }
     ensures { λ _. ⌜ Blank (pos 0) (now (scratch .exit)) ⌝ }
 {

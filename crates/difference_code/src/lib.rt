@@ -12,7 +12,8 @@ ghost use Rattle.geometry.specs.Trapezoids.{trapezoidCodec, layerOf};
 ghost use Rattle.boxes.specs.Boxes.{Encloses};
 ghost use Rattle.trapezoids_code.specs.Tails.{Borrowed};
 ghost use Rattle.boxes_code.specs.Code.{BoxedAs, BoxedLayer};
-ghost use Rattle.remainder_code.specs.Code.{from, overlaysOfOne, overlaysOfLayer, OverlaysWithin, leading, Remaining, Holding, MinusWritten, MinusAllWritten, OneWritten, ScratchFor};
+ghost use Rattle.bearing_code.specs.Code.{Holding, OneBearing};
+ghost use Rattle.remainder_code.specs.Code.{from, overlaysOfOne, overlaysOfLayer, OverlaysWithin, leading, Remaining, MinusWritten, MinusAllWritten, OneWritten, ScratchFor};
 ghost use Rattle.difference_code.specs.Code.{DifferenceAdded};
 
 // The n trapezoids that `out` holds are the remainder, which e encloses: each replaced by its parts that are not in the trapezoid with
@@ -180,7 +181,29 @@ fn one_into(
     remainder_code::more_overlays(v.before, g)
 }
 
-// The trapezoids of the first layer, each minus the second layer, added past the `start` trapezoids that `out` holds.
+// The same of a trapezoid with this set of source layers, which what remains of it keeps.
+fn one_bearing(
+    a: Placed,
+    e: Box,
+    layer: &[i32],
+    boxes: &[i64],
+    out: &mut [i32],
+    scratch: &mut [i32],
+    room: usize,
+    sources: i32,
+) -> Folded
+    requires { ⌜ BoxedAs a e × BoxedLayer (now layer) (now boxes) × Borrowed (now out) room × (room ≤ maxRecords) ⌝ }
+    requires { ⌜ ScratchFor (now out) (now scratch) ⌝ }
+    ensures { λ r. ⌜ OneBearing (now (out .entry)) room sources (a .shape) (layerOf (now (layer .entry))) r (now (out .exit)) ⌝ }
+    ensures { λ r. ⌜ OverlaysWithin overlaysOfOne r ⌝ }
+    ensures { λ _. ⌜ Blank (pos 0) (now (scratch .exit)) ⌝ }
+{
+    let f = one_into(a, e, layer, boxes, out, scratch, room);
+    bearing_code::bear(f, sources, out);
+    f
+}
+
+// The trapezoids of the first layer, each minus the second layer, with its set, added past the `start` trapezoids that `out` holds.
 pub fn difference_into(
     start: usize,
     first: &[i32],
@@ -194,7 +217,7 @@ pub fn difference_into(
     requires { ⌜ BoxedLayer (now first) (now «first_boxes») × BoxedLayer (now second) (now «second_boxes») ⌝ }
     requires { ⌜ Holding (now out) start room × (room ≤ maxRecords) ⌝ }
     requires { ⌜ ScratchFor (now out) (now scratch) ⌝ }
-    ensures { λ r. ⌜ DifferenceAdded (now (out .entry)) room start (layerOf (now (first .entry))) (layerOf (now (second .entry))) r (now (out .exit)) ⌝ }
+    ensures { λ r. ⌜ DifferenceAdded (now (out .entry)) room start (now (first .entry)) (now (second .entry)) r (now (out .exit)) ⌝ }
     ensures { λ r. ⌜ OverlaysWithin overlaysOfLayer r ⌝ }
     ensures { λ _. ⌜ Blank (pos 0) (now (scratch .exit)) ⌝ }
 {
@@ -205,8 +228,9 @@ pub fn difference_into(
     while i < n {
         let a = trapezoids_code::placed_at(first, i);
         let e = boxes_code::load_box(first_boxes, i);
+        let sources = sources_code::sources_at(first, i);
         let free = records::MEMORY_WIDTH * k;
-        let f = one_into(
+        let f = one_bearing(
             a,
             e,
             second,
@@ -214,6 +238,7 @@ pub fn difference_into(
             &mut out[free..],
             &mut scratch[free..],
             room - k,
+            sources,
         );
         match f {
             Folded::NoRoom(overlays) => {

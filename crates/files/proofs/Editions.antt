@@ -309,7 +309,7 @@ filled-in-reads L bs bytes e edition =
     let p = polygon-file-passes New L bs e in
     let h = accepted-exact New L bs .0 e in
     let a = filled-alike ws (h .form) edition in
-    let back : fileWords (fileFilledIn bs) ≡ filledIn ws = records-words wordCodec words-faithful (filledIn ws) (filled-legal ws (h .form) (file-words-legal bs bytes)) in
+    let back : fileWords (fileFilledIn bs) ≡ filledIn ws = records-words wordCodec (words-faithful .readable) (filledIn ws) (filled-legal ws (h .form) (file-words-legal bs bytes)) in
     let shown : polygonsOf edition (fileWords (fileFilledIn bs)) ≡ polygonsOf New ws = ap (polygonsOf edition) back ∙ polygons-same a in
     let long : length (fileFilledIn bs) ≡ length bs = omega (arith, length-bytes (filledIn ws), a .long, length-file bs, whole bs (p .size)) in (
       polygons-right edition L (fileFilledIn bs) (ap fileSized long ∙ p .size) (ap (directoryOf (polygonFile edition)) back ∙ directory-same a ∙ p .found) (ap (firstOffGrid L 0) shown ∙ p .grid),

@@ -6,6 +6,7 @@ pub mod Right
 pub mod Layers
 pub mod Polygons
 pub mod Bounds
+pub mod Widths
 pub mod Calls
 pub mod WordSizes
 pub mod RoundTrip

@@ -9,7 +9,6 @@ use lib.Seq.{drop-drop}
 use lib.IntN.{pos}
 use Rattle.lists.specs.Lists.{All}
 use Rattle.lists.proofs.Lists.{all-take, all-drop}
-use Rattle.records.specs.Limits.{fileWidth}
 use Rattle.records.specs.Records.{Codec, recordAt, recordsFrom}
 use Rattle.records.specs.Words.{Byte, Word, unsigned, wordOf, wordCodec}
 use Rattle.records.proofs.Records.{length-from}
@@ -47,13 +46,6 @@ words-legal (suc n) bs i h =
 
 pub file-words-legal : (bs : List ℕ) → All Byte bs → All Word (fileWords bs)
 file-words-legal bs h = words-legal (length bs / 4) bs 0 h
-
--- ---- the trapezoids of a body, counted in bytes
-pub below-count : (bs : List ℕ) {i : ℕ} → i < length bs / 4 / fileWidth → i < length (fileWords bs) / fileWidth
-below-count bs h = rw (length-file bs) h
-
-pub above-count : (bs : List ℕ) {i : ℕ} → length bs / 4 / fileWidth ≤ i → length (fileWords bs) / fileWidth ≤ i
-above-count bs h = rw (length-file bs) h
 
 -- ---- records past the first k
 module _ {W A : Type 0} (C : Codec W A) where

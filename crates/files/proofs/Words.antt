@@ -5,7 +5,7 @@ use Prim.Native.Nat.{ℕ, zero, suc, _+_, _*_, _<_, _≤_}
 use native.Mathlib.Nat.{not-suc-le-zero, le-of-suc-le-suc}
 use native.Mathlib.Omega.{arith}
 use lib.Dec.{T}
-use lib.ListN.{length, drop, getD, length-append, length-map}
+use lib.ListN.{length, drop, getD, length-append, length-map, List·getD-map}
 use lib.Seq.{drop-drop, getD-drop}
 use lib.IntN.{ℤ, pos}
 use borrow.Author.Tests.{eq-eqb}
@@ -18,16 +18,17 @@ use Rattle.records.specs.Words.{wordCodec}
 use Rattle.records.proofs.Records.{words-from, records-words, length-words}
 use Rattle.geometry.specs.declared.Trapezoid.{Trapezoid}
 use Rattle.geometry.specs.declared.Checked.the-variants.{Passed}
-use Rattle.geometry.specs.Trapezoids.{trapezoidCodec, layerOf}
+use Rattle.geometry.specs.Trapezoids.{trapezoidCodec}
 use Rattle.geometry.specs.Fitness.{firstRefusal}
-use Rattle.geometry.proofs.Trapezoids.{trapezoid-faithful}
 use Rattle.geometry.proofs.Fitness.{layer-exact}
+use Rattle.sources.specs.Sourced.{Sourced, sourcedCodec, sourcedOf, shapes}
+use Rattle.sources.proofs.Sourced.{sourced-faithful, shapes-of, shapes-length}
 use Rattle.files.specs.declared.Number.the-variants.{Of}
 use Rattle.files.specs.declared.Directory.the-variants.{Right}
-use Rattle.files.specs.Formats.{wordAt, fileWords, layerFile, layerWords}
+use Rattle.files.specs.Formats.{wordAt, fileWords, layerWords}
 use Rattle.files.specs.Pairs.{naturalOf, amountOf, countIn, bodyOf, offsetAt, lengthRead, lengthAt}
 use Rattle.files.specs.Directory.{countOf, pairLength, endOf, pairsFrom, directoryOf, HasPairs}
-use Rattle.files.specs.Contents.{lengthsFrom, unitsOf, listsFrom, fileCodec, pairsOf, layerFileWords, layerWordsAt}
+use Rattle.files.specs.Contents.{lengthsFrom, unitsOf, listsFrom, sourcedLayersOf, pairsOf, memoryWords, writtenWords, layerFileWords, layerWordsAt}
 use Rattle.files.specs.Rows.{layerWordsChecked}
 use Rattle.files.specs.Outcomes.{FileOutcome, isDone, writeLayers}
 use Rattle.files.specs.Statements.{LayersBack, Writable, WriterAccepts, LayerAt, ReadPairs}
@@ -37,7 +38,8 @@ use Rattle.files.proofs.Walk.{count-read, directory-some}
 use Rattle.files.proofs.Right.{right, count-in}
 use Rattle.files.proofs.Layers.{layers-right}
 use Rattle.files.proofs.Bounds.{passes, units-bound}
-use Rattle.files.proofs.Calls.{file-passes, length-bytes}
+use Rattle.files.proofs.Widths.{memory-directory, written-length, layer-shapes}
+use Rattle.files.proofs.Calls.{file-pairs, length-bytes}
 use Rattle.files.proofs.RoundTrip.{write-is, write-passed, read-passed, read-words}
 use Rattle.files.proofs.Pairs.{lists-by-offset, pairs-fit}
 
@@ -46,9 +48,9 @@ unfolding pairsOf
 length-pairs before [] = refl
 length-pairs before (n ∷ ns) = omega (arith, length-pairs (before + n) ns)
 
--- every trapezoid goes to words and back
-trapezoids-back : (ts : List Trapezoid) → layerOf (wordsOf trapezoidCodec ts) ≡ ts
-trapezoids-back ts = records-words trapezoidCodec trapezoid-faithful ts (all-of (λ (t : Trapezoid). Unit {0}) (λ t. tt) ts)
+-- every trapezoid with its set goes to words and back
+sourced-back : (rs : List Sourced) → sourcedOf (wordsOf sourcedCodec rs) ≡ rs
+sourced-back rs = records-words sourcedCodec (sourced-faithful .readable) rs (all-of (λ (r : Sourced). Unit {0}) (λ r. tt) rs)
 
 -- ---- words that from pair number i on are the pairs of lists of these lengths, with so many units before them, and then the rest
 record Listed (ws rest : List ℤ) (i before : ℕ) (ns : List ℕ) : Type 0 where
@@ -83,7 +85,7 @@ rest-is {ws} {rest} {i} [] h = let e : i + 0 ≡ i = omega arith in rw e (h .is)
 rest-is {ws} {rest} {i} (n ∷ ns) h = let e : i + suc (length ns) ≡ i + 1 + length ns = omega arith in ap (λ (k : ℕ). drop (2 * k + 1) ws) e ∙ rest-is ns (others h)
 
 -- row 6 lets them pass
-walk-is : {ws rest : List ℤ} {i before : ℕ} (layers : List (List Trapezoid)) → Listed ws rest i before (map length layers) → before + length (joined layers) ≤ maxRecords
+walk-is : {ws rest : List ℤ} {i before : ℕ} (layers : List (List Sourced)) → Listed ws rest i before (map length layers) → before + length (joined layers) ≤ maxRecords
     → 2 * (i + length layers) + 1 + memoryWidth * (before + length (joined layers)) ≡ length ws
     → pairsFrom layerWords ws (length layers) i before ≡ Right (i + length layers) (before + length (joined layers))
 unfolding pairsFrom endOf
@@ -102,12 +104,12 @@ walk-is {ws} {rest} {i} {before} (layer ∷ layers) h t e =
     rw p (walk-is layers (others h) (omega arith) (rw (u, v) e) ∙ rw (u, v))
 
 -- ---- what the words of layers hold
-module _ (layers : List (List Trapezoid)) where
+module _ (layers : List (List Sourced)) where
   first-is : wordAt (layerFileWords layers) 0 ≡ pos (length layers)
   unfolding layerFileWords
   first-is = refl
 
-  listed : Listed (layerFileWords layers) (wordsOf trapezoidCodec (joined layers)) 0 0 (map length layers)
+  listed : Listed (layerFileWords layers) (wordsOf sourcedCodec (joined layers)) 0 0 (map length layers)
   unfolding layerFileWords
   listed = record { is = refl }
 
@@ -117,31 +119,37 @@ module _ (layers : List (List Trapezoid)) where
   as-many : length (map length layers) ≡ length layers
   as-many = length-map layers length
 
-  units-is : unitsOf trapezoidCodec (layerFileWords layers) ≡ joined layers
+  units-is : unitsOf sourcedCodec (layerFileWords layers) ≡ joined layers
   units-is =
       let e : countIn (layerFileWords layers) ≡ 0 + length (map length layers) = omega (arith, count-is, as-many) in
-      ap layerOf (ap (λ (k : ℕ). drop (2 * k + 1) (layerFileWords layers)) e ∙ rest-is (map length layers) listed) ∙ trapezoids-back (joined layers)
+      ap sourcedOf (ap (λ (k : ℕ). drop (2 * k + 1) (layerFileWords layers)) e ∙ rest-is (map length layers) listed) ∙ sourced-back (joined layers)
+
+  shapes-is : unitsOf trapezoidCodec (layerFileWords layers) ≡ shapes (joined layers)
+  shapes-is = sym (shapes-of (bodyOf (layerFileWords layers))) ∙ ap shapes units-is
 
   words-long : length (layerFileWords layers) ≡ 1 + 2 * length layers + memoryWidth * length (joined layers)
   unfolding layerFileWords
   words-long =
       omega (
         arith,
-        length-append (pairsOf 0 (map length layers)) (wordsOf trapezoidCodec (joined layers)),
+        length-append (pairsOf 0 (map length layers)) (wordsOf sourcedCodec (joined layers)),
         length-pairs 0 (map length layers),
         as-many,
-        length-words trapezoidCodec trapezoid-faithful (joined layers),
+        length-words sourcedCodec (sourced-faithful .readable) (joined layers),
       )
 
-pub layers-back : LayersBack
-layers-back layers =
+sourced-layers-back : (layers : List (List Sourced)) → sourcedLayersOf (layerFileWords layers) ≡ layers
+sourced-layers-back layers =
     (λ j. cut (lengthsFrom layerWords (layerFileWords layers) (count-is layers j) 0) (units-is layers j))
     ∙ ap (λ (k : ℕ). cut (lengthsFrom layerWords (layerFileWords layers) k 0) (joined layers)) (sym (as-many layers))
     ∙ ap (λ (ns : List ℕ). cut ns (joined layers)) (lengths-are (map length layers) (listed layers))
     ∙ cut-joined layers
 
+pub layers-back : LayersBack
+layers-back layers = let e = sourced-layers-back layers in (e, sym (layer-shapes (layerFileWords layers)) ∙ ap (map shapes) e)
+
 -- ---- when a writer takes them
-module _ (L : ℕ) (layers : List (List Trapezoid)) where
+module _ (L : ℕ) (layers : List (List Sourced)) where
   taken-only : (out : List ℕ) → T (isDone (writeLayers L (layerFileWords layers) out .answer)) → Writable L layers out
   taken-only out d =
       let p = write-passed L (layerFileWords layers) out d in
@@ -149,9 +157,9 @@ module _ (L : ℕ) (layers : List (List Trapezoid)) where
       let r = right layerWords (layerFileWords layers) (h .found) in
       record {
         few = omega (arith, r .most, count-in r, count-is layers);
-        small = omega (arith, units-bound L layerWords trapezoidCodec (layerFileWords layers) refl (omega arith) (p .0), ap length (units-is layers));
-        fit = layer-exact L 0 (joined layers) .0 (rw (units-is layers) at (h .fit));
-        room = omega (arith, p .1, length-bytes (layerFileWords layers), words-long layers);
+        small = omega (arith, units-bound L layerWords trapezoidCodec (layerFileWords layers) refl (omega arith) (p .0), ap length (shapes-is layers), shapes-length (joined layers));
+        fit = layer-exact L 0 (shapes (joined layers)) .0 (rw (shapes-is layers) at (h .fit));
+        room = omega (arith, p .1, length-bytes (writtenWords (layerFileWords layers)), written-length (layerFileWords layers) (h .found), r .end, count-in r, count-is layers, words-long layers);
       }
 
   module _ (few : length layers ≤ layerWords .count) (small : length (joined layers) ≤ layerWords .total) where
@@ -173,35 +181,44 @@ module _ (L : ℕ) (layers : List (List Trapezoid)) where
       layers-right L layerWords trapezoidCodec (layerFileWords layers) (directory-passes (h .few) (h .small))
       {body = bodyOf (layerFileWords layers)} (ap (λ (k : ℕ). drop (2 * k + 1) (layerFileWords layers)) (count-is layers))
       )
-      ∙ ap (firstRefusal L 0) (units-is layers) ∙ layer-exact L 0 (joined layers) .1 (h .fit) in
-      let l : length (wordsOf wordCodec (layerFileWords layers)) ≤ length out = omega (arith, h .room, length-bytes (layerFileWords layers), words-long layers) in
+      ∙ ap (firstRefusal L 0) (shapes-is layers) ∙ layer-exact L 0 (shapes (joined layers)) .1 (h .fit) in
+      let l : length (wordsOf wordCodec (writtenWords (layerFileWords layers))) ≤ length out
+      = omega (arith, h .room, length-bytes (writtenWords (layerFileWords layers)), written-length (layerFileWords layers) (directory-passes (h .few) (h .small))) in
       subst (λ (o : FileOutcome ℕ). T (isDone (o .answer))) (write-is L (layerFileWords layers) out e l) tt
 
 pub writer-accepts : WriterAccepts
 writer-accepts L layers out = (taken-only L layers out, taken L layers out)
 
 -- ---- one layer of a layer file's words
-abbrev layerBy : List ℤ → ℕ → List Trapezoid
-layerBy ws i = recordsFrom trapezoidCodec (lengthAt layerWords ws i) (bodyOf ws) (offsetAt ws i)
+abbrev layerBy : List ℤ → ℕ → List Sourced
+layerBy ws i = recordsFrom sourcedCodec (lengthAt layerWords ws i) (bodyOf ws) (offsetAt ws i)
 
-at-lists : (ws : List ℤ) (n i j : ℕ) → j < n → getD (listsFrom layerWords trapezoidCodec ws n i) j [] ≡ layerBy ws (i + j)
+at-lists : (ws : List ℤ) (n i j : ℕ) → j < n → getD (listsFrom layerWords sourcedCodec ws n i) j [] ≡ layerBy ws (i + j)
 unfolding listsFrom
 at-lists ws zero i j h = absurd (not-suc-le-zero h)
 at-lists ws (suc n) i zero h = let e : i ≡ i + 0 = omega arith in ap (layerBy ws) e
 at-lists ws (suc n) i (suc j) h = let e : i + 1 + j ≡ i + suc j = omega arith in at-lists ws n (i + 1) j (le-of-suc-le-suc h) ∙ ap (layerBy ws) e
 
-pub layer-at : LayerAt
+sourced-layer-at : (ws : List ℤ) (n i : ℕ) → HasPairs layerWords ws n → i < n → sourcedOf (layerWordsAt ws i) ≡ getD (sourcedLayersOf ws) i []
 unfolding layerWordsAt
-layer-at ws n i h l =
+sourced-layer-at ws n i h l =
     let p = pairs-fit layerWords ws n h i l in
-    let w = words-from trapezoidCodec trapezoid-faithful (lengthAt layerWords ws i) (bodyOf ws) (offsetAt ws i) (p .inside) (all-of (λ (z : ℤ). Unit {0}) (λ z. tt) (bodyOf ws)) in
+    let w = words-from sourcedCodec sourced-faithful (lengthAt layerWords ws i) (bodyOf ws) (offsetAt ws i) (p .inside) (all-of (λ (z : ℤ). Unit {0}) (λ z. tt) (bodyOf ws)) in
     let z : i ≡ 0 + i = omega arith in
-    ap layerOf (sym w) ∙ trapezoids-back (layerBy ws i) ∙ ap (layerBy ws) z ∙ sym (at-lists ws n 0 i l)
-    ∙ sym (ap (λ (ls : List (List Trapezoid)). getD ls i []) (lists-by-offset Trapezoid layerWords trapezoidCodec ws n refl (omega arith) h))
+    ap sourcedOf (sym w) ∙ sourced-back (layerBy ws i) ∙ ap (layerBy ws) z ∙ sym (at-lists ws n 0 i l)
+    ∙ sym (ap (λ (ls : List (List Sourced)). getD ls i []) (lists-by-offset Sourced layerWords sourcedCodec ws n refl (omega arith) h))
+
+pub layer-at : LayerAt
+layer-at ws n i h l =
+    let e = sourced-layer-at ws n i h l in (
+      e,
+      sym (shapes-of (layerWordsAt ws i)) ∙ ap shapes e ∙ sym (List·getD-map shapes (sourcedLayersOf ws) i []) ∙ ap (λ (ls : List (List Trapezoid)). getD ls i []) (layer-shapes ws),
+    )
 
 pub read-pairs : ReadPairs
 read-pairs L bs out d =
     let p = read-passed L bs out d in
-    let h = passes L layerFile fileCodec (fileWords bs) (file-passes L bs (p .0) .1) in
+    let h = file-pairs L bs (p .0) in
+    let e = memory-directory (fileWords bs) (h .is) in
     subst (λ (ws : List ℤ). HasPairs layerWords ws (countIn ws)) (sym (read-words L bs out (p .0) (p .1)))
-    (subst (HasPairs layerWords (fileWords bs)) (sym (count-in (right layerFile (fileWords bs) (h .found)))) (record { total = h .total; is = h .found }))
+    (subst (HasPairs layerWords (memoryWords (fileWords bs))) (sym (count-in (right layerWords (memoryWords (fileWords bs)) e))) (record { total = h .total; is = e }))

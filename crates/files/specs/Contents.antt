@@ -9,6 +9,8 @@ use Rattle.records.specs.Records.{Codec, recordsFrom, records, wordsOf}
 use Rattle.geometry.specs.declared.Trapezoid.{Trapezoid}
 use Rattle.geometry.specs.Trapezoids.{trapezoidWords, trapezoidOf, trapezoidCodec}
 use Rattle.geometry.specs.declared.Vertex.{Vertex}
+use Rattle.sources.specs.Sets.{empty}
+use Rattle.sources.specs.Sourced.{Sourced, sourcedCodec, bearing}
 use Rattle.files.specs.declared.Format.{Format}
 use Rattle.files.specs.declared.Edition.{Edition}
 use Rattle.files.specs.Formats.{polygonFile, layerFile, layerWords}
@@ -51,7 +53,7 @@ vertexWords v = v .x ∷ v .y ∷ []
 abbrev pub vertexCodec : Codec ℤ Vertex
 vertexCodec = record { width = 2; blank = pos 0; encode = vertexWords; decode = vertexOf }
 
--- a trapezoid in a file; in memory it is geometry's `trapezoidCodec`
+-- a trapezoid in a file; in memory it is geometry's `trapezoidCodec`, and with its set `sourcedCodec` of crates/sources
 abbrev pub fileCodec : Codec ℤ Trapezoid
 fileCodec = record { width = fileWidth; blank = pos 0; encode = trapezoidWords; decode = trapezoidOf }
 
@@ -65,6 +67,23 @@ fileLayersOf ws = listsOf layerFile fileCodec ws
 abbrev pub layersOf : List ℤ → List (List Trapezoid)
 layersOf ws = listsOf layerWords trapezoidCodec ws
 
+-- these with their sets
+abbrev pub sourcedLayersOf : List ℤ → List (List Sourced)
+sourcedLayersOf ws = listsOf layerWords sourcedCodec ws
+
+-- ---- from a file's words to those in memory and back
+-- the count and the pairs
+abbrev pub headOf : List ℤ → List ℤ
+headOf ws = take (2 * countIn ws + 1) ws
+
+-- of a file's words: "a read piece has an empty set"
+unfoldable pub memoryWords : List ℤ → List ℤ
+memoryWords ws = headOf ws ++ wordsOf sourcedCodec (bearing empty (unitsOf fileCodec ws))
+
+-- of words in memory: "and a writer drops the set"
+unfoldable pub writtenWords : List ℤ → List ℤ
+writtenWords ws = headOf ws ++ wordsOf fileCodec (unitsOf trapezoidCodec ws)
+
 -- ---- the words of a list of layers
 -- the pairs of lists of these lengths, with so many units before them: "each next offset is the previous offset plus length"
 unfoldable pub pairsOf : ℕ → List ℕ → List ℤ
@@ -72,8 +91,8 @@ pairsOf before [] = []
 pairsOf before (n ∷ ns) = pos before ∷ pos n ∷ pairsOf (before + n) ns
 
 -- "the book's words (count, pairs, pieces)"
-unfoldable pub layerFileWords : List (List Trapezoid) → List ℤ
-layerFileWords layers = pos (length layers) ∷ (pairsOf 0 (map length layers) ++ wordsOf trapezoidCodec (joined layers))
+unfoldable pub layerFileWords : List (List Sourced) → List ℤ
+layerFileWords layers = pos (length layers) ∷ (pairsOf 0 (map length layers) ++ wordsOf sourcedCodec (joined layers))
 
 -- the words of layer number i of a layer file's words, as a caller passes them on
 unfoldable pub layerWordsAt : List ℤ → ℕ → List ℤ

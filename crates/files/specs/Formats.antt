@@ -34,13 +34,17 @@ leavesOut New = true
 abbrev pub polygonFile : Edition → Format
 polygonFile edition = record { unit = 2; count = 64; least = 3; most = 32; total = 2048; found = leavesOut edition }
 
--- "A book has 0 to 16 layers of 0 to 512 pieces, at most 512 in all." Its unit is a trapezoid, and length 0 is an empty layer's.
-abbrev pub layerFile : Format
-layerFile = record { unit = fileWidth; count = 16; least = 0; most = maxRecords; total = maxRecords; found = false }
+-- "A book has 0 to 16 layers of 0 to 512 pieces, at most 512 in all." Its unit is a trapezoid of so many words, and length 0 is an empty layer's.
+abbrev pub layersIn : ℕ → Format
+layersIn width = record { unit = width; count = 16; least = 0; most = maxRecords; total = maxRecords; found = false }
 
--- the same in memory: "A book reader writes the book's words (count, pairs, pieces) and a writer takes them"
+-- "Book files and the lister keep 24 words."
+abbrev pub layerFile : Format
+layerFile = layersIn fileWidth
+
+-- "In the words that a book reader writes and a writer takes, each piece has 25"
 abbrev pub layerWords : Format
-layerWords = record { unit = memoryWidth; count = 16; least = 0; most = maxRecords; total = maxRecords; found = false }
+layerWords = layersIn memoryWidth
 
 -- a format whose numbers are small enough for the functions
 pub record Modest (f : Format) : Type 0 where

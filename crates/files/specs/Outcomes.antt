@@ -17,7 +17,7 @@ use Rattle.files.specs.declared.LayersRead.the-variants as read
 use Rattle.files.specs.declared.LayersWritten.{LayersWritten}
 use Rattle.files.specs.declared.LayersWritten.the-variants as written
 use Rattle.files.specs.Formats.{fileWords}
-use Rattle.files.specs.Contents.{unitsOf, fileCodec}
+use Rattle.files.specs.Contents.{unitsOf, fileCodec, memoryWords, writtenWords}
 use Rattle.files.specs.Rows.{layerFileChecked, layerWordsChecked}
 
 -- "A refusal answers its number and place, a success its pieces and cuts." Other calls answer so too; neither reading nor writing makes an overlay (paper 01: cut).
@@ -64,7 +64,7 @@ fileOutcome Passed z pieces content out = placed (leb (length content) (length o
 
 -- "A book reader writes the book's words (count, pairs, pieces) and a writer takes them"; under a coordinate limit
 unfoldable pub readLayers : ℕ → List ℕ → List ℤ → FileOutcome ℤ
-readLayers L bytes out = fileOutcome (layerFileChecked L bytes) (pos 0) (length (unitsOf fileCodec (fileWords bytes))) (fileWords bytes) out
+readLayers L bytes out = fileOutcome (layerFileChecked L bytes) (pos 0) (length (unitsOf fileCodec (fileWords bytes))) (memoryWords (fileWords bytes)) out
 
 unfoldable pub writeLayers : ℕ → List ℤ → List ℕ → FileOutcome ℕ
-writeLayers L ws out = fileOutcome (layerWordsChecked L ws) 0 (length (unitsOf trapezoidCodec ws)) (wordsOf wordCodec ws) out
+writeLayers L ws out = fileOutcome (layerWordsChecked L ws) 0 (length (unitsOf trapezoidCodec ws)) (wordsOf wordCodec (writtenWords ws)) out

@@ -1,3 +1,3 @@
-pub mod Answering
 pub mod Loading
 pub mod Passing
+pub mod Bodies

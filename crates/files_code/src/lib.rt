@@ -1,4 +1,4 @@
-// Rows 4 to 11 of polygon files and layer files, the polygons of a polygon file, and the words and bytes of a layer file.
+// Rows 4 to 11 of polygon files and layer files, and the polygons of a polygon file.
 use files::Directory;
 use files::Edition;
 use files::Extent;
@@ -9,21 +9,19 @@ use geometry::Trapezoid;
 use geometry::Verdict;
 use geometry::Vertex;
 ghost use mathlib.Core.Path.{_≡_};
-ghost use mathlib.Core.List.{_++_};
 ghost use Prim.Native.Nat.{_+_, _*_, _-_, _≤_, _<_, _/_};
-ghost use lib.ListN.{length, drop, take};
+ghost use lib.ListN.{length, take};
 ghost use Rattle.lists.specs.Tests.{all};
 ghost use Rattle.records.specs.Limits.{fileWidth};
-ghost use Rattle.records.specs.Records.{recordAt, recordsFrom, records, wordsOf};
-ghost use Rattle.records.specs.Words.{wordCodec};
+ghost use Rattle.records.specs.Records.{recordAt, recordsFrom, records};
 ghost use Rattle.geometry.specs.Limit.{coordinateLimit};
-ghost use Rattle.geometry.specs.Trapezoids.{lineAt, trapezoidCodec};
+ghost use Rattle.geometry.specs.Trapezoids.{lineAt};
 ghost use Rattle.geometry.specs.Fitness.{firstRefusal};
 ghost use Rattle.geometry.specs.Polygons.{vertexOnGrid};
 ghost use Rattle.files.specs.Formats.{fileWords, polygonFile, layerFile};
 ghost use Rattle.files.specs.Directory.{directoryOf, HasPairs};
 ghost use Rattle.files.specs.Pairs.{countIn, bodyOf, offsetAt, lengthAt};
-ghost use Rattle.files.specs.Contents.{PairAt, unitsOf, vertexCodec, fileCodec, polygonsOf};
+ghost use Rattle.files.specs.Contents.{PairAt, vertexCodec, fileCodec, polygonsOf};
 ghost use Rattle.files.specs.Rows.{directoryRows, firstOffGrid, polygonFileChecked, layersChecked, layerFileChecked, layerWordsChecked};
 ghost use Rattle.geometry_code.specs.Polygons.{polygonOf};
 ghost use Rattle.directory_code.specs.Code.{Paired};
@@ -43,7 +41,7 @@ fn load_file_line(file: &[u8], at: usize) -> Line
 }
 
 // Trapezoid number i of a layer file's body.
-fn load_file_trapezoid(body: &[u8], i: usize) -> Trapezoid
+pub fn load_file_trapezoid(body: &[u8], i: usize) -> Trapezoid
     requires { ⌜ fileWidth * i + fileWidth ≤ length (now body) / 4 ⌝ }
     ensures { λ r. ⌜ r ≡ recordAt fileCodec (fileWords (now (body .entry))) i ⌝ }
 {
@@ -253,51 +251,4 @@ pub fn load_polygon(file: &[u8], count: usize, offset: usize, n: usize, words: &
         words[2 * k + 1] = y;
         k += 1;
     }
-}
-
-// The words of a file to the front of an output.
-pub fn decode(file: &[u8], out: &mut [i32])
-    requires { ⌜ length (now file) / 4 ≤ length (now out) ⌝ }
-    ensures { λ _. ⌜ now (out .exit) ≡ fileWords (now (file .entry)) ++ drop (length (now (file .entry)) / 4) (now (out .entry)) ⌝ }
-{
-    let n = file.len() / 4;
-    let mut i = 0;
-    while i < n {
-        let w = directory_code::load_file_word(file, i);
-        out[i] = w;
-        i += 1;
-    }
-}
-
-// The bytes of words to the front of an output.
-pub fn encode(words: &[i32], out: &mut [u8])
-    requires { ⌜ 4 * length (now words) ≤ length (now out) ⌝ }
-    ensures { λ _. ⌜ now (out .exit) ≡ wordsOf wordCodec (now (words .entry)) ++ drop (4 * length (now (words .entry))) (now (out .entry)) ⌝ }
-{
-    let mut i = 0;
-    while i < words.len() {
-        let w = words[i];
-        records_code::store_word(out, i, w);
-        i += 1;
-    }
-}
-
-// The trapezoids of a layer file.
-pub fn file_trapezoids(file: &[u8]) -> usize
-    requires { ⌜ (countIn (fileWords (now file)) ≤ 64) × (2 * countIn (fileWords (now file)) + 1 ≤ length (now file) / 4) ⌝ }
-    ensures { λ r. ⌜ r ≡ length (unitsOf fileCodec (fileWords (now (file .entry)))) ⌝ }
-{
-    let n = directory_code::amount_of(directory_code::word_at(file, 0));
-    let start = 2 * n + 1;
-    (file.len() / 4 - start) / records::FILE_WIDTH
-}
-
-// The same of a layer file's words.
-pub fn words_trapezoids(words: &[i32]) -> usize
-    requires { ⌜ (countIn (now words) ≤ 64) × (2 * countIn (now words) + 1 ≤ length (now words)) ⌝ }
-    ensures { λ r. ⌜ r ≡ length (unitsOf trapezoidCodec (now (words .entry))) ⌝ }
-{
-    let n = directory_code::amount_of(integer_code::get(words, 0));
-    let start = 2 * n + 1;
-    (words.len() - start) / records::MEMORY_WIDTH
 }

@@ -2,15 +2,21 @@
 use mathlib.Core.List.{List}
 use Prim.Native.Nat.{ℕ, _*_, _-_, _≤_}
 use lib.ListN.{length}
-use lib.IntN.{ℤ}
+use lib.IntN.{ℤ, pos}
 use Rattle.records.specs.Limits.{memoryWidth}
-use Rattle.records.specs.Records.{recordAt}
+use Rattle.records.specs.Records.{recordAt, Blank}
 use Rattle.geometry.specs.Trapezoids.{trapezoidCodec}
 use Rattle.boolean.specs.declared.Folded.{Folded}
 use Rattle.boxes.specs.declared.Box.{Box}
 use Rattle.boxes.specs.Boxes.{Encloses}
 use Rattle.boxes_code.specs.Code.{BoxedLayer}
 use Rattle.remainder_code.specs.Code.{front, rest, from, leading, Remaining, MinusWritten, MinusAllWritten}
+
+-- a buffer that takes `room` trapezoids is blank past its first k
+pub record BlankPast (d : List ℤ) (k room : ℕ) : Type 0 where
+  pub blank : Blank (pos 0) (rest d k)
+  pub within : k ≤ room
+  pub wide : memoryWidth * room ≤ length d
 
 -- a buffer that takes `room` trapezoids holds k of them, with their boxes, and, past them, n more, the remainder, which e encloses
 pub record RemainderPast (e : Box) (boxes out : List ℤ) (k n room : ℕ) : Type 0 where

@@ -8,8 +8,9 @@ ghost use lib.IntN.{pos};
 ghost use Rattle.records.specs.Limits.{maxRecords};
 ghost use Rattle.records.specs.Records.{Blank};
 ghost use Rattle.boxes_code.specs.Code.{BoxedAs, BoxedLayer};
-ghost use Rattle.remainder_code.specs.Code.{front, rest, from, overlaysOfOne, OverlaysWithin, leading, Remaining, OneWritten, ScratchFor};
-ghost use Rattle.front_code.specs.Code.{RemainderPast, StepWritten, RestWritten};
+ghost use Rattle.bearing_code.specs.Code.{OneBearing};
+ghost use Rattle.remainder_code.specs.Code.{front, rest, from, overlaysOfOne, OverlaysWithin, leading, OneWritten, ScratchFor};
+ghost use Rattle.front_code.specs.Code.{BlankPast, RemainderPast, StepWritten, RestWritten};
 
 // `out` holds k trapezoids and, past them, n more, the remainder: that minus number i of the first k. Where its box is disjoint from e,
 // which encloses the remainder, the remainder stands.
@@ -100,7 +101,7 @@ fn one_past(
     scratch: &mut [i32],
     room: usize,
 ) -> Folded
-    requires { ⌜ BoxedAs a e × BoxedLayer (front (now out) k) (now boxes) × Remaining (now out) k room × (room ≤ maxRecords) ⌝ }
+    requires { ⌜ BoxedAs a e × BoxedLayer (front (now out) k) (now boxes) × BlankPast (now out) k room × (room ≤ maxRecords) ⌝ }
     requires { ⌜ ScratchFor (now out) (now scratch) ⌝ }
     ensures { λ r. ⌜ OneWritten (rest (now (out .entry)) k) (room - k) (a .shape) (from (front (now (out .entry)) k) j) r (rest (now (out .exit)) k) ⌝ }
     ensures { λ _. ⌜ front (now (out .exit)) k ≡ front (now (out .entry)) k ⌝ }
@@ -126,7 +127,7 @@ fn one_past(
 
 // One trapezoid minus the k trapezoids that `out` holds, and what remains of it added past them. With
 // any room, those before the first that overlaps it are passed over, as in `one_into`.
-pub fn one_by_front(
+fn one_by_front(
     a: Placed,
     e: Box,
     boxes: &[i64],
@@ -135,7 +136,7 @@ pub fn one_by_front(
     scratch: &mut [i32],
     room: usize,
 ) -> Folded
-    requires { ⌜ BoxedAs a e × BoxedLayer (front (now out) k) (now boxes) × Remaining (now out) k room × (room ≤ maxRecords) ⌝ }
+    requires { ⌜ BoxedAs a e × BoxedLayer (front (now out) k) (now boxes) × BlankPast (now out) k room × (room ≤ maxRecords) ⌝ }
     requires { ⌜ ScratchFor (now out) (now scratch) ⌝ }
     ensures { λ r. ⌜ OneWritten (rest (now (out .entry)) k) (room - k) (a .shape) (leading (now (out .entry)) k) r (rest (now (out .exit)) k) ⌝ }
     ensures { λ _. ⌜ front (now (out .exit)) k ≡ front (now (out .entry)) k ⌝ }
@@ -149,4 +150,28 @@ pub fn one_by_front(
     let v = remainder_code::first_overlapping(a, e, &out[..end], boxes);
     let f = one_past(a, e, boxes, v.before, k, out, scratch, room);
     remainder_code::more_overlays(v.before, f)
+}
+
+// The same of a trapezoid with this set of source layers, which what remains of it keeps.
+pub fn one_bearing_by_front(
+    a: Placed,
+    e: Box,
+    boxes: &[i64],
+    k: usize,
+    out: &mut [i32],
+    scratch: &mut [i32],
+    room: usize,
+    sources: i32,
+) -> Folded
+    requires { ⌜ BoxedAs a e × BoxedLayer (front (now out) k) (now boxes) × BlankPast (now out) k room × (room ≤ maxRecords) ⌝ }
+    requires { ⌜ ScratchFor (now out) (now scratch) ⌝ }
+    ensures { λ r. ⌜ OneBearing (rest (now (out .entry)) k) (room - k) sources (a .shape) (leading (now (out .entry)) k) r (rest (now (out .exit)) k) ⌝ }
+    ensures { λ _. ⌜ front (now (out .exit)) k ≡ front (now (out .entry)) k ⌝ }
+    ensures { λ r. ⌜ OverlaysWithin overlaysOfOne r ⌝ }
+    ensures { λ _. ⌜ Blank (pos 0) (now (scratch .exit)) ⌝ }
+{
+    let f = one_by_front(a, e, boxes, k, out, scratch, room);
+    let end = records::MEMORY_WIDTH * k;
+    bearing_code::bear(f, sources, &mut out[end..]);
+    f
 }

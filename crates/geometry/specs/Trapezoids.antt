@@ -40,11 +40,12 @@ trapezoidWords t =
     lineWords (t .left .first)
     ++ (lineWords (t .left .second) ++ (lineWords (t .right .first) ++ (lineWords (t .right .second) ++ (lineWords (t .bottom) ++ lineWords (t .top)))))
 
--- trapezoids in memory
+-- Trapezoids in memory. The 25th word, the set of source layers, is empty where trapezoids alone are written, and passed over where they alone are read; trapezoids
+-- with their sets are `sourcedCodec` of crates/sources.
 abbrev pub trapezoidCodec : Codec ℤ Trapezoid
-trapezoidCodec = record { width = memoryWidth; blank = pos 0; encode = trapezoidWords; decode = trapezoidOf }
+trapezoidCodec = record { width = memoryWidth; blank = pos 0; encode = λ t. trapezoidWords t ++ (pos 0 ∷ []); decode = trapezoidOf }
 
--- the trapezoids of a layer's words
+-- the trapezoids of a layer's words, without their sets
 abbrev pub layerOf : List ℤ → List Trapezoid
 layerOf s = records trapezoidCodec s
 

@@ -4,14 +4,17 @@ use Prim.Native.Nat.{ℕ}
 use lib.ListN.{length}
 use lib.IntN.{ℤ}
 use Rattle.geometry.specs.declared.Trapezoid.{Trapezoid}
+use Rattle.geometry.specs.Trapezoids.{layerOf}
+use Rattle.sources.specs.Sourced.{sourcedOf}
 use Rattle.boolean.specs.Space.{commonStages, intersectionStages}
-use Rattle.boolean.specs.Operations.{common, intersection}
+use Rattle.boolean.specs.Sources.{sourcedCommon, sourcedIntersection}
 use Rattle.boolean.specs.declared.Folded.{Folded}
-use Rattle.remainder_code.specs.Code.{FoldedAs}
+use Rattle.bearing_code.specs.Code.{SourcedAs}
 
--- what a has in common with each of bs, and what each of ts has in common with each of bs, written into a tail that was d₀
-abbrev pub CommonWritten : List ℤ → ℕ → Trapezoid → List Trapezoid → Folded → List ℤ → Type 0
-CommonWritten d₀ room a bs r d = FoldedAs (length d₀) room (common a bs) (commonStages 0 a bs) r d
+-- what a with the set z has in common with each of the layer with the words `layer`, and what each of the layer with the words `first` has in common with each of that
+-- with the words `second`, written into a tail that was d₀
+abbrev pub CommonWritten : List ℤ → ℕ → ℤ → Trapezoid → List ℤ → Folded → List ℤ → Type 0
+CommonWritten d₀ room z a layer r d = SourcedAs (length d₀) room (sourcedCommon (record { shape = a; sources = z }) (sourcedOf layer)) (commonStages 0 a (layerOf layer)) r d
 
-abbrev pub IntersectionWritten : List ℤ → ℕ → List Trapezoid → List Trapezoid → Folded → List ℤ → Type 0
-IntersectionWritten d₀ room ts bs r d = FoldedAs (length d₀) room (intersection ts bs) (intersectionStages 0 ts bs) r d
+abbrev pub IntersectionWritten : List ℤ → ℕ → List ℤ → List ℤ → Folded → List ℤ → Type 0
+IntersectionWritten d₀ room first second r d = SourcedAs (length d₀) room (sourcedIntersection (sourcedOf first) (sourcedOf second)) (intersectionStages 0 (layerOf first) (layerOf second)) r d

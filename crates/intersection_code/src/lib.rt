@@ -3,13 +3,12 @@ use boolean::Folded;
 use boxes::Box;
 use geometry::Fill;
 use geometry::Placed;
-ghost use Rattle.geometry.specs.Trapezoids.{layerOf};
 ghost use Rattle.trapezoids_code.specs.Tails.{Borrowed};
 ghost use Rattle.boxes_code.specs.Code.{BoxedAs, BoxedLayer};
 ghost use Rattle.remainder_code.specs.Code.{overlaysOfLayer, OverlaysWithin};
 ghost use Rattle.intersection_code.specs.Code.{CommonWritten, IntersectionWritten};
 
-// The parts common to a and each trapezoid of the layer, in order.
+// The parts common to a, which has this set of source layers, and each trapezoid of the layer, in order, with both sets joined.
 fn common_into(
     a: Placed,
     e: Box,
@@ -17,9 +16,10 @@ fn common_into(
     boxes: &[i64],
     out: &mut [i32],
     room: usize,
+    sources: i32,
 ) -> Folded
     requires { ⌜ BoxedAs a e × BoxedLayer (now layer) (now boxes) × Borrowed (now out) room ⌝ }
-    ensures { λ r. ⌜ CommonWritten (now (out .entry)) room (a .shape) (layerOf (now (layer .entry))) r (now (out .exit)) ⌝ }
+    ensures { λ r. ⌜ CommonWritten (now (out .entry)) room sources (a .shape) (now (layer .entry)) r (now (out .exit)) ⌝ }
 {
     let n = layer.len() / records::MEMORY_WIDTH;
     let mut k = 0;
@@ -27,8 +27,10 @@ fn common_into(
     while i < n {
         if !boxes_code::boxes_disjoint(e, boxes, i) {
             let b = trapezoids_code::placed_at(layer, i);
+            let of_b = sources_code::sources_at(layer, i);
+            let both = sources_code::joined(sources, of_b);
             let free = records::MEMORY_WIDTH * k;
-            let f = overlay_code::overlay_into(a, b, 3, &mut out[free..], room - k);
+            let f = bearing_code::common_parts(a, b, both, &mut out[free..], room - k);
             let Fill::Written(m) = f else {
                 records_code::clear(out);
                 return Folded::NoRoom(i + 1);
@@ -43,7 +45,7 @@ fn common_into(
     }
 }
 
-// The parts common to each trapezoid of the first layer, in order, and each of the second.
+// The parts common to each trapezoid of the first layer, in order, and each of the second, with both sets joined.
 pub fn intersection_into(
     first: &[i32],
     first_boxes: &[i64],
@@ -53,7 +55,7 @@ pub fn intersection_into(
     room: usize,
 ) -> Folded
     requires { ⌜ BoxedLayer (now first) (now «first_boxes») × BoxedLayer (now second) (now «second_boxes») × Borrowed (now out) room ⌝ }
-    ensures { λ r. ⌜ IntersectionWritten (now (out .entry)) room (layerOf (now (first .entry))) (layerOf (now (second .entry))) r (now (out .exit)) ⌝ }
+    ensures { λ r. ⌜ IntersectionWritten (now (out .entry)) room (now (first .entry)) (now (second .entry)) r (now (out .exit)) ⌝ }
     ensures { λ r. ⌜ OverlaysWithin overlaysOfLayer r ⌝ }
 {
     let n = first.len() / records::MEMORY_WIDTH;
@@ -63,8 +65,17 @@ pub fn intersection_into(
     while i < n {
         let a = trapezoids_code::placed_at(first, i);
         let e = boxes_code::load_box(first_boxes, i);
+        let sources = sources_code::sources_at(first, i);
         let free = records::MEMORY_WIDTH * k;
-        let f = common_into(a, e, second, second_boxes, &mut out[free..], room - k);
+        let f = common_into(
+            a,
+            e,
+            second,
+            second_boxes,
+            &mut out[free..],
+            room - k,
+            sources,
+        );
         match f {
             Folded::NoRoom(c) => {
                 records_code::clear(out);

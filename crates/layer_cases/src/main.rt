@@ -1,5 +1,5 @@
-// The limit of paper 01 on layers, through the public functions of `loxurfa` and `loxurfa_shapes`: 512 and 513 trapezoids. Each case has
-// its answer, which stands in the file `stdout`, and the reason.
+// The limit of paper 01 on layers, through the public functions of `loxurfa` and `loxurfa_shapes`: 512 and 513 trapezoids; and lent sets
+// of source layers, which may have any bits. Each case has its answer, which stands in the file `stdout`, and the reason.
 use calls::Combined;
 use calls::Connected;
 use calls::Deoverlapped;
@@ -111,19 +111,62 @@ fn component_counts(a: &[i32], more: &[i32]) {
     components(more, &mut more_numbers);
 }
 
-// All cases, of 513 squares; the first 512 have 12,288 words.
+// With one square as A and as B, with different sets: the set of the square that is written.
+fn combine_sources(code: u32, a: &[i32], b: &[i32]) {
+    let mut out = [7i32; records::MEMORY_WIDTH];
+    let mut scratch = [7i32; records::MEMORY_WIDTH];
+    let r = loxurfa::combine(code, a, b, &mut out, &mut scratch);
+    match r {
+        Combined::Refused { number, place } => case_parts::refused(number, place),
+        Combined::Done { pieces, overlays } => case_parts::done(pieces, overlays),
+    }
+    case_parts::show_sources(out[records::FILE_WIDTH]);
+}
+
+fn deoverlap_sources(a: &[i32]) {
+    let mut out = [7i32; records::MEMORY_WIDTH];
+    let mut scratch = [7i32; records::MEMORY_WIDTH];
+    let r = loxurfa::deoverlap(a, &mut out, &mut scratch);
+    match r {
+        Deoverlapped::Refused { number, place } => case_parts::refused(number, place),
+        Deoverlapped::Done { pieces, overlays } => case_parts::done(pieces, overlays),
+    }
+    case_parts::show_sources(out[records::FILE_WIDTH]);
+}
+
+fn sets() {
+    io::write_all(STDOUT_FILENO, b"sources\n");
+    // layers 0 and 2
+    let mut a = [0i32; records::MEMORY_WIDTH];
+    case_parts::squares(&mut a, 0, 5);
+    // layers 2 and 31
+    let mut b = [0i32; records::MEMORY_WIDTH];
+    case_parts::squares(&mut b, 0, -2147483644);
+    // done 1 overlays 1, sources 2147483653: layers 0, 2 and 31
+    combine_sources(1, &a, &b);
+    // done 1 overlays 1, sources 5: A's square, and nothing remains of B's
+    combine_sources(0, &a, &b);
+    // done 1 overlays 0, sources 2147483652: B's square minus nothing
+    combine_sources(3, &a[..0], &b);
+    // done 1 overlays 0, sources 2147483652
+    deoverlap_sources(&b);
+}
+
+// All cases of 513 squares; the first 512 have 12,800 words.
 fn layers(squares: &[i32])
-    requires { ⌜ length (now squares) ≡ 12312 ⌝ }
+    requires { ⌜ length (now squares) ≡ 12825 ⌝ }
 {
     let a = &squares[..records::MAX_WORDS];
     combines(a, &squares[records::MAX_WORDS..], squares, &squares[..0]);
     deoverlaps(a, squares);
-    equals(a, &squares[..12264]);
+    equals(a, &squares[..12775]);
     component_counts(a, squares);
 }
 
 fn main() {
-    let mut squares = [0i32; 12312];
-    case_parts::squares(&mut squares, 0);
+    let mut squares = [0i32; 12825];
+    // all with the set of all source layers
+    case_parts::squares(&mut squares, 0, -1);
     layers(&squares);
+    sets();
 }

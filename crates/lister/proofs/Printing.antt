@@ -6,11 +6,12 @@ use native.Mathlib.Omega.{arith}
 use lib.IntN.{ℤ}
 use lib.ListN.{length, take, drop, length-append}
 use Rattle.records.specs.Limits.{memoryWidth, maxWords}
-use Rattle.geometry.specs.declared.Trapezoid.{Trapezoid}
 use Rattle.geometry.specs.declared.Checked.{Checked}
 use Rattle.geometry.specs.declared.Checked.the-variants.{Passed, Refused}
 use Rattle.geometry.specs.Trapezoids.{layerOf}
-use Rattle.boolean.specs.Operations.{deoverlapped}
+use Rattle.sources.specs.Sets.{single}
+use Rattle.sources.specs.Sourced.{Sourced, sourcedOf, bearing}
+use Rattle.boolean.specs.Sources.{sourcedDeoverlapped}
 use Rattle.boolean.specs.Space.{Stage, addition, space, deoverlappedStages}
 use Rattle.files.specs.declared.Edition.the-variants.{New}
 use Rattle.files.specs.Outcomes.{Answer}
@@ -34,18 +35,18 @@ pub put-within : (t d : List ℕ) (r : ℕ) (e : List ℕ) → Put t d r e → r
 put-within t d r e (l, h) = omega (arith, l, ap length h, length-append t (drop r d))
 
 -- ---- a layer deoverlapped
-module _ (ts : List Trapezoid) (ms : List Stage) where
+module _ (rs : List Sourced) (ms : List Stage) where
   printed-outcome : (c : Checked) (out scratch : List ℤ) → length out ≡ maxWords
-      → printedAs (outcome c out scratch ts ms .answer) (outcome c out scratch ts ms .out) ≡ printedAs (outcome c blank blank ts ms .answer) (outcome c blank blank ts ms .out)
+      → printedAs (outcome c out scratch rs ms .answer) (outcome c out scratch rs ms .out) ≡ printedAs (outcome c blank blank rs ms .answer) (outcome c blank blank rs ms .out)
   printed-outcome (Refused number place) out scratch e = refl
   printed-outcome Passed out scratch e =
-      ap (λ (n : ℕ). printedAs (written n ts (space (n / memoryWidth) ms) .answer) (written n ts (space (n / memoryWidth) ms) .out)) (e ∙ sym blank-length)
+      ap (λ (n : ℕ). printedAs (written n rs (space (n / memoryWidth) ms) .answer) (written n rs (space (n / memoryWidth) ms) .out)) (e ∙ sym blank-length)
 
   listed-outcome : (c : Checked) (out scratch : List ℤ) → length out ≡ maxWords
-      → listedAs (outcome c out scratch ts ms .answer) (outcome c out scratch ts ms .out) ≡ listedAs (outcome c blank blank ts ms .answer) (outcome c blank blank ts ms .out)
+      → listedAs (outcome c out scratch rs ms .answer) (outcome c out scratch rs ms .out) ≡ listedAs (outcome c blank blank rs ms .answer) (outcome c blank blank rs ms .out)
   listed-outcome (Refused number place) out scratch e = refl
   listed-outcome Passed out scratch e =
-      ap (λ (n : ℕ). listedAs (written n ts (space (n / memoryWidth) ms) .answer) (written n ts (space (n / memoryWidth) ms) .out)) (e ∙ sym blank-length)
+      ap (λ (n : ℕ). listedAs (written n rs (space (n / memoryWidth) ms) .answer) (written n rs (space (n / memoryWidth) ms) .out)) (e ∙ sym blank-length)
 
 module _ (a out scratch : List ℤ) (m : length out ≡ maxWords) (n : length scratch ≡ maxWords) where
   checked-blank : deoverlapChecked plateLimit a (length out) (length scratch) ≡ deoverlapChecked plateLimit a (length blank) (length blank)
@@ -55,10 +56,10 @@ module _ (a out scratch : List ℤ) (m : length out ≡ maxWords) (n : length sc
   deoverlap-printed : printedAs (deoverlapOutcome plateLimit a out scratch .answer) (deoverlapOutcome plateLimit a out scratch .out) ≡ deoverlapListed a
   unfolding deoverlapOutcome deoverlapListed
   deoverlap-printed =
-      let ts = deoverlapped (layerOf a) in
+      let rs = sourcedDeoverlapped (sourcedOf a) in
       let ms = deoverlappedStages [] (layerOf a) in
-      printed-outcome ts ms (deoverlapChecked plateLimit a (length out) (length scratch)) out scratch m
-      ∙ ap (λ (c : Checked). printedAs (outcome c blank blank ts ms .answer) (outcome c blank blank ts ms .out)) checked-blank
+      printed-outcome rs ms (deoverlapChecked plateLimit a (length out) (length scratch)) out scratch m
+      ∙ ap (λ (c : Checked). printedAs (outcome c blank blank rs ms .answer) (outcome c blank blank rs ms .out)) checked-blank
 
   module _ (answer : Deoverlapped) (o s : List ℤ) (e : observed (deoverlappedAnswer answer) o s ≡ deoverlapOutcome plateLimit a out scratch) where
     answered : printedAs (deoverlappedAnswer answer) o ≡ deoverlapListed a
@@ -72,19 +73,20 @@ module _ (a out scratch : List ℤ) (m : length out ≡ maxWords) (n : length sc
 
 -- ---- a polygon file fractured
 module _ (file : List ℕ) (out scratch : List ℤ) (m : length out ≡ maxWords) (n : length scratch ≡ maxWords) where
-  fracture-blank : fractureChecked New plateLimit file (length out) (length scratch) ≡ fractureChecked New plateLimit file (length blank) (length blank)
+  fracture-blank : fractureChecked New plateLimit 0 file (length out) (length scratch) ≡ fractureChecked New plateLimit 0 file (length blank) (length blank)
   fracture-blank =
-      ap (λ (k : ℕ). fractureChecked New plateLimit file k (length scratch)) (m ∙ sym blank-length) ∙ ap (fractureChecked New plateLimit file (length blank)) (n ∙ sym blank-length)
+      ap (λ (k : ℕ). fractureChecked New plateLimit 0 file k (length scratch)) (m ∙ sym blank-length) ∙ ap (fractureChecked New plateLimit 0 file (length blank)) (n ∙ sym blank-length)
 
-  fracture-listed : listedAs (fractureOutcome New plateLimit file out scratch .answer) (fractureOutcome New plateLimit file out scratch .out) ≡ listed file
+  fracture-listed : listedAs (fractureOutcome New plateLimit 0 file out scratch .answer) (fractureOutcome New plateLimit 0 file out scratch .out) ≡ listed file
   unfolding fractureOutcome listedBy
   fracture-listed =
       let ts = fracturedOf New plateLimit file in
+      let rs = bearing (single 0) ts in
       let ms = addition (length ts) ∷ [] in
-      listed-outcome ts ms (fractureChecked New plateLimit file (length out) (length scratch)) out scratch m
-      ∙ ap (λ (c : Checked). listedAs (outcome c blank blank ts ms .answer) (outcome c blank blank ts ms .out)) fracture-blank
+      listed-outcome rs ms (fractureChecked New plateLimit 0 file (length out) (length scratch)) out scratch m
+      ∙ ap (λ (c : Checked). listedAs (outcome c blank blank rs ms .answer) (outcome c blank blank rs ms .out)) fracture-blank
 
-  module _ (answer : Fractured) (o s : List ℤ) (e : observed (fracturedAnswer answer) o s ≡ fractureOutcome New plateLimit file out scratch) where
+  module _ (answer : Fractured) (o s : List ℤ) (e : observed (fracturedAnswer answer) o s ≡ fractureOutcome New plateLimit 0 file out scratch) where
     fractured-answer : listedAs (fracturedAnswer answer) o ≡ listed file
     fractured-answer = ap (λ (x : Outcome Answer). listedAs (x .answer) (x .out)) e ∙ fracture-listed
 

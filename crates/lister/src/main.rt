@@ -28,7 +28,7 @@ fn list_layer(layer: &[i32], out: &mut [i32], scratch: &mut [i32], text: &mut [u
     }
 }
 
-// The text for the bytes of a polygon file, fractured into `first`, likewise.
+// The text for the bytes of a polygon file, fractured into `first` as source layer 0, likewise. Sets are not printed.
 fn list_file(
     file: &[u8],
     first: &mut [i32],
@@ -39,7 +39,7 @@ fn list_file(
     requires { ⌜ (length (now first) ≡ maxWords) × (length (now out) ≡ maxWords) × (length (now scratch) ≡ maxWords) × (listingRoom ≤ length (now text)) ⌝ }
     ensures { λ r. ⌜ Put (listed (now (file .entry))) (now (text .entry)) r (now (text .exit)) ⌝ }
 {
-    let f = loxurfa_files::fracture(file, first, scratch);
+    let f = loxurfa_files::fracture(0, file, first, scratch);
     match f {
         Fractured::Refused { number, place } => {
             return listing_code::refuse_into(number, place, text);

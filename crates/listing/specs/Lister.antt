@@ -29,9 +29,10 @@ abbrev pub listedAs : Answer → List ℤ → List ℕ
 listedAs (refused number place) out = refusalLine number place
 listedAs (done pieces overlays) out = deoverlapListed (take (memoryWidth * pieces) out)
 
--- "The lister reads a sheet on standard input, cuts, disjoints, each into 512 records, and prints.": of a reader of an edition
+-- "The lister reads a sheet on standard input, cuts, disjoints, each into 512 records, and prints.": of a reader of an edition. It cuts as source layer 0; sets are not
+-- printed, so any other layer from 0 to 31 would print the same
 unfoldable pub listedBy : Edition → List ℕ → List ℕ
-listedBy edition file = listedAs (fractureOutcome edition plateLimit file blank blank .answer) (fractureOutcome edition plateLimit file blank blank .out)
+listedBy edition file = listedAs (fractureOutcome edition plateLimit 0 file blank blank .answer) (fractureOutcome edition plateLimit 0 file blank blank .out)
 
 -- "The lister takes the new edition."
 abbrev pub listed : List ℕ → List ℕ

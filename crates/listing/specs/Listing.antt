@@ -7,7 +7,7 @@ use lib.Dec.{ltb}
 use lib.IntN.{ℤ, pos, negsuc}
 use lib.ListN.{length, getD, take, drop}
 use lib.Seq.{slice}
-use Rattle.records.specs.Limits.{memoryWidth, maxRecords}
+use Rattle.records.specs.Limits.{fileWidth, memoryWidth, maxRecords}
 use Rattle.geometry.specs.declared.Trapezoid.{Trapezoid}
 use Rattle.geometry.specs.Trapezoids.{trapezoidWords}
 
@@ -58,11 +58,11 @@ numbered text n = text ++ decimal n
 abbrev pub headLine : ℕ → List ℕ
 headLine n = numbered piecesText n ++ (10 ∷ [])
 
--- the line of record number i
+-- the line of record number i: "Book files and the lister keep 24 words."
 abbrev pub recordLine : List ℤ → ℕ → List ℕ
-recordLine s i = wordsLine (slice (memoryWidth * i) (memoryWidth * i + memoryWidth) s)
+recordLine s i = wordsLine (slice (memoryWidth * i) (memoryWidth * i + fileWidth) s)
 
--- a line for each of n records of 24 words, from number i on
+-- a line for each of n records, from number i on
 unfoldable pub linesFrom : ℕ → List ℤ → ℕ → List ℕ
 linesFrom zero s i = []
 linesFrom (suc n) s i = recordLine s i ++ linesFrom n s (i + 1)
@@ -105,7 +105,7 @@ abbrev pub headRoom : ℕ
 headRoom = 12
 
 abbrev pub lineRoom : ℕ
-lineRoom = fieldRoom * memoryWidth
+lineRoom = fieldRoom * fileWidth
 
 abbrev pub listingRoom : ℕ
 listingRoom = headRoom + lineRoom * maxRecords

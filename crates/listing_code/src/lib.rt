@@ -103,14 +103,14 @@ fn put_field(words: &[i32], j: usize, end: usize, out: &mut [u8], at: usize) -> 
     put_byte(b'\n', out, next)
 }
 
-// The line of record number i.
+// The line of record number i, without its set.
 fn put_line(words: &[i32], i: usize, out: &mut [u8], at: usize) -> usize
     requires { ⌜ (memoryWidth * i + memoryWidth ≤ length (now words)) × (at + lineRoom ≤ length (now out)) ⌝ }
     ensures { λ r. ⌜ Wrote (now (out .entry)) at (recordLine (now (words .entry)) i) r (now (out .exit)) ⌝ }
     ensures within { λ r. ⌜ r ≤ at + lineRoom ⌝ }
 {
     let start = records::MEMORY_WIDTH * i;
-    let end = start + records::MEMORY_WIDTH;
+    let end = start + records::FILE_WIDTH;
     let mut next = at;
     let mut j = start;
     while j < end {

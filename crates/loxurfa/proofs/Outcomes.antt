@@ -8,15 +8,17 @@ use lib.IntN.{ℤ}
 use Rattle.geometry.specs.declared.Checked.the-variants.{Passed, Refused}
 use Rattle.geometry.specs.Points.{Point}
 use Rattle.geometry.specs.Trapezoids.{layerOf, liesInLayer}
+use Rattle.sources.specs.Sourced.{sourcedOf}
 use Rattle.boolean.specs.declared.Folded.{Folded}
 use Rattle.boolean.specs.declared.Folded.the-variants.{NoRoom, Done}
-use Rattle.boolean.specs.Operations.{codeAt, result, difference, deoverlapped}
+use Rattle.boolean.specs.Operations.{codeAt, result, difference}
+use Rattle.boolean.specs.Sources.{sourcedResult, sourcedDeoverlapped}
 use Rattle.boolean.specs.Space.{space, stages, deoverlappedStages, equalityStages}
 use Rattle.files.specs.Outcomes.{refused, done}
 use Rattle.calls.specs.Answers.{refused-equality, refused-point, yes, no}
 use Rattle.calls.specs.Rows.{bothDisjoint, combineChecked, deoverlapChecked, equalChecked, containsChecked}
 use Rattle.calls.specs.Outcomes.{observed, zeros, roomOf, written, outcome, combined, deoverlapOutcome, comparedIn, equalityOutcome, equalOutcome, containsAnswer}
-use Rattle.remainder_code.specs.Code.{FoldedAs}
+use Rattle.bearing_code.specs.Code.{SourcedAs}
 use Rattle.searched_code.proofs.Outcomes.{written-no-room, written-done}
 
 -- ---- the point question
@@ -42,7 +44,7 @@ module _ (L code : ℕ) (a b out scratch : List ℤ) where
 
   -- rows 1 to 11 let the call pass, and row 13 decides
   pub combine-past : combineChecked L code a b (length out) (length scratch) ≡ Passed
-      → outcome (bothDisjoint a b) out scratch (result (codeAt code) (layerOf a) (layerOf b)) (stages (codeAt code) (layerOf a) (layerOf b)) ≡ combined L code a b out scratch
+      → outcome (bothDisjoint a b) out scratch (sourcedResult (codeAt code) (sourcedOf a) (sourcedOf b)) (stages (codeAt code) (layerOf a) (layerOf b)) ≡ combined L code a b out scratch
   unfolding combined
   combine-past e = rw e
 
@@ -53,19 +55,19 @@ module _ (L : ℕ) (a out scratch : List ℤ) where
   deoverlap-refuses e = rw e
 
   deoverlap-written : deoverlapChecked L a (length out) (length scratch) ≡ Passed
-      → written (length out) (deoverlapped (layerOf a)) (space (roomOf out) (deoverlappedStages [] (layerOf a))) ≡ deoverlapOutcome L a out scratch
+      → written (length out) (sourcedDeoverlapped (sourcedOf a)) (space (roomOf out) (deoverlappedStages [] (layerOf a))) ≡ deoverlapOutcome L a out scratch
   unfolding deoverlapOutcome
   deoverlap-written e = rw e
 
   module _ (e : deoverlapChecked L a (length out) (length scratch) ≡ Passed) (f : Folded) (m : ℕ) (d s : List ℤ)
-      (h : FoldedAs m (roomOf out) (deoverlapped (layerOf a)) (deoverlappedStages [] (layerOf a)) f d) (l : m ≡ length out) (z : s ≡ zeros (length out)) where
+      (h : SourcedAs m (roomOf out) (sourcedDeoverlapped (sourcedOf a)) (deoverlappedStages [] (layerOf a)) f d) (l : m ≡ length out) (z : s ≡ zeros (length out)) where
     pub deoverlap-no-room : {c : ℕ} → f ≡ NoRoom c → observed (refused 12 0) d s ≡ deoverlapOutcome L a out scratch
     deoverlap-no-room g =
-        written-no-room (roomOf out) (deoverlapped (layerOf a)) (deoverlappedStages [] (layerOf a)) f (length out) m d s h l z g ∙ deoverlap-written e
+        written-no-room (roomOf out) (sourcedDeoverlapped (sourcedOf a)) (deoverlappedStages [] (layerOf a)) f (length out) m d s h l z g ∙ deoverlap-written e
 
     pub deoverlap-done : {t c : ℕ} → f ≡ Done t c → observed (done t c) d s ≡ deoverlapOutcome L a out scratch
     deoverlap-done g =
-        written-done (roomOf out) (deoverlapped (layerOf a)) (deoverlappedStages [] (layerOf a)) f (length out) m d s h l z g ∙ deoverlap-written e
+        written-done (roomOf out) (sourcedDeoverlapped (sourcedOf a)) (deoverlappedStages [] (layerOf a)) f (length out) m d s h l z g ∙ deoverlap-written e
 
 -- ---- the equality test
 module _ (L : ℕ) (a b out scratch : List ℤ) where

@@ -4,22 +4,28 @@ ghost use Rattle.calls.specs.Rows.{plateLimit};
 ghost use Rattle.calls.specs.Contracts.{FractureKeptForC, CombineKeptForC, DeoverlapKeptForC, EqualKeptForC, ContainsKeptForC, ReadKeptForC, WriteKeptForC, ComponentsKeptForC, TransistorsKeptForC};
 
 #[no_mangle]
-pub extern "C" fn loxurfa_fracture(file: &[u8], out: &mut [i32], scratch: &mut [i32]) -> u64
-    ensures { λ r. ⌜ FractureKeptForC New plateLimit (now (file .entry)) (now (out .entry)) (now (scratch .entry)) r (now (out .exit)) (now (scratch .exit)) ⌝ }
+pub extern "C" fn loxurfa_fracture(
+    layer: u32,
+    file: &[u8],
+    out: &mut [i32],
+    scratch: &mut [i32],
+) -> u64
+    ensures { λ r. ⌜ FractureKeptForC New plateLimit layer (now (file .entry)) (now (out .entry)) (now (scratch .entry)) r (now (out .exit)) (now (scratch .exit)) ⌝ }
 {
-    let answer = loxurfa_files::fracture(file, out, scratch);
+    let answer = loxurfa_files::fracture(layer, file, out, scratch);
     packed_code::pack_fractured(answer)
 }
 
 #[no_mangle]
 pub extern "C" fn loxurfa_fracture_first_edition(
+    layer: u32,
     file: &[u8],
     out: &mut [i32],
     scratch: &mut [i32],
 ) -> u64
-    ensures { λ r. ⌜ FractureKeptForC First plateLimit (now (file .entry)) (now (out .entry)) (now (scratch .entry)) r (now (out .exit)) (now (scratch .exit)) ⌝ }
+    ensures { λ r. ⌜ FractureKeptForC First plateLimit layer (now (file .entry)) (now (out .entry)) (now (scratch .entry)) r (now (out .exit)) (now (scratch .exit)) ⌝ }
 {
-    let answer = loxurfa_files::fracture_first_edition(file, out, scratch);
+    let answer = loxurfa_files::fracture_first_edition(layer, file, out, scratch);
     packed_code::pack_fractured(answer)
 }
 

@@ -14,10 +14,9 @@ use Rattle.geometry.specs.Trapezoids.{trapezoidCodec}
 use Rattle.geometry.specs.Fitness.{SmallRefusal}
 use Rattle.geometry.proofs.Refusals.{SmallChecked}
 use Rattle.files.specs.Formats.{fileWords, layerFile, layerWords}
-use Rattle.files.specs.Contents.{unitsOf, fileCodec}
+use Rattle.files.specs.Contents.{unitsOf, fileCodec, memoryWords, writtenWords}
 use Rattle.files.specs.Rows.{layerFileChecked, layerWordsChecked}
 use Rattle.files.specs.Outcomes.{refused, done, observedFile, readLayers, writeLayers}
-use Rattle.files.proofs.Reading.{length-file}
 use Rattle.files.proofs.Bounds.{units-bound}
 use Rattle.files.proofs.Small.{layer-file-small, layer-words-small}
 use Rattle.files.proofs.Answers.{refused-is, no-room-is, done-is}
@@ -27,49 +26,50 @@ use Rattle.files.proofs.Calls.{file-passes, length-bytes}
 module _ (L : ℕ) (bs : List ℕ) (out : List ℤ) where
   pub read-refused : {number place : ℕ} → layerFileChecked L bs ≡ Refused number place → (observedFile (refused number place) out ≡ readLayers L bs out) × SmallRefusal number place
   unfolding readLayers
-  read-refused e = (refused-is (pos 0) (length (unitsOf fileCodec (fileWords bs))) (fileWords bs) out e, subst SmallChecked e (layer-file-small L bs))
+  read-refused e = (refused-is (pos 0) (length (unitsOf fileCodec (fileWords bs))) (memoryWords (fileWords bs)) out e, subst SmallChecked e (layer-file-small L bs))
 
   module _ (e : layerFileChecked L bs ≡ Passed) {blank : List ℤ} (z : blank ≡ replicate (length out) (pos 0)) where
     long : length blank ≡ length out
     long = ap length z ∙ length-replicate (length out) (pos 0)
 
-    pub read-no-room : length blank < length bs / 4 → (observedFile (refused 12 0) blank ≡ readLayers L bs out) × SmallRefusal 12 0
+    pub read-no-room : length blank < length (memoryWords (fileWords bs)) → (observedFile (refused 12 0) blank ≡ readLayers L bs out) × SmallRefusal 12 0
     unfolding readLayers
     read-no-room h =
-        (ap (observedFile (refused 12 0)) z ∙ no-room-is (pos 0) (length (unitsOf fileCodec (fileWords bs))) (fileWords bs) out e (omega (arith, h, long, length-file bs)), (omega arith, omega arith))
+        (ap (observedFile (refused 12 0)) z ∙ no-room-is (pos 0) (length (unitsOf fileCodec (fileWords bs))) (memoryWords (fileWords bs)) out e (omega (arith, h, long)), (omega arith, omega arith))
 
-    pub read-done : length bs / 4 ≤ length blank → {d : List ℤ} → d ≡ fileWords bs ++ drop (length bs / 4) blank → {k : ℕ} → k ≡ length (unitsOf fileCodec (fileWords bs))
+    pub read-done : length (memoryWords (fileWords bs)) ≤ length blank → {d : List ℤ} → d ≡ memoryWords (fileWords bs) ++ drop (length (memoryWords (fileWords bs))) blank → {k : ℕ} → k ≡ length (unitsOf fileCodec (fileWords bs))
         → (observedFile (done k 0) d ≡ readLayers L bs out) × ((k ≤ maxRecords) × (0 < 4294967296))
     unfolding readLayers
     read-done h {d} p {k} q =
-        let l : length bs / 4 ≡ length (fileWords bs) = sym (length-file bs) in
-        let r : d ≡ fileWords bs ++ replicate (length out - length (fileWords bs)) (pos 0)
-        = p ∙ ap (λ (t : List ℤ). fileWords bs ++ t) (ap (drop (length bs / 4)) z ∙ drop-replicate (pos 0) (length bs / 4) (length out) ∙ ap (λ (n : ℕ). replicate (length out - n) (pos 0)) l) in (
-          (λ j. observedFile (done (q j) 0) (r j)) ∙ done-is (pos 0) (length (unitsOf fileCodec (fileWords bs))) (fileWords bs) out e (omega (arith, h, long, l)),
+        let ws = memoryWords (fileWords bs) in
+        let r : d ≡ ws ++ replicate (length out - length ws) (pos 0) = p ∙ ap (λ (t : List ℤ). ws ++ t) (ap (drop (length ws)) z ∙ drop-replicate (pos 0) (length ws) (length out)) in (
+          (λ j. observedFile (done (q j) 0) (r j)) ∙ done-is (pos 0) (length (unitsOf fileCodec (fileWords bs))) ws out e (omega (arith, h, long)),
           (omega (arith, q, units-bound L layerFile fileCodec (fileWords bs) refl (omega arith) (file-passes L bs e .1)), omega arith),
         )
 
+-- ---- the writer
 module _ (L : ℕ) (ws : List ℤ) (out : List ℕ) where
   pub write-refused : {number place : ℕ} → layerWordsChecked L ws ≡ Refused number place → (observedFile (refused number place) out ≡ writeLayers L ws out) × SmallRefusal number place
   unfolding writeLayers
-  write-refused e = (refused-is 0 (length (unitsOf trapezoidCodec ws)) (wordsOf wordCodec ws) out e, subst SmallChecked e (layer-words-small L ws))
+  write-refused e = (refused-is 0 (length (unitsOf trapezoidCodec ws)) (wordsOf wordCodec (writtenWords ws)) out e, subst SmallChecked e (layer-words-small L ws))
 
   module _ (e : layerWordsChecked L ws ≡ Passed) {blank : List ℕ} (z : blank ≡ replicate (length out) 0) where
     blank-long : length blank ≡ length out
     blank-long = ap length z ∙ length-replicate (length out) 0
 
-    pub write-no-room : length blank / 4 < length ws → (observedFile (refused 12 0) blank ≡ writeLayers L ws out) × SmallRefusal 12 0
+    pub write-no-room : length blank / 4 < length (writtenWords ws) → (observedFile (refused 12 0) blank ≡ writeLayers L ws out) × SmallRefusal 12 0
     unfolding writeLayers
     write-no-room h =
-        (ap (observedFile (refused 12 0)) z ∙ no-room-is 0 (length (unitsOf trapezoidCodec ws)) (wordsOf wordCodec ws) out e (omega (arith, h, blank-long, length-bytes ws)), (omega arith, omega arith))
+        (ap (observedFile (refused 12 0)) z ∙ no-room-is 0 (length (unitsOf trapezoidCodec ws)) (wordsOf wordCodec (writtenWords ws)) out e (omega (arith, h, blank-long, length-bytes (writtenWords ws))), (omega arith, omega arith))
 
-    pub write-done : length ws ≤ length blank / 4 → {d : List ℕ} → d ≡ wordsOf wordCodec ws ++ drop (4 * length ws) blank → {k : ℕ} → k ≡ length (unitsOf trapezoidCodec ws)
+    pub write-done : length (writtenWords ws) ≤ length blank / 4 → {d : List ℕ} → d ≡ wordsOf wordCodec (writtenWords ws) ++ drop (4 * length (writtenWords ws)) blank → {k : ℕ} → k ≡ length (unitsOf trapezoidCodec ws)
         → (observedFile (done k 0) d ≡ writeLayers L ws out) × ((k ≤ maxRecords) × (0 < 4294967296))
     unfolding writeLayers
     write-done h {d} p {k} q =
-        let l : 4 * length ws ≡ length (wordsOf wordCodec ws) = sym (length-bytes ws) in
-        let r : d ≡ wordsOf wordCodec ws ++ replicate (length out - length (wordsOf wordCodec ws)) 0
-        = p ∙ ap (λ (t : List ℕ). wordsOf wordCodec ws ++ t) (ap (drop (4 * length ws)) z ∙ drop-replicate 0 (4 * length ws) (length out) ∙ ap (λ (n : ℕ). replicate (length out - n) 0) l) in (
-          (λ j. observedFile (done (q j) 0) (r j)) ∙ done-is 0 (length (unitsOf trapezoidCodec ws)) (wordsOf wordCodec ws) out e (omega (arith, h, blank-long, l)),
+        let bs = wordsOf wordCodec (writtenWords ws) in
+        let l : 4 * length (writtenWords ws) ≡ length bs = sym (length-bytes (writtenWords ws)) in
+        let r : d ≡ bs ++ replicate (length out - length bs) 0
+        = p ∙ ap (λ (t : List ℕ). bs ++ t) (ap (drop (4 * length (writtenWords ws))) z ∙ drop-replicate 0 (4 * length (writtenWords ws)) (length out) ∙ ap (λ (n : ℕ). replicate (length out - n) 0) l) in (
+          (λ j. observedFile (done (q j) 0) (r j)) ∙ done-is 0 (length (unitsOf trapezoidCodec ws)) bs out e (omega (arith, h, blank-long, l)),
           (omega (arith, q, units-bound L layerWords trapezoidCodec ws refl (omega arith) e), omega arith),
         )

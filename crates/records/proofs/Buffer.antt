@@ -9,7 +9,7 @@ use lib.Seq.{take-at, drop-at, drop-drop}
 use borrow.Rule.Slice.PartMut.{putMid, midOf}
 use Rattle.lists.specs.Lists.{All}
 use Rattle.lists.proofs.Parts.{put-mid, put-tail, mid-tail, drop-replicate, take-replicate}
-use Rattle.records.specs.Records.{Codec, Faithful, recordsFrom, wordsOf, image, Holds, Blank}
+use Rattle.records.specs.Records.{Codec, Readable, recordsFrom, wordsOf, image, Holds, Blank}
 use Rattle.records.proofs.Records.{words-append, words-one, length-words, from-words}
 
 -- ---- blank words
@@ -17,7 +17,7 @@ module _ {W : Type 0} (z : W) where
   pub blank-of : (d : List W) (n : ℕ) → d ≡ replicate n z → Blank z d
   blank-of d n e = let l : length d ≡ n = ap length e ∙ length-replicate n z in rw l e
 
-module _ {W A : Type 0} (C : Codec W A) {Good : A → Type 0} {Legal : W → Type 0} (F : Faithful C Good Legal) where
+module _ {W A : Type 0} (C : Codec W A) {Good : A → Type 0} (F : Readable C Good) where
   abbrev size : List A → ℕ
   size rs = C .width * length rs
 

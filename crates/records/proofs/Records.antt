@@ -8,7 +8,7 @@ use lib.ListN.{length, take, drop, length-append, length-drop}
 use lib.Seq.{take-at, drop-append-add, drop-drop, take-add, length-take-le, take-all}
 use Rattle.lists.specs.Lists.{All}
 use Rattle.lists.proofs.Lists.{all-take, all-drop}
-use Rattle.records.specs.Records.{Codec, Faithful, recordAt, recordsFrom, records, wordsOf}
+use Rattle.records.specs.Records.{Codec, Readable, Faithful, recordAt, recordsFrom, records, wordsOf}
 
 -- ---- products with a width that is not known
 pub times-more : (w i : ℕ) → w * (i + 1) ≡ w * i + w
@@ -53,7 +53,7 @@ module _ {W A : Type 0} (C : Codec W A) where
   unfolding wordsOf
   words-one r = append-nil (C .encode r)
 
-  module _ {Good : A → Type 0} {Legal : W → Type 0} (F : Faithful C Good Legal) where
+  module _ {Good : A → Type 0} (F : Readable C Good) where
     pub length-words : (rs : List A) → length (wordsOf C rs) ≡ C .width * length rs
     unfolding wordsOf
     length-words [] = sym (NatL.mul-zero (C .width))
@@ -88,7 +88,8 @@ module _ {W A : Type 0} (C : Codec W A) where
     pub records-words : (rs : List A) → All Good rs → records C (wordsOf C rs) ≡ rs
     records-words rs g = rw (count-words rs, ← append-nil (wordsOf C rs)) (from-words rs [] g)
 
-    -- ---- and back: what was read is written
+  -- ---- and back: what was read is written
+  module _ {Good : A → Type 0} {Legal : W → Type 0} (F : Faithful C Good Legal) where
     words-at : (s : List W) (i : ℕ) → C .width * i + C .width ≤ length s → All Legal s → C .encode (recordAt C s i) ≡ take (C .width) (drop (C .width * i) s)
     unfolding recordAt
     words-at s i h g =
@@ -107,6 +108,6 @@ module _ {W A : Type 0} (C : Codec W A) where
     pub words-records : (s : List W) (n : ℕ) → length s ≡ C .width * n → All Legal s → wordsOf C (records C s) ≡ s
     words-records s n h g =
         let w = C .width in
-        let e : length s / w ≡ n = rw h (NatL.mul-div-cancel-left n (F .some)) in
+        let e : length s / w ≡ n = rw h (NatL.mul-div-cancel-left n (F .readable .some)) in
         let z : w * (0 + n) ≤ length s = rw (h, NatL.zero-add n) (NatL.le-refl (w * n)) in
         ap (λ (k : ℕ). wordsOf C (recordsFrom C k s 0)) e ∙ words-from n s 0 z g ∙ rw (NatL.mul-zero w) (take-all (w * n) s (omega (arith, h)))

@@ -109,9 +109,11 @@ pub words-faithful : WordsFaithful
 unfolding bytesOf wordOf
 words-faithful =
     record {
-      some = omega arith;
-      encode-length = λ z. refl;
-      decode-encode = λ z h. ap signed (unsigned-digits (pattern z) (pattern-range z h)) ∙ signed-pattern z h;
+      readable = record {
+        some = omega arith;
+        encode-length = λ z. refl;
+        decode-encode = λ z h. ap signed (unsigned-digits (pattern z) (pattern-range z h)) ∙ signed-pattern z h;
+      };
       encode-decode = bytes-back;
     }
 

@@ -12,11 +12,15 @@ pub record Codec (W A : Type 0) : Type 0 where
   pub encode : A → List W
   pub decode : List W → A
 
--- Values that are Good, and words that are Legal, go there and back unchanged.
-pub record Faithful {W A : Type 0} (C : Codec W A) (Good : A → Type 0) (Legal : W → Type 0) : Type 0 where
+-- Values that are Good go to words and back unchanged.
+pub record Readable {W A : Type 0} (C : Codec W A) (Good : A → Type 0) : Type 0 where
   pub some : 0 < C .width
   pub encode-length : (a : A) → length (C .encode a) ≡ C .width
   pub decode-encode : (a : A) → Good a → C .decode (C .encode a) ≡ a
+
+-- So do they, and words that are Legal go to values and back unchanged.
+pub record Faithful {W A : Type 0} (C : Codec W A) (Good : A → Type 0) (Legal : W → Type 0) : Type 0 where
+  pub readable : Readable C Good
   pub encode-decode : (r : List W) → length r ≡ C .width → All Legal r → C .encode (C .decode r) ≡ r
 
 module _ {W A : Type 0} (C : Codec W A) where

@@ -84,7 +84,7 @@ fn unsigned(b0: u8, b1: u8, b2: u8, b3: u8) -> u64
 }
 
 // Two's complement at 32 bits.
-fn signed(n: u64) -> i32
+pub fn signed(n: u64) -> i32
     requires { ⌜ n < 4294967296 ⌝ }
     ensures { λ r. ⌜ r ≡ signedOf n ⌝ }
 {
@@ -113,7 +113,7 @@ pub fn load_word(s: &[u8], i: usize) -> i32
 }
 
 // The bits of a word, as a number.
-fn pattern(x: i32) -> u64
+pub fn pattern(x: i32) -> u64
     ensures { λ r. ⌜ r ≡ patternOf x ⌝ }
     ensures range { λ r. ⌜ r < 4294967296 ⌝ }
 {

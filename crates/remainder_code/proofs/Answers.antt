@@ -11,22 +11,22 @@ use borrow.Author.Tests.{lt-ltb, le-ltb}
 use Rattle.lists.specs.Lists.{All}
 use Rattle.lists.proofs.Lists.{all-of}
 use Rattle.records.specs.Limits.{memoryWidth}
-use Rattle.records.specs.Records.{recordsFrom, image}
+use Rattle.records.specs.Records.{Codec, recordsFrom, image}
 use Rattle.records.proofs.Records.{length-from}
 use Rattle.records.proofs.Buffer.{image-records}
 use Rattle.geometry.specs.declared.Trapezoid.{Trapezoid}
 use Rattle.geometry.specs.Limit.{coordinateLimit}
 use Rattle.geometry.specs.Fitness.{FitFor}
 use Rattle.geometry.specs.Trapezoids.{trapezoidCodec}
-use Rattle.geometry.proofs.Trapezoids.{trapezoid-faithful}
 use Rattle.geometry.specs.declared.Fill.{Fill}
 use Rattle.geometry.specs.declared.Fill.the-variants.{NoRoom, Written}
 use Rattle.boolean.specs.declared.Folded.{Folded}
 use Rattle.boolean.specs.declared.Folded.the-variants.{Done}
 use Rattle.boolean.specs.declared.Folded.the-variants as folded
 use Rattle.boolean.specs.Space.{Stage, sizeOf, overlaysOf, overlaid, addition, Space, enough, no-room, plus, space}
-use Rattle.trapezoids_code.specs.Tails.{FilledAs}
-use Rattle.remainder_code.specs.Code.{withOverlays, OverlaysWithin, Remaining, FoldedAs}
+use Rattle.trapezoids_code.specs.Tails.{FilledBy, FilledAs}
+use Rattle.trapezoids_code.proofs.Writing.{Kind, codecOf, plain}
+use Rattle.remainder_code.specs.Code.{withOverlays, OverlaysWithin, Remaining, FoldedBy, FoldedAs}
 use Rattle.remainder_code.specs.Code as code
 
 -- ---- the number of overlays
@@ -52,9 +52,12 @@ overlays-upto room (m ∷ ms) = go (ltb room (sizeOf m)) (space room ms) (overla
     go true s h = omega (arith, stage-one m)
     go false s h = omega (arith, overlays-plus (overlaysOf m) s, stage-one m, h)
 
+pub stages-within : {R : Type 0} (C : Codec ℤ R) (n room : ℕ) (ts : List R) (ms : List Stage) (r : Folded) (d : List ℤ) → FoldedBy C n room ts ms r d → OverlaysWithin (length ms) r
+stages-within C n room ts ms (folded.NoRoom c) d g = let e : overlaysIn (space room ms) ≡ c = ap overlaysIn (g .0) in omega (arith, e, overlays-upto room ms)
+stages-within C n room ts ms (Done p c) d g = let e : overlaysIn (space room ms) ≡ c = ap overlaysIn (g .0) in omega (arith, e, overlays-upto room ms)
+
 pub folded-within : (n room : ℕ) (ts : List Trapezoid) (ms : List Stage) (r : Folded) (d : List ℤ) → FoldedAs n room ts ms r d → OverlaysWithin (length ms) r
-folded-within n room ts ms (folded.NoRoom c) d g = let e : overlaysIn (space room ms) ≡ c = ap overlaysIn (g .0) in omega (arith, e, overlays-upto room ms)
-folded-within n room ts ms (Done p c) d g = let e : overlaysIn (space room ms) ≡ c = ap overlaysIn (g .0) in omega (arith, e, overlays-upto room ms)
+folded-within = stages-within trapezoidCodec
 
 pub within-least : (m n : ℕ) (r : Folded) → m ≤ n → OverlaysWithin m r → OverlaysWithin n r
 within-least m n (folded.NoRoom c) l h = omega (arith, l, h)
@@ -84,16 +87,22 @@ abbrev pub once : Fill → Folded
 once NoRoom = folded.NoRoom 1
 once (Written n) = Done n 1
 
-pub once-folded : (n room : ℕ) (ts : List Trapezoid) (f : Fill) (d : List ℤ) → FilledAs n room ts f d → FoldedAs n room ts (overlaid (length ts) ∷ []) (once f) d
+pub fill-folded : {R : Type 0} (C : Codec ℤ R) (n room : ℕ) (ts : List R) (f : Fill) (d : List ℤ) → FilledBy C n room ts f d → FoldedBy C n room ts (overlaid (length ts) ∷ []) (once f) d
 unfolding space
-once-folded n room ts NoRoom d g = (rw (lt-ltb room (length ts) (g .0)) refl, g .1)
-once-folded n room ts (Written m) d g = (space-overlaid room (length ts) (g .1), g)
+fill-folded C n room ts NoRoom d g = (rw (lt-ltb room (length ts) (g .0)) refl, g .1)
+fill-folded C n room ts (Written m) d g = (space-overlaid room (length ts) (g .1), g)
+
+pub once-folded : (n room : ℕ) (ts : List Trapezoid) (f : Fill) (d : List ℤ) → FilledAs n room ts f d → FoldedAs n room ts (overlaid (length ts) ∷ []) (once f) d
+once-folded = fill-folded trapezoidCodec
 
 -- ---- the tail
+pub filled-first : {R : Type 0} (K : Kind R) (n room : ℕ) (ts : List R) (p : ℕ) (t : List ℤ) → FilledBy (codecOf K) n room ts (Written p) t → recordsFrom (codecOf K) p t 0 ≡ ts
+filled-first {R} K n room ts p t g =
+    ap (λ (q : ℕ). recordsFrom (codecOf K) q t 0) (g .0) ∙ ap (λ (u : List ℤ). recordsFrom (codecOf K) (length ts) u 0) (g .2)
+    ∙ image-records (codecOf K) (K .readable) n ts (all-of (λ (t : R). Unit {0}) (λ t. tt) ts)
+
 pub filled-leading : (n room : ℕ) (ts : List Trapezoid) (p : ℕ) (t : List ℤ) → FilledAs n room ts (Written p) t → code.leading t p ≡ ts
-filled-leading n room ts p t g =
-    ap (λ (q : ℕ). recordsFrom trapezoidCodec q t 0) (g .0) ∙ ap (λ (u : List ℤ). recordsFrom trapezoidCodec (length ts) u 0) (g .2)
-    ∙ image-records trapezoidCodec trapezoid-faithful n ts (all-of (λ (t : Trapezoid). Unit {0}) (λ t. tt) ts)
+filled-leading = filled-first plain
 
 pub filled-remaining : (n room : ℕ) (ts : List Trapezoid) (p : ℕ) (t : List ℤ) → FilledAs n room ts (Written p) t → length t ≡ n → memoryWidth * room ≤ n → All (FitFor coordinateLimit) ts → Remaining t p room
 filled-remaining n room ts p t g l w f =

@@ -18,7 +18,7 @@ use Rattle.geometry.specs.declared.Trapezoid.{Trapezoid}
 use Rattle.geometry.specs.Limit.{coordinateLimit}
 use Rattle.geometry.specs.Fitness.{FitFor}
 use Rattle.geometry.specs.Trapezoids.{trapezoidCodec, layerOf}
-use Rattle.geometry.proofs.Trapezoids.{trapezoid-faithful}
+use Rattle.geometry.proofs.Trapezoids.{trapezoid-readable}
 use Rattle.trapezoids_code.proofs.Writing.{tail}
 use Rattle.remainder_code.specs.Code.{front, rest, leading, Remaining, ScratchFor}
 
@@ -87,15 +87,15 @@ module _ (d : List ℤ) (k room : ℕ) (h : Remaining d k room) where
   size = ap (λ (m : ℕ). memoryWidth * m) (length-from trapezoidCodec k d 0)
 
   pub front-words : front d k ≡ wordsOf trapezoidCodec (leading d k)
-  front-words = ap (λ (m : ℕ). take m d) (sym size) ∙ ap (take (memoryWidth * length (leading d k))) (h .is) ∙ image-take trapezoidCodec trapezoid-faithful (length d) (leading d k)
+  front-words = ap (λ (m : ℕ). take m d) (sym size) ∙ ap (take (memoryWidth * length (leading d k))) (h .is) ∙ image-take trapezoidCodec trapezoid-readable (length d) (leading d k)
 
   pub rest-blanks : rest d k ≡ replicate (length d - memoryWidth * k) (pos 0)
   rest-blanks =
-      ap (λ (m : ℕ). drop m d) (sym size) ∙ ap (drop (memoryWidth * length (leading d k))) (h .is) ∙ image-drop trapezoidCodec trapezoid-faithful (length d) (leading d k)
+      ap (λ (m : ℕ). drop m d) (sym size) ∙ ap (drop (memoryWidth * length (leading d k))) (h .is) ∙ image-drop trapezoidCodec trapezoid-readable (length d) (leading d k)
       ∙ ap (λ (m : ℕ). replicate (length d - m) (pos 0)) size
 
   pub front-leading : layerOf (front d k) ≡ leading d k
-  front-leading = ap layerOf front-words ∙ records-words trapezoidCodec trapezoid-faithful (leading d k) (all-of (λ (t : Trapezoid). Unit {0}) (λ t. tt) (leading d k))
+  front-leading = ap layerOf front-words ∙ records-words trapezoidCodec trapezoid-readable (leading d k) (all-of (λ (t : Trapezoid). Unit {0}) (λ t. tt) (leading d k))
 
   pub leading-fit : All (FitFor coordinateLimit) (layerOf (front d k))
   leading-fit = subst (All (FitFor coordinateLimit)) (sym front-leading) (h .fit)

@@ -21,6 +21,7 @@ use Rattle.boolean.specs.declared.Folded.the-variants.{NoRoom, Done}
 use Rattle.boolean.specs.Space.{overlaid, enough, no-room, space, minusStages}
 use Rattle.boolean.proofs.Shifting.{overlaid-shift}
 use Rattle.trapezoids_code.specs.Tails.{Borrowed, FilledAs}
+use Rattle.trapezoids_code.proofs.Writing.{plain}
 use Rattle.remainder_code.specs.Code.{FoldedAs}
 use Rattle.remainder_code.proofs.Answers.{once, once-folded}
 use Rattle.remainder_code.proofs.Folding.{Fold, Steps, Folding, blank-start, fold-no-room, fold-next, Part, appending, appending-steps}
@@ -48,13 +49,13 @@ stages-length k [] b = refl
 stages-length k (r ∷ rs) b = let h = stages-length (k + length (tagged 1 (overlay r b))) rs b in omega (arith, h)
 
 module _ (b : Trapezoid) where
-  abbrev pub minusFold : Fold
+  abbrev pub minusFold : Fold Trapezoid Trapezoid
   minusFold =
-      appending (λ rs. minus rs b) (λ k rs. minusStages k rs b) (λ r. tagged 1 (overlay r b)) (λ k r left. overlaid (k + length (tagged 1 (overlay r b)) + left) ∷ [])
+      appending plain plain (λ rs. minus rs b) (λ k rs. minusStages k rs b) (λ r. tagged 1 (overlay r b)) (λ k r left. overlaid (k + length (tagged 1 (overlay r b)) + left) ∷ [])
 
   pub minus-steps : Steps minusFold
   minus-steps =
-      appending-steps (λ rs. minus rs b) (λ k rs. minusStages k rs b) (λ r. tagged 1 (overlay r b)) (λ k r left. overlaid (k + length (tagged 1 (overlay r b)) + left) ∷ [])
+      appending-steps plain plain (λ rs. minus rs b) (λ k rs. minusStages k rs b) (λ r. tagged 1 (overlay r b)) (λ k r left. overlaid (k + length (tagged 1 (overlay r b)) + left) ∷ [])
       (minus-none b) (λ r rs. minus-one r b rs) (λ room k. stages-none room k b) (λ k r rs. stages-one k r b rs)
 
   -- those not yet reached count against the room
@@ -75,7 +76,7 @@ module _ (b : Trapezoid) where
     parts = tagged 1 (overlay a b)
 
     start : Folding minusFold (length d) room (minus (layerOf layer) b) (minusStages 0 (layerOf layer) b) layer d 0 0 0
-    start = blank-start minusFold minus-steps room layer d w fit
+    start = blank-start minusFold minus-steps room layer d (minusStages 0 (layerOf layer) b) refl w fit
 
     part : Part minusFold room (start .done) a (count trapezoidCodec layer - 1) free parts (overlaid (length parts) ∷ [])
     part = minus-part a free (start .size) (omega (arith, few, l))

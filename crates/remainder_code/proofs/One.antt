@@ -5,7 +5,7 @@ use Prim.Native.Nat.{ℕ, _+_, _*_, _<_, _≤_}
 use native.Mathlib.Omega.{arith}
 use lib.ListN.{length, drop}
 use lib.Seq.{drop-at}
-use lib.IntN.{ℤ}
+use lib.IntN.{ℤ, pos}
 use Rattle.records.specs.Limits.{memoryWidth}
 use Rattle.records.specs.Records.{recordAt, recordsFrom, count}
 use Rattle.records.proofs.Records.{from-start, from-step, from-none, length-from}
@@ -37,7 +37,7 @@ pub whole-no-room : (room : ℕ) → room ≡ 0 → space room (addition 1 ∷ [
 unfolding space
 whole-no-room room e = rw e refl
 
-pub whole-done : (d : List ℤ) (room : ℕ) → Borrowed d room → 1 ≤ room → (t : Trapezoid) → FoldedAs (length d) room (t ∷ []) (addition 1 ∷ []) (Done 1 0) (trapezoidWords t ++ drop memoryWidth d)
+pub whole-done : (d : List ℤ) (room : ℕ) → Borrowed d room → 1 ≤ room → (t : Trapezoid) → FoldedAs (length d) room (t ∷ []) (addition 1 ∷ []) (Done 1 0) ((trapezoidWords t ++ (pos 0 ∷ [])) ++ drop memoryWidth d)
 whole-done d room h l t = (space-added room 1 l, fill-one d room h t l)
 
 no-stages : (a : Trapezoid) → oneStages 0 a [] ≡ addition 1 ∷ []

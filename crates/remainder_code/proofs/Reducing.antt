@@ -19,6 +19,7 @@ use Rattle.boolean.specs.declared.Folded.the-variants.{NoRoom, Done}
 use Rattle.boolean.specs.Operations.{minus, minusAll}
 use Rattle.boolean.specs.Space.{enough, space, minusStages, minusAllStages}
 use Rattle.boolean.proofs.Kept.{minus-fit}
+use Rattle.trapezoids_code.proofs.Writing.{plain}
 use Rattle.remainder_code.specs.Code.{from, leading, OverlaysWithin, Remaining, FoldedAs, ScratchFor}
 use Rattle.remainder_code.proofs.Answers.{folded-within, within-least, within-no-room, within-done, filled-remaining, leading-filled}
 use Rattle.remainder_code.proofs.Folding.{Fold, Steps, Folding, fold-from, fold-leading, fold-stands, fold-fit, fold-no-room, fold-next}
@@ -64,8 +65,8 @@ unfolding minusAllStages minusStages minus space
 all-stages-empty room k [] = refl
 all-stages-empty room k (b ∷ bs) = all-stages-empty room k bs
 
-abbrev pub minusAllFold : Fold
-minusAllFold = record { result = minusAll; stages = λ done ts. minusAllStages 0 done ts; next = minus; turn = λ done b left. minusStages 0 done b }
+abbrev pub minusAllFold : Fold Trapezoid Trapezoid
+minusAllFold = record { kind = plain; items = plain; result = minusAll; stages = λ done ts. minusAllStages 0 done ts; next = minus; turn = λ done b left. minusStages 0 done b }
 
 minus-all-steps : Steps minusAllFold
 minus-all-steps = record { none = all-none; one = all-one; no-stages = λ room done. all-stages-none room 0 done; one-stages = λ done ts b. all-stages-one 0 done ts b }

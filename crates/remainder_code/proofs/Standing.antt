@@ -18,7 +18,7 @@ use Rattle.geometry.specs.declared.Trapezoid.{Trapezoid}
 use Rattle.geometry.specs.Limit.{coordinateLimit}
 use Rattle.geometry.specs.Fitness.{FitFor}
 use Rattle.geometry.specs.Trapezoids.{trapezoidCodec, layerOf}
-use Rattle.geometry.proofs.Trapezoids.{trapezoid-faithful}
+use Rattle.geometry.proofs.Trapezoids.{trapezoid-readable}
 use Rattle.geometry.specs.declared.Fill.the-variants.{Written}
 use Rattle.overlay.specs.Overlaps.{overlaps}
 use Rattle.boolean.specs.declared.Folded.{Folded}
@@ -80,13 +80,13 @@ module _ (d : List ℤ) (n room : ℕ) (h : Remaining d n room) (b : Trapezoid) 
   kept-size = length-take-le p all (omega (arith, stand-upto, size))
 
   joined : (ts : List Trapezoid) → wordsOf trapezoidCodec kept ++ image trapezoidCodec (length d - memoryWidth * p) ts ≡ image trapezoidCodec (length d) (kept ++ ts)
-  joined ts = ap (λ (m : ℕ). wordsOf trapezoidCodec kept ++ image trapezoidCodec (length d - memoryWidth * m) ts) (sym kept-size) ∙ image-append trapezoidCodec trapezoid-faithful (length d) kept ts
+  joined ts = ap (λ (m : ℕ). wordsOf trapezoidCodec kept ++ image trapezoidCodec (length d - memoryWidth * m) ts) (sym kept-size) ∙ image-append trapezoidCodec trapezoid-readable (length d) kept ts
 
   laid : d ≡ wordsOf trapezoidCodec kept ++ image trapezoidCodec (length d - memoryWidth * p) later
   laid = h .is ∙ ap (image trapezoidCodec (length d)) (sym (take-append-drop p all)) ∙ sym (joined later)
 
   words : length (wordsOf trapezoidCodec kept) ≡ memoryWidth * p
-  words = length-words trapezoidCodec trapezoid-faithful kept ∙ ap (λ (m : ℕ). memoryWidth * m) kept-size
+  words = length-words trapezoidCodec trapezoid-readable kept ∙ ap (λ (m : ℕ). memoryWidth * m) kept-size
 
   front-kept : front d p ≡ wordsOf trapezoidCodec kept
   front-kept = ap (take (memoryWidth * p)) laid ∙ take-at (wordsOf trapezoidCodec kept) (image trapezoidCodec (length d - memoryWidth * p) later) (memoryWidth * p) words

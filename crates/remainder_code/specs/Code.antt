@@ -7,7 +7,7 @@ use lib.ListN.{length, take, drop, replicate}
 use lib.IntN.{ℤ, pos}
 use Rattle.lists.specs.Lists.{All}
 use Rattle.records.specs.Limits.{memoryWidth, maxRecords}
-use Rattle.records.specs.Records.{recordAt, recordsFrom, image, count, Blank}
+use Rattle.records.specs.Records.{Codec, recordAt, recordsFrom, image, count, Blank}
 use Rattle.geometry.specs.declared.Trapezoid.{Trapezoid}
 use Rattle.geometry.specs.declared.Placed.{Placed}
 use Rattle.geometry.specs.Limit.{coordinateLimit}
@@ -20,13 +20,17 @@ use Rattle.boolean.specs.declared.Folded.the-variants.{NoRoom, Done}
 use Rattle.boolean.specs.Space.{Stage, enough, no-room, space, minusStages, minusAllStages, oneStages}
 use Rattle.boxes.specs.declared.Found.{Found}
 use Rattle.trapezoids_code.specs.Placed.{PlacedAs}
-use Rattle.trapezoids_code.specs.Tails.{FilledAs}
+use Rattle.trapezoids_code.specs.Tails.{FilledBy}
 
--- of a tail of n words, for a fold with the result ts and the stages ms: there was no room after so many overlays, and the tail is blank; or
--- the tail holds ts and is blank past them
+-- of a tail of n words, for a fold with the result rs, kept as C keeps it, and the stages ms: there was no room after so many overlays, and the tail is
+-- blank; or the tail holds rs and is blank past them
+abbrev pub FoldedBy : {R : Type 0} → Codec ℤ R → ℕ → ℕ → List R → List Stage → Folded → List ℤ → Type 0
+FoldedBy C n room rs ms (NoRoom overlays) d = (space room ms ≡ no-room overlays) × (d ≡ replicate n (pos 0))
+FoldedBy C n room rs ms (Done trapezoids overlays) d = (space room ms ≡ enough overlays) × FilledBy C n room rs (Written trapezoids) d
+
+-- of trapezoids, with empty sets
 abbrev pub FoldedAs : ℕ → ℕ → List Trapezoid → List Stage → Folded → List ℤ → Type 0
-FoldedAs n room ts ms (NoRoom overlays) d = (space room ms ≡ no-room overlays) × (d ≡ replicate n (pos 0))
-FoldedAs n room ts ms (Done trapezoids overlays) d = (space room ms ≡ enough overlays) × FilledAs n room ts (Written trapezoids) d
+FoldedAs n room ts ms r d = FoldedBy trapezoidCodec n room ts ms r d
 
 -- the trapezoids rs minus b, the trapezoids rs minus all of bs, and one trapezoid a minus all of bs and added, written into a tail that was d₀
 abbrev pub MinusWritten : List ℤ → ℕ → List Trapezoid → Trapezoid → Folded → List ℤ → Type 0
@@ -50,12 +54,6 @@ leading d n = recordsFrom trapezoidCodec n d 0
 pub record Remaining (d : List ℤ) (n room : ℕ) : Type 0 where
   pub is : d ≡ image trapezoidCodec (length d) (leading d n)
   pub fit : All (FitFor coordinateLimit) (leading d n)
-  pub within : n ≤ room
-  pub wide : memoryWidth * room ≤ length d
-
--- a buffer that takes `room` trapezoids holds n of them, and is blank past them
-pub record Holding (d : List ℤ) (n room : ℕ) : Type 0 where
-  pub is : d ≡ image trapezoidCodec (length d) (leading d n)
   pub within : n ≤ room
   pub wide : memoryWidth * room ≤ length d
 

@@ -18,6 +18,9 @@ ghost use Rattle.geometry_code.specs.Code.{pointOf};
 // Codes run from 0 to CODES - 1.
 const CODES: u32 = 5;
 
+// Source layers run from 0 to SOURCE_LAYERS - 1.
+const SOURCE_LAYERS: u32 = 32;
+
 // Row 1, of an output and a scratch area of so many words.
 fn buffers_sized(out: usize, scratch: usize) -> bool
     ensures { λ r. ⌜ r ≡ buffersSized out scratch ⌝ }
@@ -115,18 +118,25 @@ fn both_checked(limit: u32, a: &[i32], b: &[i32]) -> Checked
     }
 }
 
-// The rows of `fracture`, or of `fracture_first_edition`.
+// The rows of `fracture`, or of `fracture_first_edition`, for a source layer.
 pub fn fracture_checked(
     edition: Edition,
     limit: u32,
+    layer: u32,
     file: &[u8],
     out: usize,
     scratch: usize,
 ) -> Checked
-    ensures { λ r. ⌜ r ≡ fractureChecked edition limit (now (file .entry)) out scratch ⌝ }
+    ensures { λ r. ⌜ r ≡ fractureChecked edition limit layer (now (file .entry)) out scratch ⌝ }
 {
     if buffers_sized(out, scratch) {
-        return files_code::check_polygon_file(edition, file, limit);
+        if layer < SOURCE_LAYERS {
+            return files_code::check_polygon_file(edition, file, limit);
+        }
+        return Checked::Refused {
+            number: 14,
+            place: 0,
+        };
     }
     Checked::Refused {
         number: 1,

@@ -9,9 +9,11 @@ use Rattle.records.specs.Limits.{maxRecords}
 use Rattle.geometry.specs.declared.Trapezoid.{Trapezoid}
 use Rattle.geometry.specs.declared.Checked.the-variants.{Passed, Refused}
 use Rattle.geometry.specs.Trapezoids.{layerOf}
+use Rattle.sources.specs.Sourced.{Sourced, sourcedOf}
 use Rattle.boolean.specs.declared.Folded.{Folded}
 use Rattle.boolean.specs.declared.Folded.the-variants.{NoRoom, Done}
-use Rattle.boolean.specs.Operations.{codeAt, result, difference, OperandOf}
+use Rattle.boolean.specs.Operations.{codeAt, difference, OperandOf}
+use Rattle.boolean.specs.Sources.{sourcedResult}
 use Rattle.boolean.specs.Space.{Stage, space, stages, equalityStages}
 use Rattle.boolean.specs.declared.Compared.{Compared}
 use Rattle.boolean.specs.declared.Compared.the-variants as comparison
@@ -19,48 +21,49 @@ use Rattle.files.specs.Outcomes.{Answer, refused, done, SmallAnswer}
 use Rattle.calls.specs.Answers.{EqualityAnswer, refused-equality, same, differs, SmallEqualityAnswer}
 use Rattle.calls.specs.Rows.{bothDisjoint}
 use Rattle.calls.specs.Outcomes.{Outcome, observed, zeros, roomOf, written, outcome, compared, comparedIn, equalityOutcome}
-use Rattle.remainder_code.specs.Code.{maxOverlays, OverlaysWithin, FoldedAs}
+use Rattle.remainder_code.specs.Code.{maxOverlays, OverlaysWithin}
+use Rattle.bearing_code.specs.Code.{SourcedAs}
 use Rattle.equality_code.specs.Code.{ComparedAs, ComparedWithin}
 
 -- ---- operations that write trapezoids
-module _ (room : ℕ) (ts : List Trapezoid) (ms : List Stage) (f : Folded) (n m : ℕ) (d s : List ℤ) (h : FoldedAs m room ts ms f d) (e : m ≡ n) (z : s ≡ zeros n) where
-  folded : FoldedAs n room ts ms f d
-  folded = subst (λ (m : ℕ). FoldedAs m room ts ms f d) e h
+module _ (room : ℕ) (ts : List Sourced) (ms : List Stage) (f : Folded) (n m : ℕ) (d s : List ℤ) (h : SourcedAs m room ts ms f d) (e : m ≡ n) (z : s ≡ zeros n) where
+  folded : SourcedAs n room ts ms f d
+  folded = subst (λ (m : ℕ). SourcedAs m room ts ms f d) e h
 
   pub written-no-room : {c : ℕ} → f ≡ NoRoom c → observed (refused 12 0) d s ≡ written n ts (space room ms)
-  written-no-room g = let k = subst (λ (f : Folded). FoldedAs n room ts ms f d) g folded in rw (k .0, k .1, z)
+  written-no-room g = let k = subst (λ (f : Folded). SourcedAs n room ts ms f d) g folded in rw (k .0, k .1, z)
 
   pub written-done : {t c : ℕ} → f ≡ Done t c → observed (done t c) d s ≡ written n ts (space room ms)
-  written-done g = let k = subst (λ (f : Folded). FoldedAs n room ts ms f d) g folded in rw (k .0, k .1 .0, k .1 .2, z)
+  written-done g = let k = subst (λ (f : Folded). SourcedAs n room ts ms f d) g folded in rw (k .0, k .1 .0, k .1 .2, z)
 
   pub small-done : room ≤ maxRecords → OverlaysWithin maxOverlays f → {t c : ℕ} → f ≡ Done t c → SmallAnswer (done t c)
   small-done l o {t} {c} g =
-      let k = subst (λ (f : Folded). FoldedAs n room ts ms f d) g folded in
+      let k = subst (λ (f : Folded). SourcedAs n room ts ms f d) g folded in
       let w : c ≤ maxOverlays = subst (OverlaysWithin maxOverlays) g o in
       (omega (arith, l, k .1 .0, k .1 .1), omega (arith, w))
 
 module _ (code : ℕ) (a b out scratch : List ℤ) where
   abbrev searched : Outcome Answer
-  searched = outcome (bothDisjoint a b) out scratch (result (codeAt code) (layerOf a) (layerOf b)) (stages (codeAt code) (layerOf a) (layerOf b))
+  searched = outcome (bothDisjoint a b) out scratch (sourcedResult (codeAt code) (sourcedOf a) (sourcedOf b)) (stages (codeAt code) (layerOf a) (layerOf b))
 
   pub combine-refuses : {n p : ℕ} → bothDisjoint a b ≡ Refused n p → observed (refused n p) out scratch ≡ searched
   combine-refuses e = rw e
 
   combine-written : bothDisjoint a b ≡ Passed
-      → written (length out) (result (codeAt code) (layerOf a) (layerOf b)) (space (roomOf out) (stages (codeAt code) (layerOf a) (layerOf b))) ≡ searched
+      → written (length out) (sourcedResult (codeAt code) (sourcedOf a) (sourcedOf b)) (space (roomOf out) (stages (codeAt code) (layerOf a) (layerOf b))) ≡ searched
   combine-written e = rw e
 
   module _ (e : bothDisjoint a b ≡ Passed) (f : Folded) (m : ℕ) (d s : List ℤ)
-      (h : FoldedAs m (roomOf out) (result (codeAt code) (layerOf a) (layerOf b)) (stages (codeAt code) (layerOf a) (layerOf b)) f d)
+      (h : SourcedAs m (roomOf out) (sourcedResult (codeAt code) (sourcedOf a) (sourcedOf b)) (stages (codeAt code) (layerOf a) (layerOf b)) f d)
       (l : m ≡ length out) (z : s ≡ zeros (length out)) where
     pub combine-no-room : {c : ℕ} → f ≡ NoRoom c → observed (refused 12 0) d s ≡ searched
     combine-no-room g =
-        written-no-room (roomOf out) (result (codeAt code) (layerOf a) (layerOf b)) (stages (codeAt code) (layerOf a) (layerOf b)) f (length out) m d s h l z g
+        written-no-room (roomOf out) (sourcedResult (codeAt code) (sourcedOf a) (sourcedOf b)) (stages (codeAt code) (layerOf a) (layerOf b)) f (length out) m d s h l z g
         ∙ combine-written e
 
     pub combine-done : {t c : ℕ} → f ≡ Done t c → observed (done t c) d s ≡ searched
     combine-done g =
-        written-done (roomOf out) (result (codeAt code) (layerOf a) (layerOf b)) (stages (codeAt code) (layerOf a) (layerOf b)) f (length out) m d s h l z g
+        written-done (roomOf out) (sourcedResult (codeAt code) (sourcedOf a) (sourcedOf b)) (stages (codeAt code) (layerOf a) (layerOf b)) f (length out) m d s h l z g
         ∙ combine-written e
 
 -- ---- the equality test

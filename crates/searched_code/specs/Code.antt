@@ -4,7 +4,9 @@ use mathlib.Core.List.{List}
 use Prim.Native.Nat.{ℕ}
 use lib.IntN.{ℤ}
 use Rattle.geometry.specs.Trapezoids.{layerOf}
-use Rattle.boolean.specs.Operations.{codeAt, result, difference}
+use Rattle.sources.specs.Sourced.{sourcedOf}
+use Rattle.boolean.specs.Operations.{codeAt, difference}
+use Rattle.boolean.specs.Sources.{sourcedResult}
 use Rattle.boolean.specs.Space.{space, stages, equalityStages}
 use Rattle.calls.specs.declared.Combined.{Combined}
 use Rattle.calls.specs.declared.Equality.{Equality}
@@ -15,7 +17,7 @@ use Rattle.calls.specs.Outcomes.{observed, roomOf, outcome, comparedIn, equalit
 abbrev pub CombineSearched : ℕ → List ℤ → List ℤ → List ℤ → List ℤ → Combined → List ℤ → List ℤ → Type 0
 CombineSearched code a b out scratch answer out-then scratch-then =
     observed (combinedAnswer answer) out-then scratch-then
-    ≡ outcome (bothDisjoint a b) out scratch (result (codeAt code) (layerOf a) (layerOf b)) (stages (codeAt code) (layerOf a) (layerOf b))
+    ≡ outcome (bothDisjoint a b) out scratch (sourcedResult (codeAt code) (sourcedOf a) (sourcedOf b)) (stages (codeAt code) (layerOf a) (layerOf b))
 
 abbrev pub EqualSearched : List ℤ → List ℤ → List ℤ → List ℤ → Equality → List ℤ → List ℤ → Type 0
 EqualSearched a b out scratch answer out-then scratch-then =

@@ -18,7 +18,7 @@ use Rattle.records.proofs.Records.{length-from, from-append}
 use Rattle.records.proofs.Buffer.{length-image, image-none, image-one, tail-length, tail-blank, tail-back}
 use Rattle.geometry.specs.declared.Trapezoid.{Trapezoid}
 use Rattle.geometry.specs.Trapezoids.{trapezoidCodec, trapezoidWords, layerOf}
-use Rattle.geometry.proofs.Trapezoids.{trapezoid-faithful}
+use Rattle.geometry.proofs.Trapezoids.{trapezoid-readable}
 use Rattle.connectivity.proofs.Joining.{less-than, same-or-not}
 use Rattle.extraction.specs.Shapes.{havingNumber}
 use Rattle.shapes_code.specs.Code.{groupsBelow, GroupedBelow, GroupedAs}
@@ -118,21 +118,21 @@ module _ {k : ℕ} {s : List ℤ} {ns : List ℕ} {m : ℕ} {d : List ℤ} {j : 
       room = omega (arith, gather-few, h .wide)
 
       pub gather-room : memoryWidth ≤ length (midOf (memoryWidth * m) (length d - memoryWidth * m) d)
-      gather-room = omega (arith, tail-length trapezoidCodec trapezoid-faithful (length d) m d (gathered k s ns j) (h .is) (h .many) room, gather-few, h .wide)
+      gather-room = omega (arith, tail-length trapezoidCodec trapezoid-readable (length d) m d (gathered k s ns j) (h .is) (h .many) room, gather-few, h .wide)
 
-      pub gather-add : (t : Trapezoid) → t ≡ recordAt trapezoidCodec s j → (w : List ℤ) → w ≡ trapezoidWords t ++ drop memoryWidth (midOf (memoryWidth * m) (length d - memoryWidth * m) d)
+      pub gather-add : (t : Trapezoid) → t ≡ recordAt trapezoidCodec s j → (w : List ℤ) → w ≡ (trapezoidWords t ++ (pos 0 ∷ [])) ++ drop memoryWidth (midOf (memoryWidth * m) (length d - memoryWidth * m) d)
           → Gathering k s ns (m + 1) (putMid (memoryWidth * m) (length d - memoryWidth * m) d w) (j + 1)
       gather-add t e w f =
           let a = gathered k s ns j in
           let tail = midOf (memoryWidth * m) (length d - memoryWidth * m) d in
-          let size = tail-length trapezoidCodec trapezoid-faithful (length d) m d a (h .is) (h .many) room in
-          let blank = tail-blank trapezoidCodec trapezoid-faithful (length d) m d a (h .is) (h .many) room in
+          let size = tail-length trapezoidCodec trapezoid-readable (length d) m d a (h .is) (h .many) room in
+          let blank = tail-blank trapezoidCodec trapezoid-readable (length d) m d a (h .is) (h .many) room in
           let g : w ≡ image trapezoidCodec (length d - memoryWidth * m) (t ∷ [])
-          = f ∙ image-one trapezoidCodec trapezoid-faithful t tail blank ∙ ap (λ (n : ℕ). image trapezoidCodec n (t ∷ [])) size in
+          = f ∙ image-one trapezoidCodec trapezoid-readable t tail blank ∙ ap (λ (n : ℕ). image trapezoidCodec n (t ∷ [])) size in
           let b : putMid (memoryWidth * m) (length d - memoryWidth * m) d w ≡ image trapezoidCodec (length d) (gathered k s ns (j + 1))
-          = tail-back trapezoidCodec trapezoid-faithful (length d) m d a (h .is) (h .many) room w (t ∷ []) g ∙ ap (image trapezoidCodec (length d)) (ap (λ (u : Trapezoid). a ++ (u ∷ [])) e ∙ sym next) in
+          = tail-back trapezoidCodec trapezoid-readable (length d) m d a (h .is) (h .many) room w (t ∷ []) g ∙ ap (image trapezoidCodec (length d)) (ap (λ (u : Trapezoid). a ++ (u ∷ [])) e ∙ sym next) in
           let n : length (putMid (memoryWidth * m) (length d - memoryWidth * m) d w) ≡ length d
-          = ap length b ∙ length-image trapezoidCodec trapezoid-faithful (length d) (gathered k s ns (j + 1)) (omega (arith, longer, gather-few, h .wide)) in
+          = ap length b ∙ length-image trapezoidCodec trapezoid-readable (length d) (gathered k s ns (j + 1)) (omega (arith, longer, gather-few, h .wide)) in
           record {
             one-each = h .one-each;
             wide = n ∙ h .wide;
@@ -152,7 +152,7 @@ pub group-start : {s : List ℤ} {ns ends : List ℕ} {d : List ℤ} → length 
 unfolding groupsBelow
 group-start {s} {ns} {ends} {d} o e w z =
     record {
-      below = record { one-each = o; wide = w; is = z ∙ sym (image-none trapezoidCodec trapezoid-faithful (length d)); many = refl };
+      below = record { one-each = o; wide = w; is = z ∙ sym (image-none trapezoidCodec trapezoid-readable (length d)); many = refl };
       long = e;
       each = λ i l. absurd (omega (arith, l));
       upto = omega arith;

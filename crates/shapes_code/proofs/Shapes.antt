@@ -16,7 +16,7 @@ use Rattle.geometry.specs.declared.Trapezoid.{Trapezoid}
 use Rattle.geometry.specs.Limit.{coordinateLimit}
 use Rattle.geometry.specs.Fitness.{FitFor, FitLayer}
 use Rattle.geometry.specs.Trapezoids.{trapezoidCodec, layerOf}
-use Rattle.geometry.proofs.Trapezoids.{trapezoid-faithful}
+use Rattle.geometry.proofs.Trapezoids.{trapezoid-readable}
 use Rattle.connectivity.specs.Paths.{TouchAt}
 use Rattle.connectivity.specs.Components.{componentNumbers}
 use Rattle.connectivity.proofs.Paths.{chain-here}
@@ -59,7 +59,7 @@ module _ {s : List ℤ} (h : FitLayer s) where
     grouped-layer =
         ap (λ (n : ℕ). recordsFrom trapezoidCodec n d 0) (grouped-count ∙ sym (g .all .one-each) ∙ sym many)
         ∙ ap (λ (w : List ℤ). recordsFrom trapezoidCodec (length G) w 0) (g .all .is)
-        ∙ image-records trapezoidCodec trapezoid-faithful (length d) G (all-of (λ (t : Trapezoid). Unit {0}) (λ t. tt) G)
+        ∙ image-records trapezoidCodec trapezoid-readable (length d) G (all-of (λ (t : Trapezoid). Unit {0}) (λ t. tt) G)
 
     pub grouped-fit : All (FitFor coordinateLimit) (layerOf d)
     grouped-fit = subst (All (FitFor coordinateLimit)) (sym grouped-layer) (below-fit (FitFor coordinateLimit) N ns (layerOf s) (h .fit))

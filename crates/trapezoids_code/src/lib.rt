@@ -13,6 +13,7 @@ ghost use mathlib.Core.Path.{_≡_};
 ghost use mathlib.Core.List.{_++_, [], _∷_};
 ghost use Prim.Native.Nat.{_<_, _+_, _*_, _≤_};
 ghost use lib.ListN.{length, drop};
+ghost use lib.IntN.{pos};
 ghost use lib.Seq.{sets};
 ghost use Rattle.lists.specs.Lists.{All};
 ghost use Rattle.records.specs.Limits.{memoryWidth};
@@ -77,10 +78,10 @@ pub fn store_line(s: &mut [i32], at: usize, l: Line)
     s[at + 3] = y2;
 }
 
-// To the first record of a part of a buffer.
+// To the first record of a part of a buffer, with an empty set of source layers.
 pub fn store(s: &mut [i32], t: Trapezoid)
     requires { ⌜ memoryWidth ≤ length (now s) ⌝ }
-    ensures { λ _. ⌜ now (s .exit) ≡ trapezoidWords t ++ drop memoryWidth (now (s .entry)) ⌝ }
+    ensures { λ _. ⌜ now (s .exit) ≡ (trapezoidWords t ++ (pos 0 ∷ [])) ++ drop memoryWidth (now (s .entry)) ⌝ }
 {
     let left = t.left;
     let right = t.right;
@@ -96,6 +97,7 @@ pub fn store(s: &mut [i32], t: Trapezoid)
     store_line(s, 12, d);
     store_line(s, 16, bottom);
     store_line(s, 20, top);
+    s[records::FILE_WIDTH] = 0;
 }
 
 pub fn place(t: Trapezoid) -> Placed

@@ -22,7 +22,7 @@ use Rattle.geometry.specs.declared.Fill.the-variants.{NoRoom, Written}
 use Rattle.connectivity.specs.Components.{ownNumbers}
 use Rattle.connectivity.proofs.Joining.{same-or-not}
 use Rattle.extraction.specs.Extraction.{Triple, tripleWords, tripleIf, tripleCodec}
-use Rattle.extraction.proofs.Codec.{triples-faithful}
+use Rattle.extraction.proofs.Codec.{triples-readable}
 use Rattle.lists.proofs.Each.{each-append}
 use Rattle.triples_code.specs.Code.{emitterTriples, leadingTriples, HoldsTriples, TriplesAdded, TriplesFilled}
 
@@ -35,19 +35,19 @@ put-holds d n t h w =
     let mid = midOf (3 * n) (length d - 3 * n) d in
     let ys = tripleWords t ++ drop 3 mid in
     let e : drop (3 * n + 3) d ≡ drop 3 mid = sym (drop-drop 3 (3 * n) d) ∙ ap (drop 3) (sym (mid-tail (3 * n) d)) in
-    let l : length mid ≡ length d - 3 * n = tail-length tripleCodec triples-faithful (length d) n d a (h .is) full (h .wide) in
+    let l : length mid ≡ length d - 3 * n = tail-length tripleCodec triples-readable (length d) n d a (h .is) full (h .wide) in
     let y : ys ≡ image tripleCodec (length d - 3 * n) (t ∷ [])
-    = image-one tripleCodec triples-faithful t mid (tail-blank tripleCodec triples-faithful (length d) n d a (h .is) full (h .wide)) ∙ ap (λ (k : ℕ). image tripleCodec k (t ∷ [])) l in
+    = image-one tripleCodec triples-readable t mid (tail-blank tripleCodec triples-readable (length d) n d a (h .is) full (h .wide)) ∙ ap (λ (k : ℕ). image tripleCodec k (t ∷ [])) l in
     rw (add-one, add-two) (sets-eq (tripleWords t) d (3 * n) (omega arith))
     ∙ append-assoc (take (3 * n) d) (tripleWords t) (drop (3 * n + 3) d)
     ∙ ap (λ (r : List ℕ). take (3 * n) d ++ (tripleWords t ++ r)) e
     ∙ sym (put-tail (3 * n) d ys (h .wide))
-    ∙ tail-back tripleCodec triples-faithful (length d) n d a (h .is) full (h .wide) ys (t ∷ []) y
+    ∙ tail-back tripleCodec triples-readable (length d) n d a (h .is) full (h .wide) ys (t ∷ []) y
 
 -- a blank list holds none
 pub holds-blank : (d : List ℕ) → Blank 0 d → HoldsTriples d 0
 unfolding recordsFrom
-holds-blank d z = record { is = z ∙ sym (image-none tripleCodec triples-faithful (length d)); wide = omega arith }
+holds-blank d z = record { is = z ∙ sym (image-none tripleCodec triples-readable (length d)); wide = omega arith }
 
 -- ---- what a function makes of the numbers 0 to n − 1, one after the other
 module _ {A : Type 0} where
@@ -88,7 +88,7 @@ module _ {f : ℕ → List Triple} {l : ℕ} {d₀ : List ℕ} {n i m : ℕ} {d 
       let a = leadingTriples d₀ n ++ each f (ownNumbers i) in
       ap (λ (s : List ℕ). leadingTriples s m) (h .is)
       ∙ ap (leadingTriples (image tripleCodec (length d₀) a)) held-length
-      ∙ image-records tripleCodec triples-faithful (length d₀) a (all-of (λ (t : Triple). Unit {0}) (λ t. tt) a)
+      ∙ image-records tripleCodec triples-readable (length d₀) a (all-of (λ (t : Triple). Unit {0}) (λ t. tt) a)
 
   pub listing-holds : HoldsTriples d m
   listing-holds = record { is = h .is ∙ rw (h .long, held); wide = omega (arith, h .wide, h .long) }

@@ -43,12 +43,12 @@ pub fn rows() {
 /// Rows for one overlay: A - B and B - A in turn, so that no call repeats the last one.
 fn overlays() {
     // [0,4) by [0,4)
-    let square = "0 0 1 0  0 0 1 1  0 0 1 0  4 0 5 1  0 0 4 0  0 4 4 4";
+    let square = "0 0 1 0  0 0 1 1  0 0 1 0  4 0 5 1  0 0 4 0  0 4 4 4  1";
     // [2,6), above the square, with slanted sides.
-    let apart = "0 0 1 0  2 0 3 1  0 0 1 0  6 0 7 1  2 5 6 6  2 9 6 8";
+    let apart = "0 0 1 0  2 0 3 1  0 0 1 0  6 0 7 1  2 5 6 6  2 9 6 8  2";
     overlay("one overlay, apart", square, apart);
     // Its bottom crosses that of the square at 2, its top that of the square at 4/3.
-    let wedge = "0 0 1 0  1 0 2 1  0 0 1 0  3 0 4 1  0 -1 4 1  0 5 4 2";
+    let wedge = "0 0 1 0  1 0 2 1  0 0 1 0  3 0 4 1  0 -1 4 1  0 5 4 2  2";
     overlay("one overlay, overlapping", square, wedge);
 }
 

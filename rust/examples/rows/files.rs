@@ -4,14 +4,14 @@ use super::layers::Apart;
 use super::print;
 use super::timing::{in_turn, Timed};
 use crate::reference::{self, WORDS};
-use crate::support::files::{file_bytes, file_words};
+use crate::support::files::{file_bytes, layer_file_words, layers_words};
 use loxurfa::raw;
 use std::hint::black_box;
 
 pub fn rows() {
     let [a, _] = Apart::Grid.layers(22);
-    let words = file_words(&[a], WORDS);
-    let file = file_bytes(&words);
+    let words = layers_words(&[a.clone()], WORDS);
+    let file = file_bytes(&layer_file_words(&[a]));
 
     let (mut out, mut right) = (vec![1; words.len()], vec![1; words.len()]);
     let timed = in_turn(

@@ -10,7 +10,10 @@ use crate::support::Random;
 use loxurfa::raw;
 use std::hint::black_box;
 
-type Fracture = fn(&[u8], &mut [i32], &mut [i32]) -> u64;
+type Fracture = fn(u32, &[u8], &mut [i32], &mut [i32]) -> u64;
+
+/// The layer that is fractured.
+const LAYER: u32 = 5;
 
 /// A reader of polygon files: the call's name, the library's function and the Rust program's.
 type Reader = (&'static str, Fracture, Fracture);
@@ -136,8 +139,8 @@ fn time((_, library, program): Reader, file: &[u8]) -> Timed {
     let area = || (vec![1; LONGEST], vec![1; LONGEST]);
     let ((mut out, mut scratch), (mut right, mut right_scratch)) = (area(), area());
     let timed = in_turn(
-        || library(black_box(file), &mut out, &mut scratch),
-        || program(black_box(file), &mut right, &mut right_scratch),
+        || library(LAYER, black_box(file), &mut out, &mut scratch),
+        || program(LAYER, black_box(file), &mut right, &mut right_scratch),
     );
     assert!(out == right && scratch == right_scratch, "they disagree");
     timed

@@ -9,8 +9,9 @@ static int aligned(const void *pointer, size_t bytes) { return pointer != NULL &
 extern "C" {
 #endif
 
-uint64_t loxurfa_fracture(const uint8_t *file, size_t n, int32_t *out, size_t o, int32_t *scratch, size_t s);
-uint64_t loxurfa_fracture_first_edition(const uint8_t *file, size_t n, int32_t *out, size_t o, int32_t *scratch, size_t s);
+uint64_t loxurfa_fracture(uint32_t layer, const uint8_t *file, size_t n, int32_t *out, size_t o, int32_t *scratch, size_t s);
+uint64_t loxurfa_fracture_first_edition(uint32_t layer, const uint8_t *file, size_t n, int32_t *out, size_t o, int32_t *scratch,
+                                        size_t s);
 uint64_t loxurfa_combine(uint32_t code, const int32_t *a, size_t n, const int32_t *b, size_t m, int32_t *out, size_t o,
                          int32_t *scratch, size_t s);
 uint64_t loxurfa_deoverlap(const int32_t *a, size_t n, int32_t *out, size_t o, int32_t *scratch, size_t s);
@@ -23,15 +24,16 @@ uint64_t loxurfa_transistors(const int32_t *collectors, size_t n, const int32_t 
 uint64_t loxurfa_read_layers(const uint8_t *file, size_t n, int32_t *out, size_t o);
 uint64_t loxurfa_write_layers(const int32_t *words, size_t n, uint8_t *out, size_t o);
 
-uint64_t loxurfa_fracture(const uint8_t *file, size_t n, int32_t *out, size_t o, int32_t *scratch, size_t s)
+uint64_t loxurfa_fracture(uint32_t layer, const uint8_t *file, size_t n, int32_t *out, size_t o, int32_t *scratch, size_t s)
 {
-    (void)n, (void)o, (void)s;
+    (void)layer, (void)n, (void)o, (void)s;
     return aligned(file, 1) && aligned(out, 4) && aligned(scratch, 4);
 }
 
-uint64_t loxurfa_fracture_first_edition(const uint8_t *file, size_t n, int32_t *out, size_t o, int32_t *scratch, size_t s)
+uint64_t loxurfa_fracture_first_edition(uint32_t layer, const uint8_t *file, size_t n, int32_t *out, size_t o, int32_t *scratch,
+                                        size_t s)
 {
-    return loxurfa_fracture(file, n, out, o, scratch, s);
+    return loxurfa_fracture(layer, file, n, out, o, scratch, s);
 }
 
 uint64_t loxurfa_combine(uint32_t code, const int32_t *a, size_t n, const int32_t *b, size_t m, int32_t *out, size_t o,

@@ -1,7 +1,7 @@
 /* Makes the calls that stand on standard input and writes what came of each on standard output; tests/calls.rs compares that with
  * the Rust crate. All numbers are in the machine's form.
  *
- * A call: the function's number, the code, x, y, d; then six buffers, each as the bytes of an element (1 or 4), the number of elements
+ * A call: the function's number, the code or the layer, x, y, d; then six buffers, each as the bytes of an element (1 or 4), the number of elements
  * and the elements. What came of it: the answer; what the header's functions read in it (refused, number, place, value, overlays); the
  * bytes of stack written to; the six buffers' elements.
  *
@@ -57,9 +57,10 @@ static uint64_t perform(struct call *c)
 {
     switch (c->function) {
     case 0:
-        return loxurfa_fracture(bytes(c, 0), count(c, 0), words(c, 1), count(c, 1), words(c, 2), count(c, 2));
+        return loxurfa_fracture(c->code, bytes(c, 0), count(c, 0), words(c, 1), count(c, 1), words(c, 2), count(c, 2));
     case 1:
-        return loxurfa_fracture_first_edition(bytes(c, 0), count(c, 0), words(c, 1), count(c, 1), words(c, 2), count(c, 2));
+        return loxurfa_fracture_first_edition(c->code, bytes(c, 0), count(c, 0), words(c, 1), count(c, 1), words(c, 2),
+                                              count(c, 2));
     case 2:
         return loxurfa_combine(c->code, words(c, 0), count(c, 0), words(c, 1), count(c, 1), words(c, 2), count(c, 2),
                                words(c, 3), count(c, 3));

@@ -1,6 +1,7 @@
 //! Polygon files and layer files (paper: sheets and books).
 
-use super::{accepted, refuse_if, refused, rows_7_to_11, Refusal, LIMIT, NO_SPACE, WORDS};
+use super::{accepted, refuse_if, refused, unfit, Refusal};
+use super::{FILE_WORDS, LIMIT, NO_SPACE, WORDS};
 
 /// The longest file, in bytes.
 pub const LONGEST_FILE: usize = 65_532;
@@ -38,14 +39,17 @@ fn polygons(edition: Edition) -> Kind {
     }
 }
 
-const LAYERS: Kind = Kind {
-    most: 16,
-    shortest: 0,
-    longest: 512,
-    total: 512,
-    unit: WORDS as i64,
-    left_out: false,
-};
+/// Layers whose trapezoids have so many words: those of a file, or those in memory.
+fn layers(unit: usize) -> Kind {
+    Kind {
+        most: 16,
+        shortest: 0,
+        longest: 512,
+        total: 512,
+        unit: unit as i64,
+        left_out: false,
+    }
+}
 
 /// The words of a file, low byte first.
 fn row_4(file: &[u8]) -> Result<Vec<i32>, Refusal> {
@@ -123,39 +127,59 @@ pub fn read_polygons(file: &[u8], edition: Edition) -> Result<Vec<Polygon>, Refu
     Ok(polygons)
 }
 
-/// Rows 5 to 11: the number of trapezoids in a layer file.
-fn check_layers(words: &[i32]) -> Result<u32, Refusal> {
-    let count = row_5(words, &LAYERS)?;
-    let lengths = row_6(words, count, &LAYERS)?;
-    rows_7_to_11(&[&words[1 + 2 * count..]])?;
-    Ok(lengths.iter().sum::<usize>() as u32)
+/// Rows 5 to 11: the directory of layers, and the words of their trapezoids, of which each has `unit`.
+fn check_layers(words: &[i32], unit: usize) -> Result<(&[i32], &[i32]), Refusal> {
+    let kind = layers(unit);
+    let count = row_5(words, &kind)?;
+    row_6(words, count, &kind)?;
+    let (directory, body) = words.split_at(1 + 2 * count);
+    for (place, record) in body.chunks(unit).enumerate() {
+        if let Some(number) = unfit(record) {
+            let place = place as u32;
+            return Err(Refusal { number, place });
+        }
+    }
+    Ok((directory, body))
 }
 
 pub fn read_layers(file: &[u8], out: &mut [i32]) -> u64 {
-    let read = row_4(file).and_then(|words| Ok((check_layers(&words)?, words)));
-    match read {
+    let words = match row_4(file) {
+        Err(refusal) => return refused(refusal),
+        Ok(words) => words,
+    };
+    match check_layers(&words, FILE_WORDS) {
         Err(refusal) => refused(refusal),
-        Ok((pieces, words)) => deliver(pieces, &words, out),
+        Ok((directory, body)) => {
+            // A read trapezoid has an empty set.
+            let mut read = directory.to_vec();
+            for lines in body.chunks(FILE_WORDS) {
+                read.extend(lines);
+                read.push(0);
+            }
+            deliver(body.len() / FILE_WORDS, &read, out)
+        }
     }
 }
 
 pub fn write_layers(words: &[i32], out: &mut [u8]) -> u64 {
-    match check_layers(words) {
+    match check_layers(words, WORDS) {
         Err(refusal) => refused(refusal),
-        Ok(pieces) => {
+        Ok((directory, body)) => {
+            // The set is dropped.
+            let lines = body.chunks(WORDS).flat_map(|record| &record[..FILE_WORDS]);
             let low_first = |&word: &i32| (0..4).map(move |byte| (word >> (8 * byte)) as u8);
-            let file: Vec<u8> = words.iter().flat_map(low_first).collect();
-            deliver(pieces, &file, out)
+            let file: Vec<u8> = directory.iter().chain(lines).flat_map(low_first).collect();
+            deliver(body.len() / WORDS, &file, out)
         }
     }
 }
 
 /// Row 12, or the result with zero past it.
-fn deliver<T: Copy + Default>(pieces: u32, result: &[T], out: &mut [T]) -> u64 {
+fn deliver<T: Copy + Default>(pieces: usize, result: &[T], out: &mut [T]) -> u64 {
     out.fill(T::default());
     if out.len() < result.len() {
         return refused(NO_SPACE);
     }
     out[..result.len()].copy_from_slice(result);
-    accepted(pieces, 0)
+    accepted(pieces as u32, 0)
 }

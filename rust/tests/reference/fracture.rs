@@ -2,7 +2,8 @@
 
 use super::files::{read_polygons, Edition, Polygon};
 use super::{
-    accepted, refused, row_1, Base, Fraction, Line, Point, Trapezoid, LIMIT, NO_SPACE, WORDS,
+    accepted, refused, row_1, row_14, Base, Fraction, Line, Point, Trapezoid, LIMIT, NO_SPACE,
+    WORDS,
 };
 use std::cmp::Ordering;
 
@@ -124,6 +125,7 @@ fn fracture_column(edges: &[Edge], left: Base, right: Base, result: &mut Vec<Tra
                     right,
                     bottom: low,
                     top: line,
+                    sources: 0,
                 });
                 bottom = None;
             }
@@ -133,7 +135,7 @@ fn fracture_column(edges: &[Edge], left: Base, right: Base, result: &mut Vec<Tra
     assert_eq!(sum, 0);
 }
 
-/// The trapezoids of one polygon.
+/// The trapezoids of one polygon, with empty sets.
 pub fn fracture_polygon(polygon: &Polygon) -> Vec<Trapezoid> {
     let edges = edges(polygon);
     let mut result = Vec::new();
@@ -143,16 +145,29 @@ pub fn fracture_polygon(polygon: &Polygon) -> Vec<Trapezoid> {
     result
 }
 
-pub fn fracture(file: &[u8], out: &mut [i32], scratch: &mut [i32]) -> u64 {
-    fracture_edition(Edition::New, file, out, scratch)
+pub fn fracture(layer: u32, file: &[u8], out: &mut [i32], scratch: &mut [i32]) -> u64 {
+    fracture_edition(Edition::New, layer, file, out, scratch)
 }
 
-pub fn fracture_first_edition(file: &[u8], out: &mut [i32], scratch: &mut [i32]) -> u64 {
-    fracture_edition(Edition::First, file, out, scratch)
+pub fn fracture_first_edition(
+    layer: u32,
+    file: &[u8],
+    out: &mut [i32],
+    scratch: &mut [i32],
+) -> u64 {
+    fracture_edition(Edition::First, layer, file, out, scratch)
 }
 
-fn fracture_edition(edition: Edition, file: &[u8], out: &mut [i32], scratch: &mut [i32]) -> u64 {
-    let rows = row_1(&[], out, scratch).and_then(|()| read_polygons(file, edition));
+fn fracture_edition(
+    edition: Edition,
+    layer: u32,
+    file: &[u8],
+    out: &mut [i32],
+    scratch: &mut [i32],
+) -> u64 {
+    let rows = row_1(&[], out, scratch)
+        .and_then(|()| row_14(layer))
+        .and_then(|()| read_polygons(file, edition));
     let polygons = match rows {
         Err(refusal) => return refused(refusal),
         Ok(polygons) => polygons,
@@ -167,7 +182,8 @@ fn fracture_edition(edition: Edition, file: &[u8], out: &mut [i32], scratch: &mu
             return refused(NO_SPACE);
         }
     }
-    for (trapezoid, record) in result.iter().zip(out.chunks_mut(WORDS)) {
+    for (trapezoid, record) in result.iter_mut().zip(out.chunks_mut(WORDS)) {
+        trapezoid.sources = 1 << layer;
         trapezoid.write(record);
     }
     accepted(result.len() as u32, 0)

@@ -13,8 +13,10 @@ pub mod transistors;
 
 use std::cmp::Ordering;
 
-/// Words in a trapezoid.
-pub const WORDS: usize = 24;
+/// Words of a trapezoid's six lines: all that a file has of it.
+pub const FILE_WORDS: usize = 24;
+/// Words in a trapezoid in memory: the set of its source layers comes last.
+pub const WORDS: usize = FILE_WORDS + 1;
 /// The longest layer, output or scratch area, in words.
 pub const LONGEST: usize = 512 * WORDS;
 /// The largest grid coordinate.
@@ -138,10 +140,12 @@ pub struct Trapezoid {
     pub right: Base,
     pub bottom: Line,
     pub top: Line,
+    /// The set of its source layers: 2 to the power of k for each layer k.
+    pub sources: u32,
 }
 
 impl Trapezoid {
-    /// Reads a fit trapezoid.
+    /// Reads a fit trapezoid and its set.
     pub fn read(words: &[i32]) -> Trapezoid {
         let line = |number: usize| Line::new(&words[4 * number..4 * number + 4]);
         let base = |number: usize| {
@@ -154,6 +158,7 @@ impl Trapezoid {
             right: base(2),
             bottom: line(4),
             top: line(5),
+            sources: words[FILE_WORDS] as u32,
         }
     }
 
@@ -172,6 +177,7 @@ impl Trapezoid {
         for (number, line) in self.lines().iter().enumerate() {
             words[4 * number..4 * number + 4].copy_from_slice(&line.words);
         }
+        words[FILE_WORDS] = self.sources as i32;
     }
 
     /// Whether the trapezoid's range holds the position.
@@ -228,7 +234,8 @@ pub fn lies_in(layer: &[Trapezoid], p: Point) -> bool {
 // ---------------------------------------------------------------------------------------------
 // The overlay of two trapezoids (paper: pair cut)
 
-/// A part of an overlay: 1 in A only, 2 in B only, 3 in both.
+/// A part of an overlay: 1 in A only, 2 in B only, 3 in both. It has the set of the one that it lies in, or
+/// both sets joined.
 #[derive(Clone, Copy, Debug)]
 pub struct Part {
     pub tag: u8,
@@ -347,6 +354,11 @@ fn divide_column(a: &Trapezoid, b: &Trapezoid, left: Base, right: Base, parts: &
             Some(low) => line.compare_at(low, x) == Ordering::Equal,
         };
         if !level {
+            let sources = match tag {
+                1 => a.sources,
+                2 => b.sources,
+                _ => a.sources | b.sources,
+            };
             if let (Some(bottom), 1..=3) = (bottom, tag) {
                 parts.push(Part {
                     tag,
@@ -355,6 +367,7 @@ fn divide_column(a: &Trapezoid, b: &Trapezoid, left: Base, right: Base, parts: &
                         right,
                         bottom,
                         top: line,
+                        sources,
                     },
                 });
             }
@@ -564,8 +577,9 @@ fn row_3(x: i32, y: i32, d: i32) -> Result<(), Refusal> {
     refuse_if(!within(x) || !within(y), 3, 0)
 }
 
-/// The first of rows 7 to 11 that refuses a trapezoid's 24 words.
+/// The first of rows 7 to 11 that refuses a trapezoid's words. The set is not looked at.
 pub fn unfit(words: &[i32]) -> Option<u8> {
+    let words = &words[..FILE_WORDS];
     // 7: every coordinate on the grid.
     if words.iter().any(|&word| !(-LIMIT..=LIMIT).contains(&word)) {
         return Some(7);
@@ -607,6 +621,11 @@ fn rows_7_to_11(layers: &[&[i32]]) -> Result<(), Refusal> {
         }
     }
     Ok(())
+}
+
+/// Row 14: the number of a source layer.
+fn row_14(layer: u32) -> Result<(), Refusal> {
+    refuse_if(layer > 31, 14, 0)
 }
 
 /// The first overlapping pair of a layer, taken by its later trapezoid and then its earlier, of the first

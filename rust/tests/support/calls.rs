@@ -1,10 +1,10 @@
 //! Calls of every function, with random and damaged input.
 
 use super::cells::cells;
-use super::files::{about, damage_bytes, damage_file, file_bytes, file_words, leave_out};
+use super::files::{about, damage_bytes, damage_file, file_bytes, layers_words, leave_out};
 use super::polygons::{any_polygons, polygon_words};
-use super::{damage, point_near, whole_point, Random, Scene};
-use crate::reference::{self, read_layer, WORDS};
+use super::{damage, damage_records, point_near, whole_point, Random, Scene};
+use crate::reference::{self, read_layer, FILE_WORDS, WORDS};
 use loxurfa::raw;
 
 /// The functions, in the order of include/loxurfa.h.
@@ -50,7 +50,7 @@ impl Function {
     /// The rows of the table that may refuse it, in the order in which they are checked.
     pub fn rows(self) -> &'static [usize] {
         match self {
-            Fracture | FractureFirstEdition => &[1, 4, 5, 6, 7, 12],
+            Fracture | FractureFirstEdition => &[1, 14, 4, 5, 6, 7, 12],
             Combine => &[1, 2, 7, 8, 9, 10, 11, 13, 12],
             Deoverlap => &[1, 7, 8, 9, 10, 11, 12],
             Equal | Transistors => &[1, 7, 8, 9, 10, 11, 13, 12],
@@ -116,6 +116,7 @@ impl Buffer {
 #[derive(Clone, Debug)]
 pub struct Call {
     pub function: Function,
+    /// The code of a set operation, or the layer that is fractured.
     pub code: u32,
     pub point: [i32; 3],
     pub buffers: Vec<Buffer>,
@@ -127,9 +128,9 @@ impl Call {
         use Borrowed::*;
         let (code, [x, y, d]) = (self.code, self.point);
         match (self.function, borrowed) {
-            (Fracture, [Bytes(f), Words(o), Words(s)]) => raw::fracture(f, o, s),
+            (Fracture, [Bytes(f), Words(o), Words(s)]) => raw::fracture(code, f, o, s),
             (FractureFirstEdition, [Bytes(f), Words(o), Words(s)]) => {
-                raw::fracture_first_edition(f, o, s)
+                raw::fracture_first_edition(code, f, o, s)
             }
             (Combine, [Words(a), Words(b), Words(o), Words(s)]) => raw::combine(code, a, b, o, s),
             (Deoverlap, [Words(a), Words(o), Words(s)]) => raw::deoverlap(a, o, s),
@@ -163,9 +164,11 @@ impl Call {
         let (code, [x, y, d]) = (self.code, self.point);
         let mut buffers = self.buffers.clone();
         let answer = match (self.function, &mut buffers[..]) {
-            (Fracture, [Bytes(f), Words(o), Words(s)]) => reference::fracture::fracture(f, o, s),
+            (Fracture, [Bytes(f), Words(o), Words(s)]) => {
+                reference::fracture::fracture(code, f, o, s)
+            }
             (FractureFirstEdition, [Bytes(f), Words(o), Words(s)]) => {
-                reference::fracture::fracture_first_edition(f, o, s)
+                reference::fracture::fracture_first_edition(code, f, o, s)
             }
             (Combine, [Words(a), Words(b), Words(o), Words(s)]) => {
                 reference::combine(code, a, b, o, s)
@@ -227,17 +230,17 @@ fn room(random: &mut Random) -> [Buffer; 2] {
     [out, scratch].map(|words| Buffer::Words(random.garbage(words)))
 }
 
-/// The words of a layer file, fit or damaged.
-fn layer_file(random: &mut Random) -> Vec<i32> {
+/// The words of layers, fit or damaged. A trapezoid has `unit` words.
+fn layer_file(random: &mut Random, unit: usize) -> Vec<i32> {
     let scene = Scene::new(random);
     let layers: Vec<Vec<i32>> = (0..random.below(5))
         .map(|_| scene.layer(random, 3))
         .collect();
-    let mut words = file_words(&layers, WORDS);
+    let mut words = layers_words(&layers, unit);
     let body = 1 + 2 * layers.len();
     match random.below(6) {
-        0 => damage_file(random, &mut words, WORDS),
-        1 | 2 => damage(random, &mut words[body..]),
+        0 => damage_file(random, &mut words, unit),
+        1 | 2 => damage_records(random, &mut words[body..], unit),
         3 => {
             let count = random.below(60);
             words = random.garbage(count);
@@ -272,10 +275,12 @@ fn any_point(random: &mut Random, a: &[i32], b: &[i32]) -> [i32; 3] {
 /// A call of the function.
 pub fn any_call(random: &mut Random, function: Function) -> Call {
     let scene = Scene::new(random);
+    let fractures = matches!(function, Fracture | FractureFirstEdition);
+    let codes = if fractures { 32 } else { 5 };
     let code = match random.below(16) {
         0 => random.next() as u32,
-        1 => 5,
-        _ => random.below(5) as u32,
+        1 => codes as u32,
+        _ => random.below(codes) as u32,
     };
     let mut point = [0, 0, 1];
     let layer = |random: &mut Random| any_layer(random, &scene, function);
@@ -340,14 +345,16 @@ pub fn any_call(random: &mut Random, function: Function) -> Call {
             vec![collectors, bases, emitters, list, out, scratch]
         }
         ReadLayers => {
-            let words = layer_file(random);
-            let out = about(random, words.len());
+            let words = layer_file(random, FILE_WORDS);
+            let sets = words.len() / FILE_WORDS;
+            let out = about(random, words.len() + sets);
             let out = Buffer::Words(random.garbage(out));
             vec![bytes(random, &words), out]
         }
         WriteLayers => {
-            let words = layer_file(random);
-            let out = about(random, 4 * words.len());
+            let words = layer_file(random, WORDS);
+            let sets = words.len() / WORDS;
+            let out = about(random, 4 * (words.len() - sets));
             let out = (0..out).map(|_| random.next() as u8 | 1).collect();
             vec![Buffer::Words(words), Buffer::Bytes(out)]
         }

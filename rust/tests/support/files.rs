@@ -1,6 +1,7 @@
 //! Polygon files and layer files for the tests, fit and damaged.
 
 use super::Random;
+use crate::reference::{FILE_WORDS, WORDS};
 
 /// The words of a file: the count, offset and length of each entry in units, the entries.
 pub fn file_words(entries: &[Vec<i32>], unit: usize) -> Vec<i32> {
@@ -13,6 +14,22 @@ pub fn file_words(entries: &[Vec<i32>], unit: usize) -> Vec<i32> {
     }
     words.extend(entries.concat());
     words
+}
+
+/// The words of layers of which a trapezoid has `unit` words: FILE_WORDS in a file, where sets are left out, or
+/// WORDS in memory.
+pub fn layers_words(layers: &[Vec<i32>], unit: usize) -> Vec<i32> {
+    let kept = |record: &[i32]| record[..record.len().min(unit)].to_vec();
+    let entries: Vec<Vec<i32>> = layers
+        .iter()
+        .map(|layer| layer.chunks(WORDS).flat_map(kept).collect())
+        .collect();
+    file_words(&entries, unit)
+}
+
+/// The words of a layer file.
+pub fn layer_file_words(layers: &[Vec<i32>]) -> Vec<i32> {
+    layers_words(layers, FILE_WORDS)
 }
 
 /// The bytes of a file, low byte first.
@@ -40,7 +57,7 @@ fn off(random: &mut Random, right: i32) -> i32 {
         0 | 1 => right.wrapping_add(1),
         2 | 3 => right.wrapping_sub(1),
         4 => right.wrapping_neg(),
-        5 => right.wrapping_mul(24),
+        5 => right.wrapping_mul(*random.pick(&[24, 25])),
         6 => right | i32::MIN,
         7 => right.wrapping_add(1 << random.below(32)),
         8 => random.next() as i32,

@@ -11,7 +11,7 @@ pub mod polygons;
 pub mod programs;
 pub mod shapes;
 
-use crate::reference::{self, Fraction, Line, Point, Trapezoid, LIMIT, WORDS};
+use crate::reference::{self, Fraction, Line, Point, Trapezoid, FILE_WORDS, LIMIT, WORDS};
 
 /// Rounds of a test: a share, in percent, of LOXURFA_ROUNDS, which counts as 1,000 at least.
 pub fn rounds(percent: usize) -> usize {
@@ -67,6 +67,16 @@ impl Random {
         }
     }
 
+    /// A set of source layers: any word.
+    pub fn sources(&mut self) -> i32 {
+        match self.below(8) {
+            0 => 0,
+            1 | 2 => 1 << self.below(32),
+            3 => *self.pick(&[i32::MIN, i32::MAX, -1]),
+            _ => self.next() as i32,
+        }
+    }
+
     /// Words that a call should overwrite or leave alone.
     pub fn garbage(&mut self, words: usize) -> Vec<i32> {
         (0..words).map(|_| self.next() as i32 | 1).collect()
@@ -77,6 +87,14 @@ impl Random {
 pub fn words(text: &str) -> Vec<i32> {
     let word = |w: &str| w.parse().unwrap_or_else(|_| panic!("{w} is no word"));
     text.split_whitespace().map(word).collect()
+}
+
+/// The layer of the trapezoids whose lines a text names, with empty sets.
+pub fn layer_of(text: &str) -> Vec<i32> {
+    let lines = words(text);
+    assert_eq!(lines.len() % FILE_WORDS, 0, "{text}");
+    let records = lines.chunks(FILE_WORDS);
+    records.flat_map(|lines| [lines, &[0]].concat()).collect()
 }
 
 /// The line 0 0 1 0 and one that crosses it at k.
@@ -94,12 +112,27 @@ pub fn level(y: i32) -> Line {
     Line::new(&[0, y, 1, y])
 }
 
-/// The 24 words of six lines.
+/// The words of a trapezoid with these six lines and an empty set.
 pub fn six_lines(left: [Line; 2], right: [Line; 2], bottom: Line, top: Line) -> Vec<i32> {
     [left[0], left[1], right[0], right[1], bottom, top]
         .iter()
         .flat_map(|line| line.words)
+        .chain([0])
         .collect()
+}
+
+/// Puts a set into each trapezoid of a layer.
+pub fn put_sources(layer: &mut [i32], mut set: impl FnMut() -> i32) {
+    for record in layer.chunks_exact_mut(WORDS) {
+        record[FILE_WORDS] = set();
+    }
+}
+
+/// The layer with this set in each trapezoid.
+pub fn with_sources(layer: &[i32], set: i32) -> Vec<i32> {
+    let mut words = layer.to_vec();
+    put_sources(&mut words, || set);
+    words
 }
 
 /// The rectangle [x0, x1) by [y0, y1).
@@ -243,7 +276,7 @@ impl Scene {
         }
     }
 
-    /// A fit trapezoid's words.
+    /// A fit trapezoid's words, with any set.
     pub fn trapezoid(&self, random: &mut Random) -> Vec<i32> {
         loop {
             let mut words = self.attempt(random);
@@ -252,10 +285,11 @@ impl Scene {
                 left.swap_with_slice(right);
             }
             if reference::unfit(&words) == Some(11) {
-                let (bottom, top) = words[16..].split_at_mut(4);
+                let (bottom, top) = words[16..FILE_WORDS].split_at_mut(4);
                 bottom.swap_with_slice(top);
             }
             if reference::unfit(&words).is_none() {
+                words[FILE_WORDS] = random.sources();
                 return words;
             }
         }
@@ -385,11 +419,16 @@ pub fn repeat_one(random: &mut Random, layer: &mut Vec<i32>) {
 
 /// Makes one trapezoid of a layer unfit, mostly.
 pub fn damage(random: &mut Random, layer: &mut [i32]) {
-    if layer.len() < WORDS {
+    damage_records(random, layer, WORDS);
+}
+
+/// The same of records of so many words.
+pub fn damage_records(random: &mut Random, layer: &mut [i32], width: usize) {
+    if layer.len() < width {
         return;
     }
-    let start = WORDS * random.below(layer.len() / WORDS);
-    let words = &mut layer[start..start + WORDS];
+    let start = width * random.below(layer.len() / width);
+    let words = &mut layer[start..start + width];
     let line = 4 * random.below(6);
     match random.below(12) {
         0 | 1 => {
@@ -402,9 +441,9 @@ pub fn damage(random: &mut Random, layer: &mut [i32]) {
                 1 << 16,
                 -(1 << 30),
             ];
-            words[random.below(WORDS)] = *random.pick(&extreme);
+            words[random.below(FILE_WORDS)] = *random.pick(&extreme);
         }
-        2 => words[random.below(WORDS)] = random.next() as i32,
+        2 => words[random.below(FILE_WORDS)] = random.next() as i32,
         3 => words.swap(line, line + 2),
         4 => words[line] = words[line + 2],
         // A base of one line twice, or of two parallel ones.
@@ -424,7 +463,7 @@ pub fn damage(random: &mut Random, layer: &mut [i32]) {
         }
         8 => words.copy_within(0..8, 8),
         9 => {
-            let (bottom, top) = words[16..].split_at_mut(4);
+            let (bottom, top) = words[16..FILE_WORDS].split_at_mut(4);
             bottom.swap_with_slice(top);
         }
         10 => words.copy_within(16..20, 20),

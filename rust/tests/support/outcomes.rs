@@ -6,9 +6,9 @@ use super::assert_met;
 #[derive(Default, Debug)]
 pub struct Outcomes {
     /// Refusals by number.
-    pub refusals: [usize; 14],
+    pub refusals: [usize; 15],
     /// Those of them at a place past 0.
-    pub later: [usize; 14],
+    pub later: [usize; 15],
     /// Successes by value. Values from 2 on are noted together.
     pub values: [usize; 3],
 }
@@ -30,7 +30,7 @@ impl Outcomes {
 
     /// Asserts that these refusals, and no others, came up, each once in `every` rounds.
     pub fn assert_refusals(&self, name: &str, numbers: &[usize], rounds: usize, every: usize) {
-        for number in 1..14 {
+        for number in 1..15 {
             let times = self.refusals[number];
             if numbers.contains(&number) {
                 assert_met(&format!("{name} refused {number}"), times, rounds, every);

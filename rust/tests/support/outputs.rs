@@ -46,14 +46,15 @@ pub fn deoverlapped(a: &[i32], records: usize) -> Written {
     written(records, |out, scratch| loxurfa::deoverlap(a, out, scratch))
 }
 
-/// Fractures by the library and by the reference and gives the answer and output they agree on.
+/// Fractures as layer 0, by the library and by the reference, and gives the answer and output they agree on.
 pub fn fracture(file: &[u8], before: &[i32], before_scratch: &[i32]) -> (u64, Vec<i32>) {
-    fracture_by(Edition::New, file, before, before_scratch)
+    fracture_by(Edition::New, 0, file, before, before_scratch)
 }
 
-/// The same by the reader of an edition.
+/// The same by the reader of an edition, as this layer.
 pub fn fracture_by(
     edition: Edition,
+    layer: u32,
     file: &[u8],
     before: &[i32],
     before_scratch: &[i32],
@@ -62,17 +63,22 @@ pub fn fracture_by(
     let (mut expected, mut expected_scratch) = (out.clone(), scratch.clone());
     let (answer, right) = match edition {
         Edition::New => (
-            raw::fracture(file, &mut out, &mut scratch),
-            reference::fracture::fracture(file, &mut expected, &mut expected_scratch),
+            raw::fracture(layer, file, &mut out, &mut scratch),
+            reference::fracture::fracture(layer, file, &mut expected, &mut expected_scratch),
         ),
         Edition::First => (
-            raw::fracture_first_edition(file, &mut out, &mut scratch),
-            reference::fracture::fracture_first_edition(file, &mut expected, &mut expected_scratch),
+            raw::fracture_first_edition(layer, file, &mut out, &mut scratch),
+            reference::fracture::fracture_first_edition(
+                layer,
+                file,
+                &mut expected,
+                &mut expected_scratch,
+            ),
         ),
     };
     let describe = || {
         format!(
-            "{edition:?} output {} scratch {} file {file:?}\n{:?}",
+            "{edition:?} layer {layer} output {} scratch {} file {file:?}\n{:?}",
             before.len(),
             before_scratch.len(),
             read_polygons(file, edition)

@@ -4,13 +4,13 @@ use native.Mathlib.Omega.{arith}
 use lib.ListN.{length}
 use borrow.Author.Needs.{needs}
 use Rattle.geometry.specs.Trapezoids.{layerOf}
-use Rattle.boolean.specs.Operations.{difference}
+use Rattle.boolean.specs.Operations.{symmetric-difference}
 use Rattle.boolean.specs.declared.Folded.the-variants.{Done}
 use Rattle.boolean.specs.Space.{differenceStages}
-use Rattle.remainder_code.specs.Code.{overlaysOfLayer, maxOverlays, OverlaysWithin}
+use Rattle.remainder_code.specs.Code.{overlaysOfLayer, maxOverlays, withOverlays, OverlaysWithin}
 use Rattle.remainder_code.proofs.Answers.{within-least, within-done, within-more}
-use Rattle.difference_code.proofs.Alone.{holding-none, folded-none, folded-known}
-use Rattle.boolean_code.proofs.Combining.{holding-done, folded-after, symmetric-no-room}
+use Rattle.bearing_code.proofs.Bearing.{holding-none, sourced-none, sourced-known}
+use Rattle.boolean_code.proofs.Combining.{holding-done, folded-after, minusOf, symmetric-counted, symmetric-no-room, result-folded}
 use Rattle.boolean_code.proofs.symmetric_difference_into.Statement.{statement}
 use Rattle.boolean_code.proofs.symmetric_difference_into.Tie as tie
 
@@ -29,8 +29,9 @@ returns c =
     let B = layerOf (a .second .now) in
     let d = at-difference-into .difference-into in
     let t = d .last .1 .1 .1 .1 .1 .0 in
-    let g = folded-none (a .out .now) (a .room) (at-start .pre .1 .0 .0) (difference A B) (differenceStages 0 A B) (d .result) t (d .ensures .0) in (
-      symmetric-no-room (a .room) A B (length (a .out .now)) t (d .result) _ (c .enum-told .given .1) g,
+    let g = sourced-none (a .out .now) (a .room) (at-start .pre .1 .0 .0) (minusOf (a .first .now) (a .second .now)) (differenceStages 0 A B) (d .result) t (d .ensures .0) in (
+      result-folded symmetric-difference (length (a .out .now)) (a .room) (a .first .now) (a .second .now) (d .result) t
+          (symmetric-no-room (a .room) (a .first .now) (a .second .now) (length (a .out .now)) t (d .result) _ (c .enum-told .given .1) g),
       (within-least overlaysOfLayer maxOverlays (d .result) (omega arith) (d .ensures .1 .0), d .ensures .1 .1),
     )
 
@@ -44,11 +45,11 @@ difference-into-requires-2 c κs =
     let B = layerOf (a .second .now) in
     let d = at-difference-into .difference-into in
     let t = d .last .1 .1 .1 .1 .1 .0 in
-    let g = folded-none (a .out .now) (a .room) (at-start .pre .1 .0 .0) (difference A B) (differenceStages 0 A B) (d .result) t (d .ensures .0) in
+    let g = sourced-none (a .out .now) (a .room) (at-start .pre .1 .0 .0) (minusOf (a .first .now) (a .second .now)) (differenceStages 0 A B) (d .result) t (d .ensures .0) in
     let e = at-f .f .given .1 in
-    let k = folded-known (length (a .out .now)) (a .room) (difference A B) (differenceStages 0 A B) (d .result) (Done _ _) t e g in (
+    let k = sourced-known (length (a .out .now)) (a .room) (minusOf (a .first .now) (a .second .now)) (differenceStages 0 A B) (d .result) (Done _ _) t e g in (
       (at-start .pre .0 .1, at-start .pre .0 .0),
-      ((holding-done (length (a .out .now)) (a .room) (difference A B) (differenceStages 0 A B) _ _ t k (d .kept .1 .1 .1 .1 .1 .0) (at-start .pre .1 .0 .0 .wide), at-start .pre .1 .0 .1), (d .ensures .1 .1, d .kept .1 .1 .1 .1 .1 .1 .0 ∙ at-start .pre .1 .1 .1 ∙ sym (d .kept .1 .1 .1 .1 .1 .0))),
+      ((holding-done (length (a .out .now)) (a .room) (minusOf (a .first .now) (a .second .now)) (differenceStages 0 A B) _ _ t k (d .kept .1 .1 .1 .1 .1 .0) (at-start .pre .1 .0 .0 .wide), at-start .pre .1 .0 .1), (d .ensures .1 .1, d .kept .1 .1 .1 .1 .1 .1 .0 ∙ at-start .pre .1 .1 .1 ∙ sym (d .kept .1 .1 .1 .1 .1 .0))),
     )
 
 more-overlays-requires : tie.Need-more-overlays-requires
@@ -72,15 +73,17 @@ returns-2 c =
     let B = layerOf (a .second .now) in
     let d = at-difference-into .difference-into in
     let t = d .last .1 .1 .1 .1 .1 .0 in
-    let g = folded-none (a .out .now) (a .room) (at-start .pre .1 .0 .0) (difference A B) (differenceStages 0 A B) (d .result) t (d .ensures .0) in
+    let g = sourced-none (a .out .now) (a .room) (at-start .pre .1 .0 .0) (minusOf (a .first .now) (a .second .now)) (differenceStages 0 A B) (d .result) t (d .ensures .0) in
     let e = at-f .f .given .1 in
     let q = at-difference-into2 .difference-into2 in
-    let k = folded-known (length (a .out .now)) (a .room) (difference A B) (differenceStages 0 A B) (d .result) (Done _ _) t e g in
+    let k = sourced-known (length (a .out .now)) (a .room) (minusOf (a .first .now) (a .second .now)) (differenceStages 0 A B) (d .result) (Done _ _) t e g in
     let u = within-done overlaysOfLayer _ _ (d .result) e (d .ensures .1 .0) in
     let r = c .more-overlays .ensures in
-    let h = folded-after (length (a .out .now)) (a .room) (difference A B) (differenceStages 0 A B) _ _ t k (d .kept .1 .1 .1 .1 .1 .0) (at-start .pre .1 .0 .0 .wide) (difference B A) (λ (n : ℕ). differenceStages n B A) (q .result) (q .last .1 .1 .1 .1 .1 .0) (q .ensures .0) in
+    let h = folded-after (length (a .out .now)) (a .room) (minusOf (a .first .now) (a .second .now)) (differenceStages 0 A B) _ _ t k (d .kept .1 .1 .1 .1 .1 .0) (at-start .pre .1 .0 .0 .wide) (minusOf (a .second .now) (a .first .now)) (λ (n : ℕ). differenceStages n B A) (q .result) (q .last .1 .1 .1 .1 .1 .0) (q .ensures .0) in
+    let s = result-folded symmetric-difference (length (a .out .now)) (a .room) (a .first .now) (a .second .now) (withOverlays _ (q .result)) (q .last .1 .1 .1 .1 .1 .0)
+    (symmetric-counted (length (a .out .now)) (a .room) (a .first .now) (a .second .now) (withOverlays _ (q .result)) (q .last .1 .1 .1 .1 .1 .0) h) in
     let w = within-more overlaysOfLayer overlaysOfLayer _ (q .result) u (q .ensures .1 .0) in
-    (rw r h, (within-least (overlaysOfLayer + overlaysOfLayer) maxOverlays (c .more-overlays .result) (omega arith) (subst (OverlaysWithin (overlaysOfLayer + overlaysOfLayer)) (sym r) w), q .ensures .1 .1))
+    (rw r s, (within-least (overlaysOfLayer + overlaysOfLayer) maxOverlays (c .more-overlays .result) (omega arith) (subst (OverlaysWithin (overlaysOfLayer + overlaysOfLayer)) (sym r) w), q .ensures .1 .1))
 
 pub symmetric-difference-into-spec : {M : Type 1} → statement M
 symmetric-difference-into-spec =

@@ -2,16 +2,18 @@ use mathlib.Core.Path.{_≡_, sym, _∙_, ap}
 use mathlib.Core.List.{List, _++_}
 use Prim.Native.Nat.{ℕ, _*_, _≤_}
 use native.Mathlib.Omega.{arith}
-use lib.ListN.{take, drop}
+use lib.ListN.{length, take, drop}
 use lib.IntN.{ℤ}
 use lib.Seq.{length-take-le}
 use borrow.Author.Needs.{needs}
 use Rattle.records.specs.Limits.{memoryWidth}
 use Rattle.records.specs.Records.{count}
 use Rattle.geometry.specs.Trapezoids.{trapezoidCodec, layerOf}
-use Rattle.boolean.specs.Operations.{difference}
+use Rattle.sources.specs.Sourced.{sourcedOf}
+use Rattle.boolean.specs.Operations.{union}
+use Rattle.boolean.specs.Sources.{sourcedDifference, sourcedResult}
 use Rattle.boolean.specs.Space.{differenceStages}
-use Rattle.boolean_code.proofs.Combining.{copied-no-room, copied-long, copied-holding, copied-folded}
+use Rattle.boolean_code.proofs.Combining.{copied-no-room, copied-long, copied-holding, copied-folded, result-folded}
 use Rattle.boolean_code.proofs.union_into.Statement.{statement}
 use Rattle.boolean_code.proofs.union_into.Tie as tie
 
@@ -21,7 +23,7 @@ returns c =
     let a = at-start .args in
     let A = layerOf (a .first .now) in
     let B = layerOf (a .second .now) in
-    (copied-no-room (a .first .now) (a .out .now) (a .room) (at-start .pre .1 .0 .0) (A ++ difference B A) (λ (k : ℕ). differenceStages k B A) (c .if1 .taken), (omega arith, at-start .pre .1 .1 .0))
+    (copied-no-room (a .first .now) (a .out .now) (a .room) (at-start .pre .1 .0 .0) (sourcedResult union (sourcedOf (a .first .now)) (sourcedOf (a .second .now))) (λ (k : ℕ). differenceStages k B A) (c .if1 .taken), (omega arith, at-start .pre .1 .1 .0))
 
 slice-aggregate-copy : tie.Need-slice-aggregate-copy
 slice-aggregate-copy c =
@@ -74,7 +76,11 @@ returns-2 c =
     = ap (λ (u : List ℤ). u ++ drop (memoryWidth * count trapezoidCodec (a .first .now)) (a .out .now)) (p .ensures) in
     let t = p .last .1 .0 ++ drop (memoryWidth * count trapezoidCodec (a .first .now)) (a .out .now) in
     let r = at-difference-into .difference-into in
-    (copied-folded (a .first .now) (a .out .now) (a .room) (at-start .pre .1 .0 .0) l t w (difference B A) (λ (k : ℕ). differenceStages k B A) (r .result) (r .last .1 .1 .1 .1 .1 .0) (r .ensures .0), r .ensures .1)
+    let d = r .last .1 .1 .1 .1 .1 .0 in (
+      result-folded union (length (a .out .now)) (a .room) (a .first .now) (a .second .now) (r .result) d
+          (copied-folded (a .first .now) (a .out .now) (a .room) (at-start .pre .1 .0 .0) l t w (sourcedDifference (sourcedOf (a .second .now)) A) (λ (k : ℕ). differenceStages k B A) (r .result) d (r .ensures .0)),
+      r .ensures .1,
+    )
 
 pub union-into-spec : {M : Type 1} → statement M
 union-into-spec =

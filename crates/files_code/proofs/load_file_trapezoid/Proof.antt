@@ -1,6 +1,6 @@
 use borrow.Author.Needs.{needs}
-use Rattle.geometry.proofs.Trapezoids.{trapezoid-at}
 use Rattle.files.specs.Formats.{fileWords}
+use Rattle.files.proofs.Widths.{file-trapezoid-at}
 use Rattle.files_code.proofs.load_file_trapezoid.Statement.{statement}
 use Rattle.files_code.proofs.load_file_trapezoid.Tie as tie
 
@@ -8,7 +8,7 @@ returns : tie.Need-returns
 returns c =
     let at-start = c .before .before .before .before .before .before .before in
     let s = at-start .args in
-    cc (trapezoid-at (fileWords (s .body .now)) (s .i))
+    cc (file-trapezoid-at (fileWords (s .body .now)) (s .i))
 
 pub load-file-trapezoid-spec : {M : Type 1} → statement M
 load-file-trapezoid-spec =

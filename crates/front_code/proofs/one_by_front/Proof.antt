@@ -5,8 +5,8 @@ use borrow.Author.Needs.{needs}
 use Rattle.records.specs.Limits.{maxRecords}
 use Rattle.remainder_code.specs.Code.{overlaysOfOne, maxOverlays, OverlaysWithin}
 use Rattle.remainder_code.proofs.Answers.{within-least, within-more}
-use Rattle.remainder_code.proofs.Leading.{leading-fits, front-length}
-use Rattle.front_code.proofs.Past.{past-start, past-upto, past-skip}
+use Rattle.remainder_code.proofs.Leading.{front-length}
+use Rattle.front_code.proofs.Past.{front-fits, past-start, past-upto, past-skip}
 use Rattle.front_code.proofs.one_by_front.Statement.{statement}
 use Rattle.front_code.proofs.one_by_front.Tie as tie
 
@@ -22,7 +22,7 @@ slice-aggregate-first-overlapping : tie.Need-slice-aggregate-first-overlapping
 slice-aggregate-first-overlapping c =
     let at-start = c .before .before in
     let a = at-start .args in
-    sym (front-length (a .out .now) (a .k) (leading-fits (a .out .now) (a .k) (a .room) (at-start .pre .0 .2)))
+    sym (front-length (a .out .now) (a .k) (front-fits (a .out .now) (a .k) (a .room) (at-start .pre .0 .2)))
 
 first-overlapping-requires : tie.Need-first-overlapping-requires
 first-overlapping-requires c κs =

@@ -11,8 +11,8 @@ use Rattle.trapezoids_code.proofs.Writing.{tail}
 use Rattle.remainder_code.specs.Code.{maxOverlays, OverlaysWithin}
 use Rattle.trapezoids_code.proofs.Placed.{placed-own}
 use Rattle.remainder_code.proofs.Answers.{folded-within, within-least, within-more, within-done}
-use Rattle.remainder_code.proofs.Leading.{leading-fits, front-length, front-count}
-use Rattle.front_code.proofs.Past.{past-borrowed, past-whole, past-few, past-refused, past-front, past-left, past-folded}
+use Rattle.remainder_code.proofs.Leading.{front-length, front-count}
+use Rattle.front_code.proofs.Past.{front-fits, past-borrowed, past-whole, past-few, past-refused, past-front, past-left, past-folded}
 use Rattle.front_code.proofs.one_past.Statement.{statement}
 use Rattle.front_code.proofs.one_past.Tie as tie
 
@@ -42,13 +42,13 @@ slice-aggregate-placed-at : tie.Need-slice-aggregate-placed-at
 slice-aggregate-placed-at c =
     let at-start = c .before .before in
     let a = at-start .args in
-    sym (front-length (a .out .now) (a .k) (leading-fits (a .out .now) (a .k) (a .room) (at-start .pre .0 .2)))
+    sym (front-length (a .out .now) (a .k) (front-fits (a .out .now) (a .k) (a .room) (at-start .pre .0 .2)))
 
 placed-at-requires : tie.Need-placed-at-requires
 placed-at-requires c κs =
     let at-start = c .before .before in
     let a = at-start .args in
-    let n = front-count (a .out .now) (a .k) (leading-fits (a .out .now) (a .k) (a .room) (at-start .pre .0 .2)) in
+    let n = front-count (a .out .now) (a .k) (front-fits (a .out .now) (a .k) (a .room) (at-start .pre .0 .2)) in
     (at-start .pre .0 .1 .layer .fit, omega (arith, n, c .before .if1 .left))
 
 first-into-requires : tie.Need-first-into-requires

@@ -23,7 +23,7 @@ module _ (c : tie.After-known-told2) where
   within :
       let at-f2 = c .before in
       let at-fracture = at-f2 .before .before .before .before in
-      memoryWidth * at-f2 .f2 .given .0 .0 ≤ length (at-fracture .fracture .last .1 .0)
+      memoryWidth * at-f2 .f2 .given .0 .0 ≤ length (at-fracture .fracture .last .1 .1 .0)
   within =
       let at-start = c .before .before .before .before .before .before .before .before .before .before in
       omega (arith, few, at-start .pre .0)
@@ -34,7 +34,7 @@ returns c =
     let at-f = at-refuse-into .before .before .before in
     let at-fracture = at-f .before .before .before .before in
     let at-start = at-fracture .before .before .before .before .before in
-    let l = file-refused (at-start .args .file .now) (at-start .args .first .now) (at-start .args .scratch .now) (at-start .pre .0) (at-start .pre .2) (at-fracture .fracture .result) (at-fracture .fracture .last .1 .0) (at-fracture .fracture .last .1 .1 .0) (at-fracture .fracture .ensures .0) _ _ (at-f .f .given .1) in
+    let l = file-refused (at-start .args .file .now) (at-start .args .first .now) (at-start .args .scratch .now) (at-start .pre .0) (at-start .pre .2) (at-fracture .fracture .result) (at-fracture .fracture .last .1 .1 .0) (at-fracture .fracture .last .1 .1 .1 .0) (at-fracture .fracture .ensures .0) _ _ (at-f .f .given .1) in
     put-as (at-start .args .text .now) (at-refuse-into .refuse-into .result) (at-refuse-into .refuse-into .last .1 .1 .0) l (at-refuse-into .refuse-into .ensures)
 
 mul-end : tie.Need-mul-end
@@ -57,7 +57,7 @@ returns-2 c =
     let at-f2 = at-list-layer .before .before .before .before .before .before in
     let at-fracture = at-f2 .before .before .before .before in
     let at-start = at-fracture .before .before .before .before .before in
-    let l = file-done (at-start .args .file .now) (at-start .args .first .now) (at-start .args .scratch .now) (at-start .pre .0) (at-start .pre .2) (at-fracture .fracture .result) (at-fracture .fracture .last .1 .0) (at-fracture .fracture .last .1 .1 .0) (at-fracture .fracture .ensures .0) _ _ (at-f2 .f2 .given .1) in
+    let l = file-done (at-start .args .file .now) (at-start .args .first .now) (at-start .args .scratch .now) (at-start .pre .0) (at-start .pre .2) (at-fracture .fracture .result) (at-fracture .fracture .last .1 .1 .0) (at-fracture .fracture .last .1 .1 .1 .0) (at-fracture .fracture .ensures .0) _ _ (at-f2 .f2 .given .1) in
     put-as (at-start .args .text .now) (at-list-layer .list-layer .result) (at-list-layer .list-layer .last .1 .1 .1 .0) l (at-list-layer .list-layer .ensures)
 
 pub list-file-spec : {M : Type 1} → statement M

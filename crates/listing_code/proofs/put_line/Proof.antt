@@ -5,7 +5,7 @@ use native.Mathlib.Omega.{arith}
 use lib.ListN.{length}
 use lib.Seq.{slice}
 use borrow.Author.Needs.{needs}
-use Rattle.records.specs.Limits.{memoryWidth}
+use Rattle.records.specs.Limits.{fileWidth, memoryWidth}
 use Rattle.listing.specs.Listing.{field, wordsLine, recordLine, fieldRoom}
 use Rattle.listing_code.proofs.Texts.{Going, set-out, onward, arrived, next-field, line-end}
 use Rattle.listing_code.proofs.put_line.Statement.{statement}
@@ -20,7 +20,7 @@ abbrev μ-loop : tie.MeasureT-loop
 loop-holds : tie.Need-loop-holds Inv-loop μ-loop
 loop-holds c =
     let at-start = c .before in
-    (set-out (at-start .args .out .now) (at-start .args .at) (recordLine (at-start .args .words .now) (at-start .args .i)), omega arith, at-start .pre .0, omega arith)
+    (set-out (at-start .args .out .now) (at-start .args .at) (recordLine (at-start .args .words .now) (at-start .args .i)), omega arith, omega (arith, at-start .pre .0), omega arith)
 
 put-field-requires : tie.Need-put-field-requires Inv-loop μ-loop
 put-field-requires c κs =
@@ -28,7 +28,7 @@ put-field-requires c κs =
     let at-loop = at-loop-test .before in
     let at-start = at-loop .before .before in
     let s = at-start .args .words .now in
-    let end = memoryWidth * at-start .args .i + memoryWidth in
+    let end = memoryWidth * at-start .args .i + fileWidth in
     let h = at-loop .loop .inv in
     let j = at-loop .loop .j in
     let e = next-field s j end (at-loop-test .loop-test .taken) (h .2) in
@@ -46,7 +46,7 @@ loop-again c =
     let at-loop = at-loop-test .before in
     let at-start = at-loop .before .before in
     let s = at-start .args .words .now in
-    let end = memoryWidth * at-start .args .i + memoryWidth in
+    let end = memoryWidth * at-start .args .i + fileWidth in
     let h = at-loop .loop .inv in
     let j = at-loop .loop .j in
     let e = next-field s j end (at-loop-test .loop-test .taken) (h .2) in
@@ -60,7 +60,7 @@ returns c =
     let at-loop = c .before in
     let at-start = at-loop .before .before in
     let s = at-start .args .words .now in
-    let end = memoryWidth * at-start .args .i + memoryWidth in
+    let end = memoryWidth * at-start .args .i + fileWidth in
     let h = at-loop .loop .inv in
     let k : at-loop .loop .j ≡ end = omega (arith, h .1, c .loop-test .left) in
     (arrived (h .0) (ap (λ (j : ℕ). wordsLine (slice j end s)) k ∙ line-end s end), omega (arith, k, h .3))

@@ -6,7 +6,8 @@ use borrow.Author.Needs.{needs}
 use Rattle.records.proofs.Buffer.{blank-of}
 use Rattle.geometry.specs.declared.Checked.the-variants.{Passed}
 use Rattle.geometry.specs.Trapezoids.{layerOf}
-use Rattle.boolean.specs.Operations.{deoverlapped}
+use Rattle.sources.specs.Sourced.{sourcedOf}
+use Rattle.boolean.specs.Sources.{sourcedDeoverlapped}
 use Rattle.boolean.specs.Space.{deoverlappedStages}
 use Rattle.calls.specs.Rows.{plateLimit, deoverlapChecked}
 use Rattle.calls.specs.Outcomes.{zeros, roomOf}
@@ -85,7 +86,7 @@ returns-3 c =
     let m = cleared-length (z .last .0) (length (s .out .now)) (z .ensures .0) in
     let e = at-f .f .given .1 in (
       deoverlap-done plateLimit (s .a .now) (s .out .now) (s .scratch .now) (passed at-enum-told) (f .result) (length (z .last .0)) (f .last .1 .0) (f .last .1 .1 .0) (f .ensures .0) m (blanked at-deoverlap-into) e,
-      small-done (roomOf (s .out .now)) (deoverlapped (layerOf (s .a .now))) (deoverlappedStages [] (layerOf (s .a .now))) (f .result) (length (s .out .now)) (length (z .last .0)) (f .last .1 .0) (f .last .1 .1 .0) (f .ensures .0) m (blanked at-deoverlap-into) (ready at-enum-told .buffers .few) (f .ensures .1 .0) e,
+      small-done (roomOf (s .out .now)) (sourcedDeoverlapped (sourcedOf (s .a .now))) (deoverlappedStages [] (layerOf (s .a .now))) (f .result) (length (s .out .now)) (length (z .last .0)) (f .last .1 .0) (f .last .1 .1 .0) (f .ensures .0) m (blanked at-deoverlap-into) (ready at-enum-told .buffers .few) (f .ensures .1 .0) e,
     )
 
 pub deoverlap-spec : {M : Type 1} → statement M

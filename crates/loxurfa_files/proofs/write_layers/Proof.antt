@@ -1,8 +1,12 @@
 use mathlib.Core.Path.{_≡_, sym, _∙_}
+use native.Mathlib.Omega.{arith}
 use borrow.Author.Needs.{needs}
 use Rattle.geometry.specs.declared.Checked.the-variants.{Passed}
 use Rattle.files.specs.Rows.{layerWordsChecked}
-use Rattle.files.proofs.Calls.{words-count}
+use Rattle.files.specs.Formats.{layerWords}
+use Rattle.files.specs.Pairs.{countIn}
+use Rattle.files.specs.Directory.{HasPairs}
+use Rattle.files.proofs.Calls.{words-pairs}
 use Rattle.calls.specs.Rows.{plateLimit}
 use Rattle.calls.proofs.Checks.{plate-carried}
 use Rattle.loxurfa_files.proofs.LayerFiles.{write-refused, write-no-room, write-done}
@@ -24,29 +28,46 @@ returns c =
     let s = at-start .args in
     write-refused plateLimit (s .words .now) (s .out .now) (sym (at-check-layer-words .check-layer-words .ensures) ∙ at-c .c .given .1)
 
+-- their pairs
+module _ (c : tie.After-enum-told) where
+  pairs :
+      let at-start = c .before .before .before .before in
+      HasPairs layerWords (at-start .args .words .now) (countIn (at-start .args .words .now))
+  pairs =
+      let at-start = c .before .before .before .before in
+      words-pairs plateLimit (at-start .args .words .now) (passed c)
+
+written-length-requires : tie.Need-written-length-requires
+written-length-requires c κs = pairs (c .before .before .before .before)
+
 returns-2 : tie.Need-returns-2
 returns-2 c =
-    let at-clear-bytes = c .before .before .before in
+    let at-written-length = c .before in
+    let at-clear-bytes = at-written-length .before .before .before in
     let at-enum-told = at-clear-bytes .before .before in
     let at-start = at-enum-told .before .before .before .before in
     let s = at-start .args in
-    write-no-room plateLimit (s .words .now) (s .out .now) (passed at-enum-told) (at-clear-bytes .clear-bytes .ensures) (c .if1 .taken)
+    write-no-room plateLimit (s .words .now) (s .out .now) (passed at-enum-told) (at-clear-bytes .clear-bytes .ensures) (omega (arith, c .if1 .taken, at-written-length .written-length .ensures))
+
+encode-requires : tie.Need-encode-requires
+encode-requires c κs =
+    let at-if1 = c .before in
+    let at-written-length = at-if1 .before in
+    (pairs (at-written-length .before .before .before .before .before), omega (arith, at-if1 .if1 .left, at-written-length .written-length .ensures))
 
 words-trapezoids-requires : tie.Need-words-trapezoids-requires
-words-trapezoids-requires c κs =
-    let at-enum-told = c .before .before .before .before .before .before .before .before .before in
-    let at-start = at-enum-told .before .before .before .before in
-    words-count plateLimit (at-start .args .words .now) (passed at-enum-told)
+words-trapezoids-requires c κs = pairs (c .before .before .before .before .before .before .before .before .before .before)
 
 returns-3 : tie.Need-returns-3
 returns-3 c =
     let at-encode = c .before .before .before in
     let at-if1 = at-encode .before .before in
-    let at-clear-bytes = at-if1 .before .before .before in
+    let at-written-length = at-if1 .before in
+    let at-clear-bytes = at-written-length .before .before .before in
     let at-enum-told = at-clear-bytes .before .before in
     let at-start = at-enum-told .before .before .before .before in
     let s = at-start .args in
-    write-done plateLimit (s .words .now) (s .out .now) (passed at-enum-told) (at-clear-bytes .clear-bytes .ensures) (at-if1 .if1 .left) (at-encode .encode .ensures) (c .words-trapezoids .ensures)
+    write-done plateLimit (s .words .now) (s .out .now) (passed at-enum-told) (at-clear-bytes .clear-bytes .ensures) (omega (arith, at-if1 .if1 .left, at-written-length .written-length .ensures)) (at-encode .encode .ensures) (c .words-trapezoids .ensures)
 
 pub write-layers-spec : {M : Type 1} → statement M
 write-layers-spec =
@@ -57,9 +78,10 @@ write-layers-spec =
     (λ c. search needs)
     returns
     (λ c κs. search needs)
+    written-length-requires
     (λ c. search needs)
     returns-2
-    (λ c κs. search needs)
+    encode-requires
     words-trapezoids-requires
     (λ c. search needs)
     returns-3)

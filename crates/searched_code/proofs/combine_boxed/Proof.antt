@@ -5,7 +5,9 @@ use borrow.Author.Needs.{needs}
 use Rattle.records.proofs.Buffer.{blank-of}
 use Rattle.geometry.specs.declared.Checked.the-variants.{Passed}
 use Rattle.geometry.specs.Trapezoids.{layerOf}
-use Rattle.boolean.specs.Operations.{codeAt, result}
+use Rattle.sources.specs.Sourced.{sourcedOf}
+use Rattle.boolean.specs.Operations.{codeAt}
+use Rattle.boolean.specs.Sources.{sourcedResult}
 use Rattle.boolean.specs.Space.{stages}
 use Rattle.calls.specs.Rows.{bothDisjoint}
 use Rattle.calls.specs.Outcomes.{zeros, roomOf}
@@ -86,7 +88,7 @@ returns-3 c =
     let m = cleared-length (z .last .0) (length (s .out .now)) (z .ensures .0) in
     let e = at-f .f .given .1 in (
       combine-done (s .code) (s .a .now) (s .b .now) (s .out .now) (s .scratch .now) (passed at-enum-told) (f .result) (length (z .last .0)) (f .last .1 .1 .1 .1 .1 .0) (f .last .1 .1 .1 .1 .1 .1 .0) (f .ensures .0) m (blanked at-combine-boxed) e,
-      small-done (roomOf (s .out .now)) (result (codeAt (s .code)) (layerOf (s .a .now)) (layerOf (s .b .now))) (stages (codeAt (s .code)) (layerOf (s .a .now)) (layerOf (s .b .now))) (f .result) (length (s .out .now)) (length (z .last .0)) (f .last .1 .1 .1 .1 .1 .0) (f .last .1 .1 .1 .1 .1 .1 .0) (f .ensures .0) m (blanked at-combine-boxed) (buffers at-enum-told .few) (f .ensures .1 .0) e,
+      small-done (roomOf (s .out .now)) (sourcedResult (codeAt (s .code)) (sourcedOf (s .a .now)) (sourcedOf (s .b .now))) (stages (codeAt (s .code)) (layerOf (s .a .now)) (layerOf (s .b .now))) (f .result) (length (s .out .now)) (length (z .last .0)) (f .last .1 .1 .1 .1 .1 .0) (f .last .1 .1 .1 .1 .1 .1 .0) (f .ensures .0) m (blanked at-combine-boxed) (buffers at-enum-told .few) (f .ensures .1 .0) e,
     )
 
 pub combine-boxed-spec : {M : Type 1} → statement M

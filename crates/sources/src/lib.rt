@@ -1,0 +1,1 @@
+// Sets of source layers, and trapezoids in memory with their sets: definitions and laws.
