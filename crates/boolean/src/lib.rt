@@ -1,7 +1,6 @@
 // What folds over layers of trapezoids answer.
 #![tactic(auto)]
 
-
 // What a fold answers: there was no room, after so many overlays; or how many trapezoids it wrote, and the number of overlays.
 #[derive(Clone, Copy)]
 pub enum Folded {

@@ -29,7 +29,7 @@ use Rattle.calls.specs.Outcomes.{room_of, records_of, fractured_of, fracture_out
 use Rattle.calls.specs.Statements.{WellFormed}
 use Rattle.calls.proofs.Checks.{Buffers, row_passed, buffers_ready, small_row}
 use Rattle.calls.proofs.Room.{addition_room}
-use Rattle.calls.proofs.Success.{FitTrapezoids, passed, outcome_wrote, sourced_words, layer_words, words_formed}
+use Rattle.calls.proofs.Success.{FitTrapezoids, passed, outcome_wrote, sourced_words, layer_of_words, words_formed}
 
 pub record FractureReady (edition : Edition) (L layer : ℕ) (file : List ℕ) (out scratch : ℕ) : Type 0 where
   pub rows : polygon_file_checked edition L file ≡ Passed
@@ -71,7 +71,7 @@ fracture_accepted edition L layer file out scratch h =
     record {
       is_source = lt→ltb layer source_layers r.is_source;
       sets = ap sourced_of w.is ∙ sourced_words rs;
-      is = ap layer_of w.is ∙ layer_words rs ∙ e;
+      is = ap layer_of w.is ∙ layer_of_words rs ∙ e;
       fit = λ p.
           subst (WellFormed L) (sym w.is)
           (words_formed L rs (subst (FitTrapezoids L) (sym e) (fracture_fit L (polygons_of edition (file_words file)) p (checked_grid edition L file r.rows))) (omega (arith, bearing-length (single layer) ts, l)));

@@ -28,7 +28,7 @@ use Rattle.calls.specs.Outcomes.{room_of, records_of, written, outcome, combined
 use Rattle.calls.specs.Components.{lists_sized, components_checked, counted, observed_components, count_outcome, components_outcome}
 use Rattle.calls.specs.Transistors.{transistors_checked, transistors_outcome_of, transistors_outcome}
 use Rattle.calls.specs.Statements.{FractureSets, combined_layer, CombineSets, deoverlapped_layer, DeoverlapSets, SameTrapezoids, SetsUnseen}
-use Rattle.calls.proofs.Success.{wrote, layer_words, combined_accepted, deoverlap_accepted}
+use Rattle.calls.proofs.Success.{wrote, layer_of_words, combined_accepted, deoverlap_accepted}
 use Rattle.calls.proofs.Fracturing.{fracture_accepted}
 
 -- ---- a success
@@ -49,7 +49,7 @@ module _ (rs qs : List Sourced) (e : shapes rs ≡ shapes qs) where
       × (layer_of (records_of (written n rs s).answer (written n rs s).out) ≡ layer_of (records_of (written n qs s).answer (written n qs s).out))
   written_unseen n (enough k) = (
     ap (λ (m : ℕ). done m k) (sym (shapes-length rs) ∙ ap length e ∙ shapes-length qs),
-    ap layer_of (wrote n rs (enough k) tt).is ∙ layer_words rs ∙ e ∙ sym (layer_words qs) ∙ sym (ap layer_of (wrote n qs (enough k) tt).is),
+    ap layer_of (wrote n rs (enough k) tt).is ∙ layer_of_words rs ∙ e ∙ sym (layer_of_words qs) ∙ sym (ap layer_of (wrote n qs (enough k) tt).is),
   )
   written_unseen n (no_room k) = (refl, refl)
 

@@ -62,8 +62,8 @@ outcome_wrote (Refused number place) out scratch rs ms h = absurd h
 pub sourced_words : (rs : List Sourced) → sourced_of (words_of sourced_codec rs) ≡ rs
 sourced_words rs = records_words sourced_codec sourced_faithful.readable rs (all_of (λ (r : Sourced). Unit {0}) (λ r. tt) rs)
 
-pub layer_words : (rs : List Sourced) → layer_of (words_of sourced_codec rs) ≡ shapes rs
-layer_words rs = sym (shapes_of (words_of sourced_codec rs)) ∙ ap shapes (sourced_words rs)
+pub layer_of_words : (rs : List Sourced) → layer_of (words_of sourced_codec rs) ≡ shapes rs
+layer_of_words rs = sym (shapes_of (words_of sourced_codec rs)) ∙ ap shapes (sourced_words rs)
 
 few_sized : (n : ℕ) → n ≤ max_records → T (sized (memory_width * n))
 unfolding sized
@@ -76,11 +76,11 @@ pub words_formed : (L : ℕ) (rs : List Sourced) → FitTrapezoids L (shapes rs)
 words_formed L rs h l =
     record {
       size = subst (λ (n : ℕ). T (sized n)) (sym (length_words sourced_codec sourced_faithful.readable rs)) (few_sized (length rs) l);
-      rows = ap (first_refusal L 0) (layer_words rs) ∙ (layer_exact L 0 (shapes rs)).1 h;
+      rows = ap (first_refusal L 0) (layer_of_words rs) ∙ (layer_exact L 0 (shapes rs)).1 h;
     }
 
 words_fit : (L : ℕ) (rs : List Sourced) → FitTrapezoids L (shapes rs) → Disjoint (shapes rs) → length rs ≤ max_records → FitAsInput L (words_of sourced_codec rs)
-words_fit L rs h d l = record { formed = words_formed L rs h l; disjoint = subst Disjoint (sym (layer_words rs)) d }
+words_fit L rs h d l = record { formed = words_formed L rs h l; disjoint = subst Disjoint (sym (layer_of_words rs)) d }
 
 -- as many with their sets as without
 few_sourced : (rs : List Sourced) (ts : List Trapezoid) (n : ℕ) → shapes rs ≡ ts → length ts ≤ n → length rs ≤ n
@@ -118,7 +118,7 @@ combined_accepted L code A B out scratch h =
       first_disjoint = d.0;
       second_disjoint = d.1;
       sets = ap sourced_of w.is ∙ sourced_words rs;
-      is = ap layer_of w.is ∙ layer_words rs ∙ f;
+      is = ap layer_of w.is ∙ layer_of_words rs ∙ f;
       fit =
           subst (FitAsInput L) (sym w.is)
           (words_fit L rs
@@ -149,7 +149,7 @@ deoverlap_accepted L A out scratch h =
     record {
       layer = r.layer.fit;
       sets = ap sourced_of w.is ∙ sourced_words rs;
-      is = ap layer_of w.is ∙ layer_words rs ∙ f;
+      is = ap layer_of w.is ∙ layer_of_words rs ∙ f;
       fit =
           subst (FitAsInput L) (sym w.is)
           (words_fit L rs

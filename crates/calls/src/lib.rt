@@ -1,7 +1,6 @@
 // What the public functions answer, and the limits that they go by.
 #![tactic(auto)]
 
-
 // Grid coordinates run from -PLATE_LIMIT to PLATE_LIMIT.
 pub const PLATE_LIMIT: u32 = 2048;
 

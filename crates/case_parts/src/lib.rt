@@ -1,100 +1,75 @@
 // Parts of the programs `cases` and `layer_cases`: the lines that they print, polygon files of staircases, and layers of squares.
 #![tactic(auto)]
 
-ghost use Rattle.std.specs.Prelude.{◌≡◌, ◌<◌, ◌≤◌};
+ghost use Rattle.std.specs.Prelude.{◌≡◌, ◌<◌, ◌≤◌, ◌↔◌, IsTrue, All, length, take};
 ghost use Rattle.case_parts.specs.Code.{with_word, with_number};
 
-use libc::STDOUT_FILENO;
+use std::io;
 
-pub fn refused(number: u32, place: usize) {
-    io::write_all(STDOUT_FILENO, b"refused ");
-    io::print_decimal(STDOUT_FILENO, number as u64);
-    io::write_all(STDOUT_FILENO, b" place ");
-    io::print_decimal(STDOUT_FILENO, place as u64);
-    io::write_all(STDOUT_FILENO, b"\n");
+pub fn refused(rt: &impl Print, number: u32, place: usize) -> io::Result<()> {
+    println!(rt; "refused {number} place {place}")
 }
 
 // Ends a line.
-pub fn overlays_made(n: usize) {
-    io::write_all(STDOUT_FILENO, b" overlays ");
-    io::print_decimal(STDOUT_FILENO, n as u64);
-    io::write_all(STDOUT_FILENO, b"\n");
+pub fn overlays_made(rt: &impl Print, n: usize) -> io::Result<()> {
+    println!(rt; " overlays {n}")
 }
 
-pub fn done(trapezoids: usize, overlays: usize) {
-    io::write_all(STDOUT_FILENO, b"done ");
-    io::print_decimal(STDOUT_FILENO, trapezoids as u64);
-    overlays_made(overlays);
+pub fn done(rt: &impl Print, trapezoids: usize, overlays: usize) -> io::Result<()> {
+    print!(rt; "done {trapezoids}")?;
+    overlays_made(rt, overlays)
 }
 
 // The same for a layer file.
-pub fn done_file(trapezoids: usize) {
-    io::write_all(STDOUT_FILENO, b"done ");
-    io::print_decimal(STDOUT_FILENO, trapezoids as u64);
-    io::write_all(STDOUT_FILENO, b"\n");
+pub fn done_file(rt: &impl Print, trapezoids: usize) -> io::Result<()> {
+    println!(rt; "done {trapezoids}")
 }
 
 // A set of source layers, as a mask.
-pub fn show_sources(sources: i32) {
-    io::write_all(STDOUT_FILENO, b"sources ");
-    io::print_decimal(STDOUT_FILENO, records_code::pattern(sources));
-    io::write_all(STDOUT_FILENO, b"\n");
+pub fn show_sources(rt: &impl Print, sources: i32) -> io::Result<()> {
+    println!(rt; "sources {}", records_code::pattern(sources))
 }
 
 // Whether every word is w.
-fn all_are(words: &[i32], w: i32) -> bool {
-    let mut at = 0;
-    while at < words.len() {
-        if words[at] != w {
-            return false;
-        }
-        at += 1;
-    }
-    true
+fn all_are(words: &[i32], w: i32) -> bool
+    ensures { IsTrue result ↔ All (λ x. x ≡ w) words.now }
+{
+    words.iter().all(|x| *x == w)
 }
 
-fn show_state(words: &[i32]) {
-    if all_are(words, 0) {
-        io::write_all(STDOUT_FILENO, b"zero");
-        return;
-    }
-    if all_are(words, 7) {
-        io::write_all(STDOUT_FILENO, b"unchanged");
-        return;
-    }
-    io::write_all(STDOUT_FILENO, b"written");
+fn show_state(rt: &impl Print, words: &[i32]) -> io::Result<()> {
+    let state = if all_are(words, 0) {
+        "zero"
+    } else if all_are(words, 7) {
+        "unchanged"
+    } else {
+        "written"
+    };
+    print!(rt; "{state}")
 }
 
 // Whether an output and its scratch area, which were lent with 7 in every word, are unchanged, all zero, or written.
-pub fn show_states(out: &[i32; records::MAX_WORDS], scratch: &[i32; records::MAX_WORDS]) {
-    io::write_all(STDOUT_FILENO, b"output ");
-    show_state(out);
-    io::write_all(STDOUT_FILENO, b", scratch ");
-    show_state(scratch);
-    io::write_all(STDOUT_FILENO, b"\n");
+pub fn show_states(rt: &impl Print, out: &[i32], scratch: &[i32]) -> io::Result<()> {
+    print!(rt; "output ")?;
+    show_state(rt, out)?;
+    print!(rt; ", scratch ")?;
+    show_state(rt, scratch)?;
+    println!(rt)
 }
 
 // Whether b starts with the words of a.
-fn same_words(a: &[i32], b: &[i32]) -> bool {
-    let mut i = 0;
-    while i < a.len() {
-        if b.len() <= i {
-            return false;
-        }
-        if a[i] != b[i] {
-            return false;
-        }
-        i += 1;
-    }
-    true
+fn same_words(a: &[i32], b: &[i32]) -> bool
+    ensures { IsTrue result ↔ (a.now ≡ take (length a.now) b.now) }
+{
+    b.starts_with(a)
 }
 
-pub fn show_same(a: &[i32], b: &[i32]) {
+pub fn show_same(rt: &impl Print, a: &[i32], b: &[i32]) -> io::Result<()> {
     if same_words(a, b) {
-        io::write_all(STDOUT_FILENO, b"the same words\n");
-        return;
+        println!(rt; "the same words")
+    } else {
+        println!(rt; "other words")
     }
-    io::write_all(STDOUT_FILENO, b"other words\n");
 }
 
 // Word number i of a file, if it has so many, set to x.
@@ -141,21 +116,17 @@ fn stair_y(j: usize) -> usize
 pub fn stairs(file: &mut [u8], start: usize)
     requires { start ≤ 131 }
 {
-    let mut i = 0;
-    while i < 2112 {
+    for i in 0..2112 {
         put_number(file, start + 2 * i, stair_x(i % 32));
         put_number(file, start + 2 * i + 1, stair_y(i % 32));
-        i += 1;
     }
 }
 
 // The pairs of 65 polygons with 32 vertices.
 fn pairs(file: &mut [u8]) {
-    let mut i = 0;
-    while i < 65 {
+    for i in 0..65 {
         put_number(file, 2 * i + 1, 32 * i);
         put_number(file, 2 * i + 2, 32);
-        i += 1;
     }
 }
 
@@ -173,33 +144,15 @@ fn square_word(k: usize, j: usize, sources: i32) -> i32 {
     let x = 4 * (k % 32);
     let y = 4 * (k / 32 % 32);
     match j {
-        4 | 16 | 20 => {
-            return x as i32;
-        }
-        6 => {
-            return (x + 1) as i32;
-        }
-        12 | 18 | 22 => {
-            return (x + 2) as i32;
-        }
-        14 => {
-            return (x + 3) as i32;
-        }
-        17 | 19 => {
-            return y as i32;
-        }
-        21 | 23 => {
-            return (y + 2) as i32;
-        }
-        2 | 7 | 10 | 15 => {
-            return 1;
-        }
-        24 => {
-            return sources;
-        }
-        _ => {
-            return 0;
-        }
+        4 | 16 | 20 => x as i32,
+        6 => (x + 1) as i32,
+        12 | 18 | 22 => (x + 2) as i32,
+        14 => (x + 3) as i32,
+        17 | 19 => y as i32,
+        21 | 23 => (y + 2) as i32,
+        2 | 7 | 10 | 15 => 1,
+        24 => sources,
+        _ => 0,
     }
 }
 
@@ -207,10 +160,8 @@ fn square_word(k: usize, j: usize, sources: i32) -> i32 {
 fn fill_squares(words: &mut [i32], start: usize, width: usize, sources: i32)
     requires { 0 < width }
 {
-    let mut i = start;
-    while i < words.len() {
+    for i in start..words.len() {
         words[i] = square_word((i - start) / width, (i - start) % width, sources);
-        i += 1;
     }
 }
 

@@ -1,4 +1,4 @@
-// The limits of papers 01 and 02 on files, through the public functions of `loxurfa_files`: 2, 3, 32, 33 vertices and 64, 65 polygons in a
+// The limits on files, through the public functions of `loxurfa_files`: 2, 3, 32, 33 vertices and 64, 65 polygons in a
 // polygon file, source layers 31 and 32, 512, 513 trapezoids in a layer file. Each case has its answer, which stands in the file `stdout`,
 // and the reason.
 #![tactic(auto)]
@@ -7,154 +7,151 @@ ghost use Rattle.std.specs.Prelude.{◌≤◌};
 
 use calls::Fractured;
 use files::{LayersRead, LayersWritten};
-use libc::STDOUT_FILENO;
+use std::io;
 
 // The first bytes as a polygon file.
-fn fracture(file: &[u8], bytes: usize) {
-    let mut out = [7i32; records::MAX_WORDS];
-    let mut scratch = [7i32; records::MAX_WORDS];
+fn fracture(rt: &(impl Print + AllocGlobal), file: &[u8], bytes: usize) -> io::Result<()> {
+    let alloc = rt.alloc();
+    let mut out = vec![in alloc; 7i32; records::MAX_WORDS]?;
+    let mut scratch = vec![in alloc; 7i32; records::MAX_WORDS]?;
     if bytes <= file.len() {
-        let r = loxurfa_files::fracture(0, &file[..bytes], &mut out, &mut scratch);
-        match r {
-            Fractured::Refused { number, place } => case_parts::refused(number, place),
-            Fractured::Done { pieces, overlays } => case_parts::done(pieces, overlays),
+        match loxurfa_files::fracture(0, &file[..bytes], &mut out, &mut scratch) {
+            Fractured::Refused { number, place } => case_parts::refused(rt, number, place)?,
+            Fractured::Done { pieces, overlays } => case_parts::done(rt, pieces, overlays)?,
         }
-        case_parts::show_states(&out, &scratch);
+        case_parts::show_states(rt, &out, &scratch)?;
     }
+    Ok(())
 }
 
 // One polygon: the first vertices of the staircase.
-fn polygon(n: usize)
+fn polygon(rt: &(impl Print + AllocGlobal), n: usize) -> io::Result<()>
     requires { n ≤ 33 }
 {
-    let mut file = [0u8; 20000];
+    let mut file = vec![in rt.alloc(); 0u8; 20000]?;
     case_parts::put_number(&mut file, 0, 1);
     case_parts::put_number(&mut file, 2, n);
     case_parts::stairs(&mut file, 3);
-    fracture(&file, 4 * (2 * n + 3));
+    fracture(rt, &file, 4 * (2 * n + 3))
 }
 
-fn vertices() {
-    io::write_all(STDOUT_FILENO, b"vertices\n");
+fn vertices(rt: &(impl Print + AllocGlobal)) -> io::Result<()> {
+    println!(rt; "vertices")?;
     // refused 6 place 0
-    polygon(2);
+    polygon(rt, 2)?;
     // done 1: (0, 8), (2, 8), (2, 7)
-    polygon(3);
+    polygon(rt, 3)?;
     // done 8
-    polygon(32);
+    polygon(rt, 32)?;
     // refused 6 place 0
-    polygon(33);
+    polygon(rt, 33)
 }
 
-fn polygon_counts() {
-    io::write_all(STDOUT_FILENO, b"polygons\n");
-    let mut file = [0u8; 20000];
+fn polygon_counts(rt: &(impl Print + AllocGlobal)) -> io::Result<()> {
+    println!(rt; "polygons")?;
+    let mut file = vec![in rt.alloc(); 0u8; 20000]?;
     case_parts::staircases(&mut file, 64);
     // done 512
-    fracture(&file, 16900);
+    fracture(rt, &file, 16900)?;
     case_parts::staircases(&mut file, 65);
     // refused 5 place 0
-    fracture(&file, 17164);
+    fracture(rt, &file, 17164)?;
     case_parts::staircases(&mut file, 64);
     // (1, 8) for vertex 1 of the last polygon, which is vertex 2,017 of the file
     case_parts::put_number(&mut file, 4163, 1);
     // refused 12 place 0: the last polygon has an event at 1 too, so nine columns: 513
-    fracture(&file, 16900);
+    fracture(rt, &file, 16900)
 }
 
 // The triangle of `vertices`, and the set of its trapezoid.
-fn source_layer(layer: u32) {
+fn source_layer(rt: &impl Print, layer: u32) -> io::Result<()> {
     let mut file = [0u8; 36];
     case_parts::put_number(&mut file, 0, 1);
     case_parts::put_number(&mut file, 2, 3);
     case_parts::stairs(&mut file, 3);
     let mut out = [7i32; records::MEMORY_WIDTH];
     let mut scratch = [7i32; records::MEMORY_WIDTH];
-    let r = loxurfa_files::fracture(layer, &file, &mut out, &mut scratch);
-    match r {
-        Fractured::Refused { number, place } => case_parts::refused(number, place),
-        Fractured::Done { pieces, overlays } => case_parts::done(pieces, overlays),
+    match loxurfa_files::fracture(layer, &file, &mut out, &mut scratch) {
+        Fractured::Refused { number, place } => case_parts::refused(rt, number, place)?,
+        Fractured::Done { pieces, overlays } => case_parts::done(rt, pieces, overlays)?,
     }
-    case_parts::show_sources(out[records::FILE_WIDTH]);
+    case_parts::show_sources(rt, out[records::FILE_WIDTH])
 }
 
-fn source_layers() {
-    io::write_all(STDOUT_FILENO, b"source layers\n");
+fn source_layers(rt: &impl Print) -> io::Result<()> {
+    println!(rt; "source layers")?;
     // done 1, sources 1
-    source_layer(0);
+    source_layer(rt, 0)?;
     // done 1, sources 2147483648
-    source_layer(31);
+    source_layer(rt, 31)?;
     // refused 14 place 0, sources 7: as lent
-    source_layer(32);
+    source_layer(rt, 32)
 }
 
 // The bytes of words, as many as fit.
 fn bytes_of(words: &[i32], file: &mut [u8]) {
-    let mut i = 0;
-    while i < words.len() {
-        let w = words[i];
-        case_parts::put_word(file, i, w);
-        i += 1;
+    for (i, w) in words.iter().enumerate() {
+        case_parts::put_word(file, i, *w);
     }
 }
 
-fn write_layers(words: &[i32], file: &mut [u8]) {
-    let r = loxurfa_files::write_layers(words, file);
-    match r {
-        LayersWritten::Refused { number, place } => case_parts::refused(number, place),
-        LayersWritten::Done { pieces, overlays } => case_parts::done_file(pieces),
+fn write_layers(rt: &impl Print, words: &[i32], file: &mut [u8]) -> io::Result<()> {
+    match loxurfa_files::write_layers(words, file) {
+        LayersWritten::Refused { number, place } => case_parts::refused(rt, number, place),
+        LayersWritten::Done { pieces, .. } => case_parts::done_file(rt, pieces),
     }
 }
 
-fn read_layers(file: &[u8], words: &mut [i32]) {
-    let r = loxurfa_files::read_layers(file, words);
-    match r {
-        LayersRead::Refused { number, place } => case_parts::refused(number, place),
-        LayersRead::Done { pieces, overlays } => case_parts::done_file(pieces),
+fn read_layers(rt: &impl Print, file: &[u8], words: &mut [i32]) -> io::Result<()> {
+    match loxurfa_files::read_layers(file, words) {
+        LayersRead::Refused { number, place } => case_parts::refused(rt, number, place),
+        LayersRead::Done { pieces, .. } => case_parts::done_file(rt, pieces),
     }
 }
 
-fn layer_file_1() {
-    io::write_all(STDOUT_FILENO, b"layer files\n");
-    let mut words = [0i32; 12803];
+fn layer_file_1(rt: &(impl Print + AllocGlobal)) -> io::Result<()> {
+    println!(rt; "layer files")?;
+    let alloc = rt.alloc();
+    let mut words = vec![in alloc; 0i32; 12803]?;
     // one layer of 512 squares, from trapezoid 0 on, all with the set of all source layers
     words[0] = 1;
     words[2] = 512;
     case_parts::squares(&mut words, 3, -1);
-    let mut file = [9u8; 49164];
+    let mut file = vec![in alloc; 9u8; 49164]?;
     // done 512: 24 words a square
-    write_layers(&words, &mut file);
-    let mut back = [7i32; 12803];
+    write_layers(rt, &words, &mut file)?;
+    let mut back = vec![in alloc; 7i32; 12803]?;
     // done 512
-    read_layers(&file, &mut back);
+    read_layers(rt, &file, &mut back)?;
     case_parts::squares(&mut words, 3, 0);
     // the same words: with empty sets
-    case_parts::show_same(&words, &back);
+    case_parts::show_same(rt, &words, &back)
 }
 
-fn layer_file_2() {
-    let mut words = [0i32; 12828];
+fn layer_file_2(rt: &(impl Print + AllocGlobal)) -> io::Result<()> {
+    let alloc = rt.alloc();
+    let mut words = vec![in alloc; 0i32; 12828]?;
     // one layer of 513 squares, from trapezoid 0 on
     words[0] = 1;
     words[2] = 513;
     case_parts::squares(&mut words, 3, -1);
-    let mut file = [9u8; 49260];
+    let mut file = vec![in alloc; 9u8; 49260]?;
     // refused 6 place 0
-    write_layers(&words, &mut file);
-    let mut file_words = [0i32; 12315];
+    write_layers(rt, &words, &mut file)?;
+    let mut file_words = vec![in alloc; 0i32; 12315]?;
     file_words[0] = 1;
     file_words[2] = 513;
     case_parts::file_squares(&mut file_words, 3);
     bytes_of(&file_words, &mut file);
-    let mut back = [7i32; 12828];
+    let mut back = vec![in alloc; 7i32; 12828]?;
     // refused 6 place 0
-    read_layers(&file, &mut back);
+    read_layers(rt, &file, &mut back)
 }
 
-fn main() {
-    vertices();
-    polygon_counts();
-    source_layers();
-    layer_file_1();
-    layer_file_2();
+fn main(rt: HostRuntime) -> io::Result<()> {
+    vertices(&rt)?;
+    polygon_counts(&rt)?;
+    source_layers(&rt)?;
+    layer_file_1(&rt)?;
+    layer_file_2(&rt)
 }

@@ -81,7 +81,7 @@ module _ (Q : Sourced → Type 0) where
 from-run : (origins : List (List Sourced)) (layers : List Layer) (steps : List Step) → Each From origins layers → Each From (origins_by origins (told layers steps)) (run layers steps)
 unfolding run told origins_by
 from-run origins layers [] h = h
-from-run origins layers (s ∷ steps) h = from-run _ (stepped layers s) steps (each_added From (succeeds layers s) origins layers _ (result_of layers s) h (from-result origins layers s h))
+from-run origins layers (s ∷ steps) h = from-run (added (succeeds layers s) origins (origin (code_at s.code) (origin_at origins s.first) (origin_at origins s.second))) (stepped layers s) steps (each_added From (succeeds layers s) origins layers _ (result_of layers s) h (from-result origins layers s h))
 
 pub run_sets : (start : List Layer) (steps : List Step) (n : ℕ) → From (origin_at (origins_by (map sourced_of start) (told start steps)) n) (layer_at (run start steps) n)
 run_sets start steps n = from_at (origins_by (map sourced_of start) (told start steps)) (run start steps) (from-run (map sourced_of start) start steps (from_own start)) n

@@ -109,9 +109,9 @@ module _ (A B : Trapezoid) (x : Fraction) (i j : ℕ) where
   order_same e = right_itself x (line_of_side A B i) ∙ ap (λ (k : ℕ). right_of x (line_of_side A B i) (line_of_side A B k)) e
 
 module _ (fa fb : Bool) (i : ℕ) where
-  pub present_first : i < 2 → fa ≡ present_by fa fb i
+  pub first_present : i < 2 → fa ≡ present_by fa fb i
   unfolding present_by
-  present_first h = rw (lt-ltb i 2 h)
+  first_present h = rw (lt-ltb i 2 h)
 
   pub present_second : 2 ≤ i → fb ≡ present_by fa fb i
   unfolding present_by
@@ -120,8 +120,8 @@ module _ (fa fb : Bool) (i : ℕ) where
 -- sides of one trapezoid are present both or neither
 module _ (fa fb : Bool) (i j : ℕ) where
   pub present_A : i < 2 → j < 2 → (present_by fa fb i ≡ true) ⊎ (present_by fa fb j ≡ true) → fa ≡ true
-  present_A k l (inl h) = present_first fa fb i k ∙ h
-  present_A k l (inr h) = present_first fa fb j l ∙ h
+  present_A k l (inl h) = first_present fa fb i k ∙ h
+  present_A k l (inr h) = first_present fa fb j l ∙ h
 
   pub present_B : 2 ≤ i → 2 ≤ j → (present_by fa fb i ≡ true) ⊎ (present_by fa fb j ≡ true) → fb ≡ true
   present_B k l (inl h) = present_second fa fb i k ∙ h

@@ -137,7 +137,7 @@ pub fn enclose_all(
     room: usize,
 ) -> Enclosed
     requires groups { Groups first_ends.now first.now first_boxes.now }
-    requires groups_2 { Groups second_ends.now second.now second_boxes.now × (length marks.old ≡ length second_ends.now) }
+    requires second_groups { Groups second_ends.now second.now second_boxes.now × (length marks.old ≡ length second_ends.now) }
     requires borrowed { Borrowed out.old room × (room ≤ max_records) }
     requires scratch_for { ScratchFor out.old scratch.old }
     ensures enclosed_as { EnclosedAs room (family_stages (group_at first_ends.now (layer_of first.now)) (length first_ends.now) (group_at second_ends.now (layer_of second.now)) (length second_ends.now)) result }

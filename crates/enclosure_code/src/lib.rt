@@ -109,7 +109,7 @@ fn encloses_part(
     room: usize,
 ) -> Enclosure
     requires boxed_layer { BoxedLayer shape.now shape_boxes.now × (0 < count trapezoid_codec shape.now) }
-    requires boxed_layer_2 { BoxedLayer layer.now boxes.now × (start < end) × (end ≤ count trapezoid_codec layer.now) }
+    requires part_within { BoxedLayer layer.now boxes.now × (start < end) × (end ≤ count trapezoid_codec layer.now) }
     requires borrowed { Borrowed out.old room × (room ≤ max_records) }
     requires scratch_for { ScratchFor out.old scratch.old }
     ensures enclosure_is { EnclosureIs room (layer_of shape.now) (trapezoids_between start end (layer_of layer.now)) result }
@@ -137,7 +137,7 @@ pub fn enclose_one(
     room: usize,
 ) -> Enclosed
     requires boxed_layer { BoxedLayer shape.now shape_boxes.now × (0 < count trapezoid_codec shape.now) × (number < max_records) × (j < length marks.old) }
-    requires boxed_layer_2 { BoxedLayer layer.now boxes.now × (end ≤ count trapezoid_codec layer.now) }
+    requires part_within { BoxedLayer layer.now boxes.now × (end ≤ count trapezoid_codec layer.now) }
     requires borrowed { Borrowed out.old room × (room ≤ max_records) }
     requires scratch_for { ScratchFor out.old scratch.old }
     ensures enclosed_as { EnclosedAs room (stages_of (layer_of shape.now) (trapezoids_between start end (layer_of layer.now))) result }

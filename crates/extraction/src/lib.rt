@@ -1,7 +1,6 @@
 // Transistors from three layers: what the functions that look for them answer.
 #![tactic(auto)]
 
-
 // Whether one shape encloses another: there was no room for the difference; or yes or no, and the number of overlays.
 #[derive(Clone, Copy)]
 pub enum Enclosure {

@@ -77,12 +77,12 @@ module _ {ws rest : List ℤ} {i before n : ℕ} {ns : List ℕ} (h : Listed ws 
 lengths_are : {ws rest : List ℤ} {i before : ℕ} (ns : List ℕ) → Listed ws rest i before ns → lengths_from layer_words ws (length ns) i ≡ ns
 unfolding lengths_from
 lengths_are [] h = refl
-lengths_are {ws} {rest} {i} (n ∷ ns) h = let e : length_at layer_words ws i ≡ n = ap amount_of (length_is h) in rw (e, lengths_are ns (others h))
+lengths_are {ws} {rest} {i} (n ∷ ns) h = let e : length_at layer_words ws i ≡ n = ap amount_of (length_is h) in rw (e, lengths_are {i = i + 1} ns (others h))
 
 rest_is : {ws rest : List ℤ} {i before : ℕ} (ns : List ℕ) → Listed ws rest i before ns → drop (2 * (i + length ns) + 1) ws ≡ rest
 unfolding pairs_of
 rest_is {ws} {rest} {i} [] h = let e : i + 0 ≡ i = omega arith in rw e h.is
-rest_is {ws} {rest} {i} (n ∷ ns) h = let e : i + suc (length ns) ≡ i + 1 + length ns = omega arith in ap (λ (k : ℕ). drop (2 * k + 1) ws) e ∙ rest_is ns (others h)
+rest_is {ws} {rest} {i} (n ∷ ns) h = let e : i + suc (length ns) ≡ i + 1 + length ns = omega arith in ap (λ (k : ℕ). drop (2 * k + 1) ws) e ∙ rest_is {i = i + 1} ns (others h)
 
 -- row 6 lets them pass
 walk_is : {ws rest : List ℤ} {i before : ℕ} (layers : List (List Sourced)) → Listed ws rest i before (map length layers) → before + length (joined layers) ≤ max_records
@@ -101,7 +101,7 @@ walk_is {ws} {rest} {i} {before} (layer ∷ layers) h t e =
     let b = in_range_lem 0 max_records (length_read layer_words ws i) (ap natural_of (length_is h)) (omega arith) (omega (arith, l)) in
     let p : pair_length layer_words before (word_at ws (2 * i + 1)) (length_read layer_words ws i) ≡ Of (length layer)
     = sym (right_pair layer_words before (word_at ws (2 * i + 1)) (length_read layer_words ws i) (sym a) (sym b) (omega (arith, l))) in
-    rw p (walk_is layers (others h) (omega arith) (rw (u, v) e) ∙ rw (u, v))
+    rw p (walk_is {i = i + 1} layers (others h) (omega arith) (rw (u, v) e) ∙ rw (u, v))
 
 -- ---- what the words of layers hold
 module _ (layers : List (List Sourced)) where

@@ -1,7 +1,6 @@
 // Polygon files and layer files: how they are made up, and what a reader and a writer of layers answer.
 #![tactic(auto)]
 
-
 // The editions of the exchange format: a polygon file of the new one may leave lengths out.
 #[derive(Clone, Copy)]
 pub enum Edition {

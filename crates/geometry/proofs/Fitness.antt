@@ -135,8 +135,8 @@ sides_exact p q l m hp hq h = Sides.sides_exact p q l m hp hq h
 
 -- ---- each row's test is what it asks, of a trapezoid that has what the rows before ask
 module _ (L : ℕ) (t : Trapezoid) where
-  grid_row : T (all (line_on_grid L) (lines_of t)) ↔ GridRow L t
-  grid_row = all_exact (line_on_grid L) (OnGrid L) (grid_exact L) (lines_of t)
+  all_on_grid : T (all (line_on_grid L) (lines_of t)) ↔ GridRow L t
+  all_on_grid = all_exact (line_on_grid L) (OnGrid L) (grid_exact L) (lines_of t)
 
 module _ (t : Trapezoid) where
   line_row : T (all is_line (lines_of t)) ↔ LineRow t
@@ -236,7 +236,7 @@ module _ (L : ℕ) (t : Trapezoid) where
   -- an answer of the rows past n
   after7 : {W : Type 0} (w : Verdict) → Past 7 w → (GridRow L t → (from8 t ≡ w) ↔ W) → (verdict L t ≡ w) ↔ (GridRow L t × W)
   unfolding verdict shape_verdict
-  after7 w p = passes (all (line_on_grid L) (lines_of t)) 7 (from8 t) w p (grid_row L t)
+  after7 w p = passes (all (line_on_grid L) (lines_of t)) 7 (from8 t) w p (all_on_grid L t)
 
   after8 : {W : Type 0} (w : Verdict) → Past 8 w → (LineRow t → (from9 t ≡ w) ↔ W) → (verdict L t ≡ w) ↔ (GridRow L t × (LineRow t × W))
   after8 w p below = after7 w (past_less 7 8 w (omega arith) p) (λ g. passes (all is_line (lines_of t)) 8 (from9 t) w p (line_row t) below)
@@ -262,7 +262,7 @@ pub row_exact : RowExact
 unfolding verdict shape_verdict
 row_exact L t =
     record {
-      grid = stops (all (line_on_grid L) (lines_of t)) 7 (from8 t) (past8 t) (grid_row L t);
+      grid = stops (all (line_on_grid L) (lines_of t)) 7 (from8 t) (past8 t) (all_on_grid L t);
       line = after7 L t (Row 8) (omega arith, omega arith) (λ g. stops (all is_line (lines_of t)) 8 (from9 t) (past9 t) (line_row t));
       base = after8 L t (Row 9) (omega arith, omega arith) (λ l. stops (base_test t) 9 (from10 t) (past10 t) (base_row t l));
       bases = after9 L t (Row 10) (omega arith, omega arith) (λ l b. stops (bases_test t) 10 (from11 t) (past11 t) (bases_row t l b));

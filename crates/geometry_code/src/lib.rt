@@ -131,8 +131,8 @@ pub fn position_of(b: Base) -> Position
 
 // a·b against c·d. Every comparison of positions and of heights goes through this one.
 pub fn compare_products(a: Int, b: Int, c: Int, d: Int) -> Ordering
-    requires v_bound { (nat_abs a.v ≤ numer_bound coordinate_limit) × (nat_abs b.v ≤ det_bound coordinate_limit) }
-    requires v_bound_2 { (nat_abs c.v ≤ numer_bound coordinate_limit) × (nat_abs d.v ≤ det_bound coordinate_limit) }
+    requires first_product { (nat_abs a.v ≤ numer_bound coordinate_limit) × (nat_abs b.v ≤ det_bound coordinate_limit) }
+    requires second_product { (nat_abs c.v ≤ numer_bound coordinate_limit) × (nat_abs d.v ≤ det_bound coordinate_limit) }
     ensures { result ≡ order_of (a.v ⊗ b.v) (c.v ⊗ d.v) }
 {
     let p = integer_code::mul(a, b);

@@ -2,7 +2,6 @@
 // plain `i64` local is read back from its bits at each use.
 #![tactic(auto)]
 
-
 #[derive(Clone, Copy)]
 pub struct Int {
     pub v: i64,

@@ -1,5 +1,5 @@
 -- The parts common to one trapezoid and a layer, and to two layers, as folds.
-use mathlib.Core.Path.{◌≡◌, refl, sym, ◌∙◌, ap}
+use mathlib.Core.Path.{◌≡◌, refl, sym, ◌∙◌, ap, subst}
 use mathlib.Core.Bool.{false}
 use mathlib.Core.List.{List, [], ◌∷◌, ◌++◌, append-nil}
 use Prim.Native.Nat.{ℕ, ◌+◌, ◌-◌, ◌<◌, ◌≤◌}
@@ -11,8 +11,9 @@ use Rattle.records.specs.Records.{record_at, image, count}
 use Rattle.records.proofs.Records.{length_from}
 use Rattle.geometry.specs.declared.Trapezoid.{Trapezoid}
 use Rattle.geometry.specs.Trapezoids.{trapezoid_codec, layer_of}
+use Rattle.geometry.specs.declared.Fill.{Fill}
 use Rattle.sources.specs.Sets.{joined}
-use Rattle.sources.specs.Sourced.{Sourced, sourced_codec, sourced_of, shapes, bearing}
+use Rattle.sources.specs.Sourced.{Sourced, sourced_codec, sourced_of, shapes, sources_at, bearing}
 use Rattle.sources.proofs.Sourced.{sourced_at, shapes_of, shapes-length, bearing-length}
 use Rattle.overlay.specs.Overlaps.{overlaps}
 use Rattle.overlay.specs.Overlay.{overlay, tagged}
@@ -23,11 +24,17 @@ use Rattle.boolean.specs.Space.{Stage, overlaid, enough, space, common_stages, i
 use Rattle.boolean.proofs.Forgetting.{common_forgets}
 use Rattle.boolean.proofs.Shifting.{overlaid_shift, common_shift}
 use Rattle.boolean.proofs.Apart.{common_apart}
+use Rattle.trapezoids_code.specs.Tails.{FilledBy}
+use Rattle.trapezoids_code.proofs.Writing.{tail}
 use Rattle.remainder_code.specs.Code.{OverlaysWithin}
-use Rattle.remainder_code.proofs.Answers.{stages_within, within_least, space_overlaid}
-use Rattle.remainder_code.proofs.Folding.{Fold, Steps, Folding, fold_next, Part, appending, appending_steps}
+use Rattle.remainder_code.proofs.Answers.{once, stages_within, within_least, space_overlaid}
+use Rattle.remainder_code.proofs.Folding.{Fold, Steps, Folding, fold_next, Turned, fill_turn, Part, appending, appending_steps}
 use Rattle.bearing_code.specs.Code.{SourcedAs}
 use Rattle.bearing_code.proofs.Bearing.{sourced}
+
+-- a with its set
+abbrev pub owned : Trapezoid → ℤ → Sourced
+owned a z = record { shape = a; sources = z }
 
 -- ---- one trapezoid and a layer
 module _ (a : Sourced) where
@@ -81,6 +88,16 @@ common_passed a {W} {room} {goal} {ms} {layer} {out} {k} {overlays} {i} h l e =
     let n = ap length same in
     fold_next h l b refl k 1 out (space_overlaid room (length h.done + length parts) (omega (arith, m, h.size, h.within)))
     (omega (arith, n, h.size), omega (arith, n, h.size, h.within), h.laid ∙ ap (image sourced_codec W) (sym same))
+
+-- a turn that writes the parts common to a and number i, which has this shape and the set z, with both sets joined
+pub common_turn : (a : Sourced) {W room : ℕ} {goal : List Sourced} {ms : List Stage} {layer out : List ℤ} {k overlays i : ℕ} (h : Folding (common_fold a) W room goal ms layer out k overlays i)
+    → i < count trapezoid_codec layer → (shape : Trapezoid) → shape ≡ record_at trapezoid_codec layer i → (z : ℤ) → z ≡ sources_at layer i → (y : ℤ) → y ≡ joined a.sources z
+    → (f : Fill) (t : List ℤ) → FilledBy sourced_codec (length (tail out k)) (room - k) (bearing y (tagged 3 (overlay a.shape shape))) f t → Turned h (room - k) (once f) t
+common_turn a {W} {room} {goal} {ms} {layer} {out} {k} {overlays} {i} h l shape s z q y both f t g =
+    let b : Sourced = owned shape z in
+    let is : b ≡ record_at sourced_codec layer i = (λ j. record { shape = s j; sources = q j }) ∙ sym (sourced_at layer i) in
+    let parts = tagged 3 (overlay a.shape shape) in
+    fill_turn h l b is (common_part a b h.size h.within) f t (subst (λ (x : ℤ). FilledBy sourced_codec (length (tail out k)) (room - k) (bearing x parts) f t) both g)
 
 -- one stage for each trapezoid of the layer
 stages-length : (a : Trapezoid) (k : ℕ) (bs : List Trapezoid) → length (common_stages k a bs) ≡ length bs

@@ -1,14 +1,21 @@
 // Lists a polygon file: reads it on standard input, fractures it, deoverlaps the trapezoids, and prints them on standard output.
 #![tactic(auto)]
 
-ghost use Rattle.std.specs.Prelude.{◌≡◌, ◌≤◌, length};
+ghost use Rattle.std.specs.Prelude.{◌≡◌, ◌≤◌, length, take, IfOk, IfSome, OnOk};
+ghost use Rattle.std.specs.Io.KnownBytes.{Appends};
 ghost use Rattle.records.specs.Limits.{max_words};
 ghost use Rattle.listing.specs.Listing.{listing_room};
 ghost use Rattle.listing.specs.Lister.{deoverlap_listed, listed};
 ghost use Rattle.lister.specs.Code.{Put};
 
+use anyhow::{Context, Result};
 use calls::{Deoverlapped, Fractured};
-use libc::{STDERR_FILENO, STDIN_FILENO, STDOUT_FILENO};
+use std::alloc::Global;
+use std::io;
+use std::io::{Read, Write};
+
+// How much of the input is read: a file of more than 65,532 bytes is refused, whatever follows.
+const ENOUGH_BYTES: u64 = 65536;
 
 // The text for a layer, deoverlapped into `out`, at the start of `text`. The answer is its length.
 fn list_layer(layer: &[i32], out: &mut [i32], scratch: &mut [i32], text: &mut [u8]) -> usize
@@ -49,43 +56,28 @@ fn list_file(
     }
 }
 
-// The text for the bytes of a polygon file, printed; where it cannot be, a line on standard error.
-fn print_listing(file: &[u8]) {
-    let mut first = [0i32; records::MAX_WORDS];
-    let mut out = [0i32; records::MAX_WORDS];
-    let mut scratch = [0i32; records::MAX_WORDS];
-    let mut text = [0u8; listing::LISTING_ROOM];
+// The first bytes of the input, or all where it has no more. Input that cannot be read so far is an error.
+fn read_file<R: Read + Drop>(alloc: Global, input: R) -> io::Result<Vec<u8>>
+    ensures { IfOk result (λ file. IfSome (R.remaining input) (λ bytes. file.items ≡ take 65536 bytes)) }
+{
+    let mut file = Vec::new(alloc);
+    input.take(ENOUGH_BYTES).read_to_end(&mut file)?;
+    Ok(file)
+}
+
+// The text for the bytes of a polygon file, written to `output`.
+fn print_listing<W: Write>(alloc: Global, file: &[u8], output: &mut W) -> io::Result<()>
+    ensures { OnOk result (Appends (W.contents output.old) (W.contents output.new) (listed file.now)) }
+{
+    let mut first = vec![in alloc; 0i32; records::MAX_WORDS]?;
+    let mut out = vec![in alloc; 0i32; records::MAX_WORDS]?;
+    let mut scratch = vec![in alloc; 0i32; records::MAX_WORDS]?;
+    let mut text = vec![in alloc; 0u8; listing::LISTING_ROOM]?;
     let n = list_file(file, &mut first, &mut out, &mut scratch, &mut text);
-    let is_written = io::write_all(STDOUT_FILENO, &text[..n]);
-    if !is_written {
-        os::fail(b"standard output");
-    }
+    output.write_all(&text[..n])
 }
 
-// Whether the input ended where `read_full` stopped, which it does where a read fails too. One more read tells: at the end it answers 0. If
-// not, a line on standard error.
-fn has_ended() -> bool {
-    let mut more = [0u8; 1];
-    let got = libc::read(STDIN_FILENO, &mut more);
-    if got < 0 {
-        os::fail(b"standard input");
-        return false;
-    }
-    if got > 0 {
-        io::write_all(STDERR_FILENO, b"standard input: not read to its end\n");
-        return false;
-    }
-    true
-}
-
-// More than 65,532 bytes are refused, and 65,536 are enough to know. Input that could not be read to its end is not listed.
-fn main() {
-    let mut file = io::large_buffer();
-    let n = io::read_full(STDIN_FILENO, &mut file);
-    if n < 65536 {
-        if !has_ended() {
-            return;
-        }
-    }
-    print_listing(&file[..n]);
+fn main(rt: HostRuntime) -> Result<()> {
+    let file = read_file(rt.alloc(), rt.reader()).context("standard input")?;
+    print_listing(rt.alloc(), &file, &mut io::writer(&rt)).context("standard output")
 }

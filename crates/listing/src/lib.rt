@@ -1,7 +1,6 @@
 // The sizes of the texts that the lister prints.
 #![tactic(auto)]
 
-
 // The bytes that are enough for a listing of 512 records, and for a refusal's line.
 pub const LISTING_ROOM: usize = 147468;
 

@@ -1,3 +1,2 @@
 // Lists and Booleans: definitions and laws only.
 #![tactic(auto)]
-

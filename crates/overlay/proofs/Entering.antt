@@ -37,8 +37,8 @@ meet_turn l m h =
     ]
 
 -- ---- a line below another right of p is not above it at p
-pub not_above : (p : Fraction) (l m : Line) → T (below p l m) → gap l m p ≤ℤ pos 0
-not_above p l m h = go (below→lower p l m h)
+pub below_gap : (p : Fraction) (l m : Line) → T (below p l m) → gap l m p ≤ℤ pos 0
+below_gap p l m h = go (below→lower p l m h)
   where
     go : Lower (gap l m p) (det l m) → gap l m p ≤ℤ pos 0
     go (inl k) = lt→le k
@@ -110,4 +110,4 @@ module _ (p x : Fraction) (l m : Line) (hp : Proper p) (hx : Proper x) (h : T (n
 -- ---- l is below m right of p, and at x: then it is right of each position between
 pub persists : (p r x : Fraction) (l m : Line) → Proper p → Proper r → Proper x → T (below p l m) → gap l m x <ℤ pos 0 → T (before p r) → T (before r x) → T (below r l m)
 persists p r x l m hp hr hx b g u v =
-    lower→below r l m (inl (weighted_lt' (gap-between l m p x r) (ahead p x (before_trans p r x hp hr hx u v)) (lt→le (ahead r x v)) (ahead p r u) (not_above p l m b) g))
+    lower→below r l m (inl (weighted_lt' (gap-between l m p x r) (ahead p x (before_trans p r x hp hr hx u v)) (lt→le (ahead r x v)) (ahead p r u) (below_gap p l m b) g))

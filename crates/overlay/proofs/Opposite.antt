@@ -27,7 +27,7 @@ use Rattle.geometry.proofs.Meet.{crosses→det, meet_proper, meet-gap}
 use Rattle.geometry.proofs.Fitness.{bottom_line, top_line}
 use Rattle.geometry.proofs.Ranges.{common_left_proper, common_right_proper, left_after, right_to}
 use Rattle.overlay.specs.Overlaps.{crosses_in_common, overlap_right}
-use Rattle.overlay.proofs.Entering.{not_above}
+use Rattle.overlay.proofs.Entering.{below_gap}
 use Rattle.overlay.proofs.Ranges.{Crossing, from-crossing}
 
 -- ---- a position between two and one, and between one and two
@@ -67,7 +67,7 @@ module _ (l m : Line) (r : Fraction) (hr : Proper r) (zero : gap l m r ≡ pos 0
       rises =
           elim (lt_or_le (pos 0) (det l m)) [
             | inl j ↦ j
-            | inr j ↦ elim (lt_or_le (det l m) (pos 0)) [ inl i ↦ clash_ℤ (above_left p i b) (not_above p l m h) | inr i ↦ absurd (slopes (antisymm j i)) ]
+            | inr j ↦ elim (lt_or_le (det l m) (pos 0)) [ inl i ↦ clash_ℤ (above_left p i b) (below_gap p l m h) | inr i ↦ absurd (slopes (antisymm j i)) ]
           ]
 
   -- above m before r, if p is at r or after it

@@ -22,7 +22,7 @@ use Rattle.geometry.proofs.Fitness.{base_exact}
 use Rattle.geometry.proofs.Standing.{left_of_exact}
 use Rattle.sweep.specs.Segments.{Segment, spans}
 use Rattle.sweep.specs.Columns.{Below}
-use Rattle.sweep.proofs.Column.{groups_below}
+use Rattle.sweep.proofs.Column.{groups_ordered}
 use Rattle.sweep.proofs.Sweep.{sweep_all}
 use Rattle.overlay.specs.Overlaps.{crosses_in_common}
 use Rattle.overlay.specs.Overlay.{Part, sides, side_crossings, overlay_events, segment_line, part, parts, subdivision, overlay}
@@ -79,7 +79,7 @@ module _ {L : ℕ} {A B : Trapezoid} (ha : FitFor L A) (hb : FitFor L B) where
     where
       column : (p q : Base) → Cell A B p q → All R (parts A B p q (dividers A B p))
       column p q c =
-          let below = pairs_neighbours (Below segment_line (position p) (position q) (dividers A B p)) (groups A B p) (groups_below segment_line c.clear) in
+          let below = pairs_neighbours (Below segment_line (position p) (position q) (dividers A B p)) (groups A B p) (groups_ordered segment_line c.clear) in
           stack_all A B p q R (groups A B p) (neighbours_map (f p q c) (groups A B p) below)
 
   part_lines : (p q : Base) → Cell A B p q → (g h : Segment) → Below segment_line (position p) (position q) (dividers A B p) g h → All (Ours A B) (lines_of (part A B p q g h).trapezoid)

@@ -7,7 +7,7 @@ ghost use Rattle.geometry.specs.Limit.{coordinate_limit};
 ghost use Rattle.geometry.specs.Points.{IsPoint};
 ghost use Rattle.geometry.specs.Fitness.{FitFor, FitLayer};
 ghost use Rattle.geometry.specs.Trapezoids.{layer_of, lies_in_layer};
-ghost use Rattle.boolean.specs.Operations.{code_at, result, says as says_of};
+ghost use Rattle.boolean.specs.Operations.{code_at, result as result_of, says as says_of};
 ghost use Rattle.chains.specs.Memberships.{memberships, membership_at, IsAnswerTable};
 ghost use Rattle.geometry_code.specs.Code.{point_of, SmallPoint};
 
@@ -25,7 +25,7 @@ const ANSWERS: [[bool; 4]; 5] = [
 
 // The table, and what holds of it: a contract cannot name a constant.
 fn answers() -> [[bool; 4]; 5]
-    ensures* { λ r. ⌜ IsAnswerTable r ⌝ }
+    ensures { IsAnswerTable result }
 {
     ANSWERS
 }
@@ -33,7 +33,7 @@ fn answers() -> [[bool; 4]; 5]
 // Whether the point (x/d, y/d) lies in a layer.
 fn lies_in(layer: &[i32], x: Int, y: Int, d: Int) -> bool
     requires { All (FitFor coordinate_limit) (layer_of layer.now) × SmallPoint x y d }
-    ensures* { λ r. ⌜ r ≡ lies_in_layer (point_of x y d) (layer_of layer.now) ⌝ }
+    ensures { result ≡ lies_in_layer (point_of x y d) (layer_of layer.now) }
 {
     let n = layer.len() / records::MEMORY_WIDTH;
     let mut i = 0;
@@ -49,7 +49,7 @@ fn lies_in(layer: &[i32], x: Int, y: Int, d: Int) -> bool
 
 // The column of the table for a point, by whether it lies in the first layer and in the second.
 fn column_of(first: bool, second: bool) -> usize
-    ensures* { λ r. ⌜ (r < length memberships) × (membership_at r ≡ record { first = first; second = second }) ⌝ }
+    ensures { (result < length memberships) × (membership_at result ≡ record { first = first; second = second }) }
 {
     if first {
         if second {
@@ -66,7 +66,7 @@ fn column_of(first: bool, second: bool) -> usize
 // Whether a point lies in the result with this code, by whether it lies in the first layer and in the second.
 fn says(code: u32, first: bool, second: bool) -> bool
     requires { code < 5 }
-    ensures* { λ r. ⌜ r ≡ says_of (code_at code) first second ⌝ }
+    ensures { result ≡ says_of (code_at code) first second }
 {
     let answers = answers();
     let row = code as usize;
@@ -77,7 +77,7 @@ fn says(code: u32, first: bool, second: bool) -> bool
 // Whether the point (x/d, y/d) lies in the result of the set operation with this code on two layers.
 pub fn lies_in_result(code: u32, first: &[i32], second: &[i32], x: Int, y: Int, d: Int) -> bool
     requires { (code < 5) × FitLayer first.now × FitLayer second.now × SmallPoint x y d × IsPoint (point_of x y d) }
-    ensures* { λ r. ⌜ r ≡ lies_in_layer (point_of x y d) (result (code_at code) (layer_of first.now) (layer_of second.now)) ⌝ }
+    ensures { result ≡ lies_in_layer (point_of x y d) (result_of (code_at code) (layer_of first.now) (layer_of second.now)) }
 {
     let in_first = lies_in(first, x, y, d);
     let in_second = lies_in(second, x, y, d);

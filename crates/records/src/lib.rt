@@ -1,7 +1,6 @@
 // The sizes that layers keep to.
 #![tactic(auto)]
 
-
 // Words of a trapezoid in a layer file, and in memory, where one more has the set of its source layers.
 pub const FILE_WIDTH: usize = 24;
 

@@ -77,8 +77,8 @@ small_operand [] us operand h = omega (arith, h.1)
 small_operand (t ∷ ts) us operand h = omega (arith, h)
 
 module _ (room : ℕ) (A B : List Trapezoid) (f : Compared) (h : ComparedAs room A B f) where
-  is_no_room : {c : ℕ} → f ≡ comparison.NoRoom c → refused_equality 12 0 ≡ compared_in (difference A B) (difference B A) (space room (equality_stages A B))
-  is_no_room g = let k = subst (ComparedAs room A B) g h in rw k
+  refused_no_room : {c : ℕ} → f ≡ comparison.NoRoom c → refused_equality 12 0 ≡ compared_in (difference A B) (difference B A) (space room (equality_stages A B))
+  refused_no_room g = let k = subst (ComparedAs room A B) g h in rw k
 
   is_same : {c : ℕ} → f ≡ comparison.Same c → same c ≡ compared_in (difference A B) (difference B A) (space room (equality_stages A B))
   is_same g = let k = subst (ComparedAs room A B) g h in rw (k.0, k.1, k.2)
@@ -111,7 +111,7 @@ module _ (a b out scratch : List ℤ) where
   module _ (e : both_disjoint a b ≡ Passed) (f : Compared) (d s : List ℤ) (h : ComparedAs (room_of out) (layer_of a) (layer_of b) f)
       (y : d ≡ zeros (length out)) (z : s ≡ zeros (length scratch)) where
     pub equal_no_room : {c : ℕ} → f ≡ comparison.NoRoom c → observed (refused_equality 12 0) d s ≡ tested
-    equal_no_room g = ap (λ x. observed x d s) (is_no_room (room_of out) (layer_of a) (layer_of b) f h g) ∙ equal_compared d s y z e
+    equal_no_room g = ap (λ x. observed x d s) (refused_no_room (room_of out) (layer_of a) (layer_of b) f h g) ∙ equal_compared d s y z e
 
     pub equal_same : {c : ℕ} → f ≡ comparison.Same c → observed (same c) d s ≡ tested
     equal_same g = ap (λ x. observed x d s) (is_same (room_of out) (layer_of a) (layer_of b) f h g) ∙ equal_compared d s y z e

@@ -1,3 +1,2 @@
 // Sets of source layers, and trapezoids in memory with their sets: definitions and laws.
 #![tactic(auto)]
-

@@ -52,8 +52,8 @@ module _ {A : Type 0} (line : A → Line) {p q : Fraction} {es : List A} (c : Cl
       let row = all_member (λ (d : A). All (λ (e : A). Uncrossed p q (line d) (line e)) es) d es c.uncrossed hd.1 in
       all_member (λ (e : A). Uncrossed p q (line d) (line e)) e es row he.1
 
-  pub groups_below : Pairs (Below line p q es) (levels (lower line p) es)
-  groups_below = pairs (levels (lower line p) es) groups_good groups_rising
+  pub groups_ordered : Pairs (Below line p q es) (levels (lower line p) es)
+  groups_ordered = pairs (levels (lower line p) es) groups_good groups_rising
     where
       make : (d e : A) → Good d → Good e → T (lower line p d e) → Below line p q es d e
       make d e hd he l = record { bottom = hd.1; top = he.1; between = stays p q (line d) (line e) c.left c.right (uncrossed_at d e hd he) l }
@@ -94,4 +94,4 @@ module _ {A : Type 0} (line : A → Line) (weight : A → ℤ) where
 
   pub column_open : ColumnOpen line weight
   unfolding column
-  column_open p q es c = slabs_all (up_to line weight p es) (Below line p q es) none (levels (lower line p) es) tt (groups_below line c)
+  column_open p q es c = slabs_all (up_to line weight p es) (Below line p q es) none (levels (lower line p) es) tt (groups_ordered line c)

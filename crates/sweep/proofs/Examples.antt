@@ -56,20 +56,20 @@ down h = (h, negsuc 0)
 abbrev slab : Weighted → Weighted → Slab Weighted
 slab d e = record { bottom = d; top = e }
 
-abbrev column_of : List Weighted → List (Slab Weighted)
-column_of es = column (λ (e : Weighted). level e.0) (λ (e : Weighted). e.1) (at 0) es
+abbrev columns_at_0 : List Weighted → List (Slab Weighted)
+columns_at_0 es = column (λ (e : Weighted). level e.0) (λ (e : Weighted). e.1) (at 0) es
 
 -- the sums 1, 0, 1, 0: two slabs
 abbrev Apart : Type 0
-Apart = column_of (down 3 ∷ up 0 ∷ down 1 ∷ up 2 ∷ []) ≡ slab (up 0) (down 1) ∷ slab (up 2) (down 3) ∷ []
+Apart = columns_at_0 (down 3 ∷ up 0 ∷ down 1 ∷ up 2 ∷ []) ≡ slab (up 0) (down 1) ∷ slab (up 2) (down 3) ∷ []
 
 -- the sums 1, 2, 1, 0: one slab
 abbrev Nested : Type 0
-Nested = column_of (up 0 ∷ up 1 ∷ down 2 ∷ down 3 ∷ []) ≡ slab (up 0) (down 3) ∷ []
+Nested = columns_at_0 (up 0 ∷ up 1 ∷ down 2 ∷ down 3 ∷ []) ≡ slab (up 0) (down 3) ∷ []
 
 -- two that coincide are one group: the sums 1, 1, 0
 abbrev Grouped : Type 0
-Grouped = column_of (up 0 ∷ down 2 ∷ up 2 ∷ down 3 ∷ []) ≡ slab (up 0) (down 3) ∷ []
+Grouped = columns_at_0 (up 0 ∷ down 2 ∷ up 2 ∷ down 3 ∷ []) ≡ slab (up 0) (down 3) ∷ []
 
 in_slabs : Apart × Nested × Grouped
 unfolding ◌⊕◌ ◌⊖◌ ◌⊗◌ ⊝◌ order_of before insert levels dx dy offset det numer heights right_of below sum slabs up_to column

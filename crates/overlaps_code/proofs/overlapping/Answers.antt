@@ -1,0 +1,19 @@
+use mathlib.Core.Path.{sym, ◌∙◌, ap₂}
+use Rattle.integer.specs.Fraction.{before}
+use Rattle.geometry_code.proofs.Branches.{answers_left}
+use Rattle.overlaps_code.proofs.Window.{apart}
+use Rattle.overlaps_code.proofs.overlapping.Goals as goal
+
+pub returns-then-is_left : goal.returns-then-is_left
+returns-then-is_left c =
+    let lo = c.common_left-lo.ensures in
+    let hi = c.common_right-hi.ensures in
+    c.overlapping_by.ensures _ _ (record { bottom_top = c.meeting_of-m.ensures; top_bottom = c.meeting_of-k.ensures }) lo.is hi.is
+    (answers_left lo.small hi.small c.compare.ensures ∙ sym c.is_left.ensures ∙ c.if-is_left.true)
+
+pub returns : goal.returns
+returns c =
+    let lo = c.common_left-lo.ensures in
+    let hi = c.common_right-hi.ensures in
+    let s = c.args in
+    apart s.a.shape s.b.shape (sym (ap₂ before lo.is hi.is) ∙ answers_left lo.small hi.small c.compare.ensures ∙ sym c.is_left.ensures ∙ c.if-is_left.false)

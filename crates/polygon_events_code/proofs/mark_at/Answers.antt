@@ -1,0 +1,6 @@
+use Rattle.polygon_events_code.proofs.Branches.{mark_event}
+use Rattle.polygon_events_code.proofs.mark_at.Goals as goal
+
+pub returns : goal.returns
+returns c =
+    mark_event c.args.limit c.args.x.v _ _ c.mark_line-second.ensures c.whole_position-at.ensures
