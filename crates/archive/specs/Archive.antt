@@ -71,7 +71,7 @@ sent P (polygons f) = any_wound P (polygons_of f.edition (file_words f.file))
 sent P (disjoint_polygons f d) = any_wound P (polygons_of f.edition (file_words f.file))
 sent P (archived r n) = lies_in_layer P (file_layer_at r.file n)
 
--- the test says yes exactly if the point was sent (proofs/Points.antt: `sent-exact`)
+-- the test says yes exactly if the point was sent (proofs/Points.antt: `sent_exact`)
 abbrev pub SentExact : Type 0
 SentExact = (P : Point) (s : Source) → T (sent P s) ↔ Sent P s
 

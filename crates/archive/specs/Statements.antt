@@ -28,7 +28,7 @@ pub record OnFile (sources : List Source) (calls : List Call) (numbers : List �
   pub disjoint : (i : ℕ) → i < length numbers → (get_or numbers i 0 < length sources → At DisjointSource sources (get_or numbers i 0)) → Disjoint (get_or (layers_of (words_by r)) i [])
 
 -- From accepted sources, disjoint or not, by any calls of the set operations, refused ones included, to a file that the writer wrote of any of the layers held, read back by any
--- call with no smaller limit whose output has room (proofs/Archive.antt: `archive-exact`)
+-- call with no smaller limit whose output has room (proofs/Archive.antt: `archive_exact`)
 abbrev pub ArchiveExact : Type 0
 ArchiveExact =
     (sources : List Source) → All Accepted sources
@@ -43,7 +43,7 @@ abbrev pub CameFrom : ℕ → Trapezoid → Source → Type 0
 CameFrom k t s = T (has k (set_of s)) × ((P : Point) → IsPoint P → T (lies_in P t) → Sent P s)
 
 -- From accepted sources by any calls of the set operations: where layer k is in the set of a trapezoid that the chain holds, the trapezoid came from a source with that layer number.
--- The converse is not claimed: a union drops the sets of B where A lies. (proofs/Sets.antt: `sets-sent`)
+-- The converse is not claimed: a union drops the sets of B where A lies. (proofs/Sets.antt: `sets_sent`)
 abbrev pub SetsSent : Type 0
 SetsSent =
     (sources : List Source) → All Accepted sources

@@ -55,6 +55,6 @@ unfoldable pub components_outcome : ℕ → List ℤ → List ℕ → Components
 components_outcome L a numbers =
     count_outcome (and_then (components_checked L a (length numbers)) (first_overlap 0 (layer_of a))) (observed_components (counted (component_count (layer_of a))) (component_numbers (layer_of a))) numbers
 
--- ---- what a success means, for words of any number and content (proofs/Components.antt: `outcome-exact`)
+-- ---- what a success means, for words of any number and content (proofs/Components.antt: `outcome_exact`)
 abbrev pub OutcomeExact : Type 0
 OutcomeExact = (L : ℕ) (a : List ℤ) (numbers : List ℕ) (n : ℕ) → (components_outcome L a numbers).answer ≡ counted n → ComponentsOf (layer_of a) (components_outcome L a numbers).numbers n

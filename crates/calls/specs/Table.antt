@@ -85,7 +85,7 @@ tags (p ∷ ps) = p.tag ∷ tags ps
 abbrev pub point : ℕ → ℕ → ℕ → Point
 point x y d = point_at (pos x) (pos y) (pos d)
 
--- the output and the scratch area come last in `combined`, `fractureOutcome` and `equalOutcome`; `done` has pieces and overlays, `refused` number and place
+-- the output and the scratch area come last in `combined`, `fracture_outcome` and `equal_outcome`; `done` has pieces and overlays, `refused` number and place
 pub record Table : Type 0 where
   -- "(a) Q cut with R: tags 1,1,3,2,2."
   pub a_tags : tags (overlay Q R) ≡ 1 ∷ 1 ∷ 3 ∷ 2 ∷ 2 ∷ []

@@ -66,7 +66,7 @@ transistors_outcome L c b e list out scratch =
     transistors_outcome_of (and_then (transistors_checked L c b e (length out) (length scratch)) (three_disjoint c b e)) (triples (layer_of c) (layer_of b) (layer_of e))
     (space (room_of out) (extraction_stages (layer_of c) (layer_of b) (layer_of e))) list out scratch
 
--- ---- what a success means, for words of any number and content (proofs/Transistors.antt: `extracted-exact`)
+-- ---- what a success means, for words of any number and content (proofs/Transistors.antt: `extracted_exact`)
 -- the first n triples of a list
 abbrev pub first_triples : ℕ → List ℕ → List Triple
 first_triples n list = records_from triple_codec n list 0

@@ -39,7 +39,7 @@ outcome_of layers s = combined s.limit s.code (layer_at layers s.first) (layer_a
 unfoldable pub called : List Layer → Step → Bool
 called layers s = ltb s.first (length layers) && ltb s.second (length layers)
 
--- the test says yes exactly if both numbers are in the list (proofs/Success.antt: `called-exact`)
+-- the test says yes exactly if both numbers are in the list (proofs/Success.antt: `called_exact`)
 abbrev pub CalledExact : Type 0
 CalledExact = (layers : List Layer) (s : Step) → T (called layers s) ↔ ((s.first < length layers) × (s.second < length layers))
 

@@ -1,4 +1,4 @@
--- Demand 3: what is proved of chains of any length, from any starting layers. The theorem is `every-chain` in proofs/Chains.antt.
+-- Demand 3: what is proved of chains of any length, from any starting layers. The theorem is `every_chain` in proofs/Chains.antt.
 use Rattle.std.specs.Prelude.{◌≡◌, Bool, not, List, [], ◌∷◌, ◌++◌, ℕ, ◌<◌, T, length}
 use Rattle.lists.specs.Lists.{All}
 use Rattle.geometry.specs.declared.Trapezoid.{Trapezoid}
@@ -108,7 +108,7 @@ pub record WithoutOverlap (start : List Layer) (calls : List Call) : Type 0 wher
   pub calls_taken : NeverRefused 13 start calls
   pub tests_taken : (m n : ℕ) (t : Test) → Tested (layer_at (held start calls) m) (layer_at (held start calls) n) t → (place : ℕ) → equality_answer t.answer ≡ refused_equality 13 place → ⊥
 
--- (proofs/Disjoint.antt: `disjoint-chain`)
+-- (proofs/Disjoint.antt: `disjoint_chain`)
 abbrev pub DisjointChain : Type 0
 DisjointChain = (start : List Layer) → All DisjointLayer start → (calls : List Call) → Contracts start calls → WithoutOverlap start calls
 
@@ -119,6 +119,6 @@ pub record Possible (start : List Layer) (steps : List Step) : Type 0 where
   pub contracts : Contracts start calls
   pub ends : held start calls ≡ run start steps
 
--- (proofs/Possible.antt: `chains-possible`)
+-- (proofs/Possible.antt: `chains_possible`)
 abbrev pub ChainsPossible : Type 0
 ChainsPossible = (start : List Layer) (steps : List Step) → Possible start steps

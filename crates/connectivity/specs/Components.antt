@@ -79,6 +79,6 @@ pub record ComponentsOf (ts : List Trapezoid) (ns : List ℕ) (n : ℕ) : Type 0
   -- "the answer counts components"
   pub count : Different ns n
 
--- of fit trapezoids (proofs/Exact.antt: `components-exact`)
+-- of fit trapezoids (proofs/Exact.antt: `components_exact`)
 abbrev pub ComponentsExact : Type 0
 ComponentsExact = (L : ℕ) (ts : List Trapezoid) → All (FitFor L) ts → ComponentsOf ts (component_numbers ts) (component_count ts)

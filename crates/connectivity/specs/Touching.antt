@@ -53,10 +53,10 @@ touches_upright A B x = (lower_at x A.bottom B.top && lower_at x B.bottom A.top)
 unfoldable pub touches : Trapezoid → Trapezoid → Bool
 touches A B = cond (before (common_left A B) (common_right A B)) (touches_along A B) (not (before (common_right A B) (common_left A B)) && touches_upright A B (common_left A B))
 
--- the test says yes exactly if the trapezoids touch (proofs/Touches.antt: `touches-exact`)
+-- the test says yes exactly if the trapezoids touch (proofs/Touches.antt: `touches_exact`)
 abbrev pub TouchesExact : Type 0
 TouchesExact = (L : ℕ) (A B : Trapezoid) → FitFor L A → FitFor L B → T (touches A B) ↔ Touch A B
 
--- trapezoids that a rational point lies in, so that they overlap, touch (`common-touch`, there)
+-- trapezoids that a rational point lies in, so that they overlap, touch (`common_touch`, there)
 abbrev pub CommonTouch : Type 0
 CommonTouch = (L : ℕ) (A B : Trapezoid) → FitFor L A → FitFor L B → Common A B → Touch A B

@@ -50,7 +50,7 @@ vertex_words v = v.x ∷ v.y ∷ []
 abbrev pub vertex_codec : Codec ℤ Vertex
 vertex_codec = record { width = 2; blank = pos 0; encode = vertex_words; decode = vertex_of }
 
--- a trapezoid in a file; in memory it is geometry's `trapezoidCodec`, and with its set `sourcedCodec` of crates/sources
+-- a trapezoid in a file; in memory it is geometry's `trapezoid_codec`, and with its set `sourced_codec` of crates/sources
 abbrev pub file_codec : Codec ℤ Trapezoid
 file_codec = record { width = file_width; blank = pos 0; encode = trapezoid_words; decode = trapezoid_of }
 

@@ -1,4 +1,4 @@
--- The form of a directory in the paper's words: the meaning of the rows 5 and 6 that `directoryOf` computes.
+-- The form of a directory in the paper's words: the meaning of the rows 5 and 6 that `directory_of` computes.
 -- "Word 0 is the count N. N pairs of offset and length follow, sorted by offset, then the body. .. The first offset is 0, each next offset is the previous
 -- offset plus length, and the last pair ends at the end of the file."
 use Rattle.std.specs.Prelude.{◌≡◌, List, ◌↔◌, ◌⊎◌, ℕ, zero, suc, ◌+◌, ◌*◌, ◌<◌, ◌≤◌, ℤ, pos, length}

@@ -113,7 +113,7 @@ coincide x l m h k = go (not_below→at_most x l m k) (not_below→at_most x m l
 pub right_total : (x : Fraction) (l m : Line) → T (below x l m) ⊎ (((gap l m x ≡ pos 0) × (det l m ≡ pos 0)) ⊎ T (below x m l))
 right_total x l m = elim (yes_or_no (below x l m)) [ inl h ↦ inl h | inr h ↦ elim (yes_or_no (below x m l)) [ inl k ↦ inr (inr k) | inr k ↦ inr (inl (coincide x l m h k)) ] ]
 
--- ---- `rightOf` by `below`, one way round and the other
+-- ---- `right_of` by `below`, one way round and the other
 module _ (p : Fraction) (l m : Line) where
   pub right_less : T (below p l m) → right_of p l m ≡ Less
   unfolding below

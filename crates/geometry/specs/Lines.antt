@@ -24,7 +24,7 @@ det l m = dy l ⊗ dx m ⊖ dy m ⊗ dx l
 unfoldable pub numer : Line → Line → ℤ
 numer l m = dx l ⊗ offset m ⊖ dx m ⊗ offset l
 
--- the magnitudes, over any limit (proofs/Magnitudes.antt: `meeting-within`, `product-within`)
+-- the magnitudes, over any limit (proofs/Magnitudes.antt: `meeting_within`, `product_within`)
 abbrev pub MeetingWithin : Type 0
 MeetingWithin = (L : ℕ) (l m : Line) → OnGrid L l → OnGrid L m → (nat_abs (det l m) ≤ det_bound L) × (nat_abs (numer l m) ≤ numer_bound L)
 

@@ -17,7 +17,7 @@ pub record VertexOnGrid (L : ℕ) (v : Vertex) : Type 0 where
 abbrev pub PolygonOnGrid : ℕ → Polygon → Type 0
 PolygonOnGrid L polygon = All (VertexOnGrid L) polygon
 
--- the test, which says what it means (proofs/Polygons.antt: `polygon-grid-exact`)
+-- the test, which says what it means (proofs/Polygons.antt: `polygon_grid_exact`)
 unfoldable pub vertex_on_grid : ℕ → Vertex → Bool
 vertex_on_grid L v = on_grid L v.x && on_grid L v.y
 

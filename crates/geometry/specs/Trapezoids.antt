@@ -35,7 +35,7 @@ trapezoid_words t =
     ++ (line_words t.left.second ++ (line_words t.right.first ++ (line_words t.right.second ++ (line_words t.bottom ++ line_words t.top))))
 
 -- Trapezoids in memory. The 25th word, the set of source layers, is empty where trapezoids alone are written, and passed over where they alone are read; trapezoids
--- with their sets are `sourcedCodec` of crates/sources.
+-- with their sets are `sourced_codec` of crates/sources.
 abbrev pub trapezoid_codec : Codec ℤ Trapezoid
 trapezoid_codec = record { width = memory_width; blank = pos 0; encode = λ t. trapezoid_words t ++ (pos 0 ∷ []); decode = trapezoid_of }
 
@@ -70,7 +70,7 @@ abbrev pub lies_in_layer : Point → List Trapezoid → Bool
 lies_in_layer P [] = false
 lies_in_layer P (t ∷ ts) = lies_in P t || lies_in_layer P ts
 
--- it is yes exactly if the point lies in the layer (proofs/Layers.antt: `lies-in-layer-exact`)
+-- it is yes exactly if the point lies in the layer (proofs/Layers.antt: `lies_in-layer_exact`)
 abbrev pub LiesInLayerExact : Type 0
 LiesInLayerExact = (P : Point) (ts : List Trapezoid) → T (lies_in_layer P ts) ↔ LiesInLayer P ts
 

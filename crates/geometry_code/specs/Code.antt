@@ -42,7 +42,7 @@ pub record SmallMeeting (k : Meeting) : Type 0 where
   pub det_small : nat_abs k.det.v ≤ det_bound coordinate_limit
   pub numer_small : nat_abs k.numer.v ≤ numer_bound coordinate_limit
 
--- the determinant and the numerator by the numbers of two lines (proofs/Branches.antt: `meeting-by`)
+-- the determinant and the numerator by the numbers of two lines (proofs/Branches.antt: `meeting_by`)
 pub record MeetingBy (a b : Coefficients) (k : Meeting) : Type 0 where
   pub det : k.det.v ≡ a.dy.v ⊗ b.dx.v ⊖ b.dy.v ⊗ a.dx.v
   pub numer : k.numer.v ≡ a.dx.v ⊗ b.offset.v ⊖ b.dx.v ⊗ a.offset.v
@@ -68,7 +68,7 @@ pub record SmallPosition (p : Position) : Type 0 where
   pub comparable : Comparable p
   pub proper : Proper (fraction_of p)
 
--- the order right of x by a determinant and a numerator: of the lines that have them it is `rightOf` (proofs/Branches.antt: `right-meeting`)
+-- the order right of x by a determinant and a numerator: of the lines that have them it is `right_of` (proofs/Branches.antt: `right_meeting`)
 unfoldable pub order_right : Meeting → Fraction → Ordering
 order_right k x = then_by (order_of (x.num ⊗ k.det.v) (k.numer.v ⊗ x.den)) (order_of k.det.v (pos 0))
 

@@ -61,7 +61,7 @@ pub mag_le : (z : ℤ) → mag z ≤ nat_abs z
 mag_le (pos n) = NatL.le_refl n
 mag_le (negsuc n) = NatL.le-suc n
 
--- ---- bounds composed: `within-sub (within-mul h k) (within-mul i j) : (a ⊗ b ⊖ c ⊗ d) within (k * l + m * n)`
+-- ---- bounds composed: `within_sub (within_mul h k) (within_mul i j) : (a ⊗ b ⊖ c ⊗ d) within (k * l + m * n)`
 infix 50 ◌within◌
 pub record ◌within◌ (z : ℤ) (n : ℕ) : Type 0 where
   pub size : nat_abs z ≤ n

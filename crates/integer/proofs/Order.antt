@@ -1,4 +1,4 @@
--- ℤ as an ordered ring. An inequality is proved by a certificate: `lt_by` or `le-by`, an equation by `ring`, and signs of sums and products.
+-- ℤ as an ordered ring. An inequality is proved by a certificate: `lt_by` or `le_by`, an equation by `ring`, and signs of sums and products.
 use mathlib.Core.Path.{◌≡◌, refl, sym, ◌∙◌, ap, ap₂, subst}
 use mathlib.Core.Bool.{Bool, true, false, not}
 use mathlib.Core.Logic.{◌⊎◌, inl, inr}
@@ -48,7 +48,7 @@ le_sub a b = ap₂ le_z (sym (add_neg a)) (sub_is b a) ∙ leZ_shift a b (⊝ a)
 pub lt_sub : (a b : ℤ) → lt_z (pos 0) (b ⊖ a) ≡ lt_z a b
 lt_sub a b = ap₂ lt_z (sym (add_neg a)) (sub_is b a) ∙ ltZ_shift a b (⊝ a)
 
--- ---- a fact as a sign, and back: `le-by (ring ..) h`
+-- ---- a fact as a sign, and back: `le_by (ring ..) h`
 pub le→nonneg : {a b : ℤ} → a ≤ℤ b → pos 0 ≤ℤ b ⊖ a
 le→nonneg {a} {b} h = le_z_yes (subst T (sym (le_sub a b)) h.le)
 
@@ -169,7 +169,7 @@ nonneg_cancel {c} {a} h k = elim (lt_or_le a (pos 0)) [ inr t ↦ t | inl t ↦ 
 -- `search signs` proves that a sum of products is positive, or not negative, from facts about its parts: `lt_by (ring ..) (search signs)`
 pub ruleset signs = (positive_mul, positive_add, positive_nonneg_add, nonneg_add, nonneg_mul, lt→positive, le→nonneg, lt→le)
 
--- ---- after cancelling a positive factor k: `lt-over h (ring ..) (search signs)`
+-- ---- after cancelling a positive factor k: `lt_over h (ring ..) (search signs)`
 pub lt_over : {k a b h : ℤ} → pos 0 <ℤ k → h ≡ k ⊗ (b ⊖ a) → pos 0 <ℤ h → a <ℤ b
 lt_over hk e hh = lt_by refl (positive_cancel hk (positive_is e hh))
 

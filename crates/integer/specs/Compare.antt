@@ -18,6 +18,6 @@ order_by false false = Equal
 unfoldable pub order_of : ℤ → ℤ → Ordering
 order_of a b = order_by (lt_z a b) (lt_z b a)
 
--- the test answers a case exactly if that case holds (proofs/Tests.antt: `order-exact`)
+-- the test answers a case exactly if that case holds (proofs/Tests.antt: `order_exact`)
 abbrev pub OrderExact : Type 0
 OrderExact = (o : Ordering) (a b : ℤ) → (order_of a b ≡ o) ↔ HasOrder o a b

@@ -50,7 +50,7 @@ module _ {A : Type 0} (less : A → A → Bool) where
 
   -- ---- the statements
   module _ (Good : A → Type 0) where
-    -- a list is `levels xs` exactly if it has the first of each level of xs, in order (proofs/Unique.antt: `levels-exact`)
+    -- a list is `levels xs` exactly if it has the first of each level of xs, in order (proofs/Unique.antt: `levels_exact`)
     abbrev pub LevelsExact : Type 0
     LevelsExact = StrictWeakOrder Good → (xs ys : List A) → All Good xs → (levels xs ≡ ys) ↔ LevelsOf xs ys
 

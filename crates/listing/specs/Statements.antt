@@ -21,7 +21,7 @@ pub record Exact (n : ℕ) : Type 0 where
   pub reads_back : read_from 0 (decimal n) ≡ n
   pub no_leading_zero : 0 < n → 48 < get_or (decimal n) 0 0
 
--- proofs/Decimal.antt: `decimal-exact`
+-- proofs/Decimal.antt: `decimal_exact`
 abbrev pub DecimalExact : Type 0
 DecimalExact = (n : ℕ) → Exact n
 
@@ -30,7 +30,7 @@ unfoldable pub read_word : List ℕ → ℤ
 read_word [] = pos 0
 read_word (c ∷ cs) = elim (eqb c 45) [ true ↦ ⊝ pos (read_from 0 cs) | false ↦ pos (read_from 0 (c ∷ cs)) ]
 
--- a word's text reads back as the word (proofs/Decimal.antt: `word-exact`)
+-- a word's text reads back as the word (proofs/Decimal.antt: `word_exact`)
 abbrev pub WordExact : Type 0
 WordExact = (w : ℤ) → read_word (decimal_word w) ≡ w
 

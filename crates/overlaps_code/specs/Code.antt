@@ -13,7 +13,7 @@ use Rattle.overlay.specs.declared.Meetings.{Meetings}
 use Rattle.overlay.specs.Overlaps.{overlap_right, overlaps}
 use Rattle.geometry_code.specs.Code.{MeetingOf, PositionOf}
 
--- the lines of k cross strictly between lo and hi; `crossesInCommon` is this of the common range
+-- the lines of k cross strictly between lo and hi; `crosses_in_common` is this of the common range
 unfoldable pub cross_between : Fraction → Fraction → Base → Bool
 cross_between lo hi k = crosses k.first k.second && (before lo (position k) && before (position k) hi)
 

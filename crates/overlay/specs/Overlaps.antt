@@ -36,11 +36,11 @@ overlaps A B =
     before (common_left A B) (common_right A B)
     && (overlap_right A B (common_left A B) || (overlap_from A B (crossing A.bottom B.top) || overlap_from A B (crossing A.top B.bottom)))
 
--- the test says yes exactly if some rational point lies in both (proofs/Overlaps.antt: `overlaps-exact`)
+-- the test says yes exactly if some rational point lies in both (proofs/Overlaps.antt: `overlaps_exact`)
 abbrev pub OverlapsExact : Type 0
 OverlapsExact = (L : ℕ) (A B : Trapezoid) → FitFor L A → FitFor L B → T (overlaps A B) ↔ Common A B
 
--- a list of fit trapezoids is disjoint exactly if the test says no of each pair (`disjoint-exact`, there)
+-- a list of fit trapezoids is disjoint exactly if the test says no of each pair (`disjoint_exact`, there)
 abbrev pub DisjointExact : Type 0
 DisjointExact = (L : ℕ) (ts : List Trapezoid) → All (FitFor L) ts → Disjoint ts ↔ Pairs (λ (t u : Trapezoid). T (not (overlaps t u))) ts
 
@@ -68,7 +68,7 @@ pub record OverlapAt (i : ℕ) (ts : List Trapezoid) (k : ℕ) : Type 0 where
   pub disjoint : Disjoint first
   pub overlap : Any (Common later) first
 
--- a list of fit trapezoids passes exactly if it is disjoint, and is refused exactly with 13 at the first that overlaps one before it (proofs/Search.antt: `first-overlap-exact`)
+-- a list of fit trapezoids passes exactly if it is disjoint, and is refused exactly with 13 at the first that overlaps one before it (proofs/Search.antt: `first_overlap_exact`)
 pub record FirstOverlap (i : ℕ) (ts : List Trapezoid) : Type 0 where
   pub passed : (first_overlap i ts ≡ Passed) ↔ Disjoint ts
   pub refused : (n k : ℕ) → (first_overlap i ts ≡ Refused n k) ↔ ((n ≡ 13) × OverlapAt i ts k)

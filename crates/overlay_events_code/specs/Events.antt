@@ -32,7 +32,7 @@ entry_name A B e = named A B e.name
 abbrev pub front_if : Bool → Base → List Base → List Base
 front_if t x xs = cond t (x ∷ xs) xs
 
--- `overlayEvents` without those bases of B that are not strictly inside the range of A
+-- `overlay_events` without those bases of B that are not strictly inside the range of A
 unfoldable pub events_within : Trapezoid → Trapezoid → List Base
 events_within A B =
     A.left ∷ A.right

@@ -33,6 +33,6 @@ bytes_of z = pattern z % 256 ∷ pattern z / 256 % 256 ∷ pattern z / 65536 % 2
 abbrev pub word_codec : Codec ℕ ℤ
 word_codec = record { width = 4; blank = 0; encode = bytes_of; decode = word_of }
 
--- every word goes to four bytes and back, and every four bytes to a word and back (proofs/Words.antt: `words-faithful`)
+-- every word goes to four bytes and back, and every four bytes to a word and back (proofs/Words.antt: `words_faithful`)
 abbrev pub WordsFaithful : Type 0
 WordsFaithful = Faithful word_codec Word Byte

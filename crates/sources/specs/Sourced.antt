@@ -20,7 +20,7 @@ sourced_codec =
       decode = λ s. record { shape = trapezoid_of s; sources = get_or s file_width (pos 0) };
     }
 
--- the trapezoids of a layer's words, with their sets; without them they are `layerOf`
+-- the trapezoids of a layer's words, with their sets; without them they are `layer_of`
 abbrev pub sourced_of : List ℤ → List Sourced
 sourced_of s = records sourced_codec s
 

@@ -66,7 +66,7 @@ module _ {A : Type 0} (line : A → Line) where
     unfoldable pub winding : Point → List A → ℤ
     winding P es = sum weight (λ (e : A). under P (line e)) es
 
-    -- ---- the statements (proofs/Column.antt: `column-winding`, `column-open`)
+    -- ---- the statements (proofs/Column.antt: `column_winding`, `column_open`)
     -- where the weights add up to 0, a point of the column lies in one slab if its winding number is not 0, and in none if it is
     abbrev pub ColumnWinding : Type 0
     ColumnWinding =

@@ -44,7 +44,7 @@ module _ {A K : Type 0} (segment : A → Segment) (position : K → Fraction) (e
     pub clear : Clear (λ (e : A). (segment e).line) (position p) (position q) (spanning segment (position p) es)
     pub same : (x : Fraction) → Proper x → T (not (before x (position p))) → T (before x (position q)) → All (λ (e : A). spans (position p) (segment e) ≡ spans x (segment e)) es
 
-  -- ---- the statements (proofs/Sweep.antt: `sweep-all`, `sweep-count`)
+  -- ---- the statements (proofs/Sweep.antt: `sweep_all`, `sweep_count`)
   module _ {X : Type 0} (yields : K → K → List A → List X) where
     -- what holds of all that each column yields holds of all that the sweep yields
     abbrev pub SweepAll : (X → Type 0) → Type 0

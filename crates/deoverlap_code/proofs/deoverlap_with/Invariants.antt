@@ -1,4 +1,4 @@
--- Before turn i: the first i trapezoids of the layer deoverlapped stand in `out`, with their boxes in `boxes`, each took at most `overlaysOfOne`
+-- Before turn i: the first i trapezoids of the layer deoverlapped stand in `out`, with their boxes in `boxes`, each took at most `overlays_of_one`
 -- overlays, and the scratch area is blank.
 use mathlib.Core.Path.{◌≡◌}
 use Prim.Native.Nat.{◌-◌}

@@ -1,5 +1,5 @@
 -- Before turn i: the `start` trapezoids and past them what is left of the first i of the first layer minus the second stand in `out`, each took at most
--- `overlaysOfOne` overlays, and the scratch area is blank.
+-- `overlays_of_one` overlays, and the scratch area is blank.
 use mathlib.Core.List.{◌++◌}
 use Prim.Native.Nat.{◌*◌, ◌-◌, ◌≤◌}
 use lib.ListN.{length}

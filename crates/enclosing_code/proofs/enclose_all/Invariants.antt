@@ -1,4 +1,4 @@
--- Before turn i: the groups with numbers below i were tried with each of the second layer, a row took at most `maxRecords * overlaysOfLayer` overlays, group i
+-- Before turn i: the groups with numbers below i were tried with each of the second layer, a row took at most `max_records * overlays_of_layer` overlays, group i
 -- begins at `start`, and the output and the scratch area are blank.
 use mathlib.Core.Path.{◌≡◌}
 use Prim.Native.Nat.{◌-◌}

@@ -1,4 +1,4 @@
--- Before turn j: the shape was tried with the groups with numbers below j, each took at most `overlaysOfLayer` overlays, group j begins at `start`, and the
+-- Before turn j: the shape was tried with the groups with numbers below j, each took at most `overlays_of_layer` overlays, group j begins at `start`, and the
 -- output and the scratch area are blank.
 use mathlib.Core.Path.{◌≡◌}
 use Prim.Native.Nat.{◌-◌}

@@ -1,4 +1,4 @@
--- Before turn i: what the first i trapezoids of the first layer have in common with the second stands in `out`, and each counts at most `maxRecords` overlays.
+-- Before turn i: what the first i trapezoids of the first layer have in common with the second stands in `out`, and each counts at most `max_records` overlays.
 use Prim.Native.Nat.{◌*◌, ◌-◌, ◌≤◌}
 use lib.ListN.{length}
 use Rattle.records.specs.Limits.{max_records}

@@ -1,4 +1,4 @@
--- Before turn j: the fields from word j on, written at `next`, complete the line at `at`; `next` is at most `fieldRoom` times j − `start` past `at`.
+-- Before turn j: the fields from word j on, written at `next`, complete the line at `at`; `next` is at most `field_room` times j − `start` past `at`.
 use Prim.Native.Nat.{◌+◌, ◌*◌, ◌-◌, ◌≤◌}
 use lib.ListN.{length}
 use lib.Seq.{slice}

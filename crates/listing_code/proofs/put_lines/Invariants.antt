@@ -1,4 +1,4 @@
--- Before turn i: the lines from number i on, written at `next`, complete the lines at `at`; `next` is at most `lineRoom` times i past `at`.
+-- Before turn i: the lines from number i on, written at `next`, complete the lines at `at`; `next` is at most `line_room` times i past `at`.
 use Prim.Native.Nat.{◌+◌, ◌*◌, ◌-◌, ◌≤◌}
 use Rattle.listing.specs.Listing.{lines_from, line_room}
 use Rattle.listing_code.proofs.Texts.{Going}
