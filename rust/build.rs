@@ -1,5 +1,5 @@
-//! Links `libloxurfa_c.a` from LOXURFA_LIB_DIR, or from `../target/staticlib`, where `rt staticlib
-//! loxurfa_c` writes it. Tests have its path as LOXURFA_ARCHIVE.
+//! Links `libloxurfa_c.a` from LOXURFA_LIB_DIR, or from `../crates/loxurfa_c/out`, where `rt lib` in
+//! crates/loxurfa_c writes it. Tests have its path as LOXURFA_ARCHIVE.
 
 use std::env;
 use std::path::PathBuf;
@@ -12,13 +12,13 @@ fn main() {
     let given = env::var_os("LOXURFA_LIB_DIR").filter(|text| !text.is_empty());
     let directory = match given {
         Some(text) => here.join(text),
-        None => here.join("../target/staticlib"),
+        None => here.join("../crates/loxurfa_c/out"),
     };
     let archive = directory.join("libloxurfa_c.a");
     println!("cargo:rerun-if-changed={}", archive.display());
     if !archive.is_file() {
         eprintln!(
-            "{} is missing: `rt staticlib loxurfa_c` at the repository's root makes it, LOXURFA_LIB_DIR names another folder",
+            "{} is missing: `rt lib` in crates/loxurfa_c makes it, LOXURFA_LIB_DIR names another folder",
             archive.display()
         );
         std::process::exit(1);

@@ -49,13 +49,13 @@ const LIMITS: &str = "crates/records/specs/Limits.antt";
 const FORMATS: &str = "crates/files/specs/Formats.antt";
 
 /// The numbers of a format, by name; its last field says whether lengths are left out. A format of layers is one
-/// for a width, `layersIn`, at a width.
+/// for a width, `layers_in`, at a width.
 fn format(name: &str) -> BTreeMap<String, i64> {
     let text = text(FORMATS);
-    let by_width = format!("\n{name} = layersIn ");
+    let by_width = format!("\n{name} = layers_in ");
     if let Some((_, rest)) = text.split_once(&by_width) {
         let width = rest.lines().next().expect("a width");
-        let mut fields = fields_of(&text, "layersIn width", "width");
+        let mut fields = fields_of(&text, "layers_in width", "width");
         fields.insert("unit".to_string(), size(width));
         return fields;
     }
@@ -65,9 +65,9 @@ fn format(name: &str) -> BTreeMap<String, i64> {
 /// A number of LIMITS. The width in memory is given as one more than the width in a file.
 fn size(name: &str) -> i64 {
     match name {
-        "memoryWidth" => {
-            assert!(text(LIMITS).contains("\nmemoryWidth = fileWidth + 1\n"));
-            defined(LIMITS, "fileWidth") + 1
+        "memory_width" => {
+            assert!(text(LIMITS).contains("\nmemory_width = file_width + 1\n"));
+            defined(LIMITS, "file_width") + 1
         }
         _ => defined(LIMITS, name),
     }
@@ -92,19 +92,19 @@ fn fields_of(text: &str, name: &str, without: &str) -> BTreeMap<String, i64> {
 
 /// The constants: name, value by the definitions, value in the Rust crate.
 fn constants() -> Vec<(&'static str, i64, i64)> {
-    let (width, in_file) = (size("memoryWidth"), size("fileWidth"));
-    let most = size("maxRecords");
-    let sources = defined("crates/sources/specs/Sets.antt", "sourceLayers");
-    let plate = defined("crates/calls/specs/Rows.antt", "plateLimit");
-    let denominator = defined("crates/geometry/specs/Limit.antt", "maxDenominator");
-    let (polygons, layers) = (format("polygonFile edition"), format("layerFile"));
+    let (width, in_file) = (size("memory_width"), size("file_width"));
+    let most = size("max_records");
+    let sources = defined("crates/sources/specs/Sets.antt", "source_layers");
+    let plate = defined("crates/calls/specs/Rows.antt", "plate_limit");
+    let denominator = defined("crates/geometry/specs/Limit.antt", "max_denominator");
+    let (polygons, layers) = (format("polygon_file edition"), format("layer_file"));
     let bytes = between(FORMATS, "leb n ", ")");
-    assert!(text(LIMITS).contains("\nmaxWords = memoryWidth * maxRecords\n"));
+    assert!(text(LIMITS).contains("\nmax_words = memory_width * max_records\n"));
     let units = |unit: i64| 1 + 2 * layers["count"] + unit * layers["total"];
-    let words = units(format("layerWords")["unit"]);
+    let words = units(format("layer_words")["unit"]);
     let file_bytes = 4 * units(layers["unit"]);
     let extraction = "crates/extraction/specs/Extraction.antt";
-    let triple = between(extraction, "tripleCodec = record { width = ", ";");
+    let triple = between(extraction, "triple_codec = record { width = ", ";");
     vec![
         ("TRAPEZOID_WORDS", width, loxurfa::TRAPEZOID_WORDS as i64),
         (
@@ -166,10 +166,10 @@ fn codes() -> Vec<(&'static str, i64, i64)> {
     let names = [
         ("union", "UNION", Code::Union),
         ("intersect", "INTERSECTION", Code::Intersection),
-        ("a-minus-b", "A_MINUS_B", Code::AMinusB),
-        ("b-minus-a", "B_MINUS_A", Code::BMinusA),
+        ("a_minus_b", "A_MINUS_B", Code::AMinusB),
+        ("b_minus_a", "B_MINUS_A", Code::BMinusA),
         (
-            "symmetric-difference",
+            "symmetric_difference",
             "SYMMETRIC_DIFFERENCE",
             Code::SymmetricDifference,
         ),
@@ -191,10 +191,10 @@ fn refusals() -> Vec<(&'static str, i64, i64)> {
     let fitness = "crates/geometry/specs/Fitness.antt";
     let outcomes = "crates/calls/specs/Outcomes.antt";
     let overlaps = "crates/overlay/specs/Overlaps.antt";
-    let grid = between(fitness, "pass (all (lineOnGrid L) (linesOf t)) ", " ");
+    let grid = between(fitness, "pass (all (line_on_grid L) (lines_of t)) ", " ");
     assert_eq!(
         grid,
-        between(files, "gridRow false i below = Refused ", " i")
+        between(files, "grid_row false i below = Refused ", " i")
     );
     let space = between(outcomes, "answer = refused ", " 0;");
     assert_eq!(
@@ -205,68 +205,68 @@ fn refusals() -> Vec<(&'static str, i64, i64)> {
             " 0;"
         )
     );
-    let pair = between(directory, "afterPair Outside i rest = Wrong ", " i");
+    let pair = between(directory, "after_pair Outside i rest = Wrong ", " i");
     assert_eq!(
         pair,
-        between(directory, "atEnd false n total = Wrong ", " n")
+        between(directory, "at_end false n total = Wrong ", " n")
     );
     vec![
         (
             "LENGTH",
-            between(rows, "row ", " (buffersSized"),
+            between(rows, "row ", " (buffers_sized"),
             refused::LENGTH.into(),
         ),
         (
             "CODE",
-            between(rows, "row ", " (isCode"),
+            between(rows, "row ", " (is_code"),
             refused::CODE.into(),
         ),
         (
             "POINT",
-            between(rows, "row ", " (pointPasses"),
+            between(rows, "row ", " (point_passes"),
             refused::POINT.into(),
         ),
         (
             "FILE",
-            between(files, "sizeRow false below = Refused ", " 0"),
+            between(files, "size_row false below = Refused ", " 0"),
             refused::FILE.into(),
         ),
         (
             "COUNT",
-            between(directory, "directoryBy f ws Outside = Wrong ", " 0"),
+            between(directory, "directory_by f ws Outside = Wrong ", " 0"),
             refused::COUNT.into(),
         ),
         ("PAIR", pair, refused::PAIR.into()),
         ("GRID", grid, refused::GRID.into()),
         (
             "LINE",
-            between(fitness, "pass (all isLine (linesOf t)) ", " "),
+            between(fitness, "pass (all is_line (lines_of t)) ", " "),
             refused::LINE.into(),
         ),
         (
             "BASE",
-            between(fitness, "baseCrosses (t .right)) ", "\n"),
+            between(fitness, "base_crosses t.right) ", "\n"),
             refused::BASE.into(),
         ),
         (
             "BASES",
-            between(fitness, "pass (leftOf (t .left) (t .right)) ", "\n"),
+            between(fitness, "pass (left_of t.left t.right) ", "\n"),
             refused::BASES.into(),
         ),
         (
             "SIDES",
-            between(fitness, "(t .bottom) (t .top)) ", "\n"),
+            between(fitness, "t.bottom t.top) ", "\n"),
             refused::SIDES.into(),
         ),
         ("SPACE", space, refused::SPACE.into()),
         (
             "OVERLAP",
-            between(overlaps, "refuseOverlap true i c = Refused ", " i"),
+            between(overlaps, "refuse_overlap true i c = Refused ", " i"),
             refused::OVERLAP.into(),
         ),
         (
             "LAYER",
-            between(rows, "row ", " (isSourceLayer"),
+            between(rows, "row ", " (is_source_layer"),
             refused::LAYER.into(),
         ),
     ]
@@ -321,9 +321,9 @@ fn header_page_and_crate() {
     }
     // The values of `equal`: operand 0 is 1, operand 1 is 2.
     let packed = text("crates/calls/specs/Packed.antt");
-    assert!(packed.contains("packedEquality (same overlays) = success 0 overlays"));
+    assert!(packed.contains("packed_equality (same overlays) = success 0 overlays"));
     assert!(packed
-        .contains("packedEquality (differs operand overlays) = success (operand + 1) overlays"));
+        .contains("packed_equality (differs operand overlays) = success (operand + 1) overlays"));
     for (name, value) in [("SAME", 0), ("DIFFERS_IN_A", 1), ("DIFFERS_IN_B", 2)] {
         assert_eq!(macros.remove(name), Some(value), "{name}");
         let said = |row: &Vec<String>| row.iter().any(|cell| cell.contains(&format!("({name})")));
@@ -352,9 +352,9 @@ fn functions() {
     assert!(text.contains("const MEMORY_WIDTH: usize = FILE_WIDTH + 1;"));
     let in_file = constant(records, "FILE_WIDTH: usize");
     assert_eq!(in_file, named["FILE_TRAPEZOID_WORDS"]);
-    assert_eq!(in_file, format("layerFile")["unit"]);
+    assert_eq!(in_file, format("layer_file")["unit"]);
     assert_eq!(width, in_file + 1);
-    assert_eq!(width, format("layerWords")["unit"]);
+    assert_eq!(width, format("layer_words")["unit"]);
     let most = named["MAX_TRAPEZOIDS"];
     assert_eq!(constant(records, "MAX_RECORDS: usize"), most);
     let calls = "crates/calls/src/lib.rt";
@@ -386,13 +386,13 @@ fn sentences() {
     let width = &named["TRAPEZOID_WORDS"];
     let most = &named["MAX_TRAPEZOIDS"];
     let limit = &named["PLATE_LIMIT"];
-    let (polygons, layers) = (format("polygonFile edition"), format("layerFile"));
+    let (polygons, layers) = (format("polygon_file edition"), format("layer_file"));
     let (count, layer_count) = (polygons["count"], layers["count"]);
     let (least, largest) = (polygons["least"], polygons["most"]);
     let in_file = &named["FILE_TRAPEZOID_WORDS"];
     let words = &named["MAX_LAYER_WORDS"];
     let last = loxurfa::SOURCE_LAYERS - 1;
-    let list = said(loxurfa::TRIPLE_WORDS as i64 * size("maxRecords"));
+    let list = said(loxurfa::TRIPLE_WORDS as i64 * size("max_records"));
     let file_bytes =
         |f: &BTreeMap<String, i64>| said(4 * (1 + 2 * f["count"] + f["unit"] * f["total"]));
 
@@ -400,7 +400,7 @@ fn sentences() {
         format!("words, {width} to a trapezoid"),
         format!("trapezoids of a layer, of an output, of all layers of a layer file; {words} words"),
         format!("coordinates run from −{limit} to {limit}"),
-        format!("u is {} in a polygon file, {} in a layer file and {} in the words that `write_layers` takes", polygons["unit"], layers["unit"], format("layerWords")["unit"]),
+        format!("u is {} in a polygon file, {} in a layer file and {} in the words that `write_layers` takes", polygons["unit"], layers["unit"], format("layer_words")["unit"]),
         format!("the layer is not 0 to {last}"),
         format!("{in_file} words of lines"),
         format!("is not a multiple of {width} words or is above {words}"),

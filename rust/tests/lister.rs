@@ -1,6 +1,6 @@
 //! Compares what the proved program `lister` prints with the reference, byte for byte.
 //!
-//! `rt check lister` links it to target/bin/lister at the repository's root. LOXURFA_LISTER names
+//! `rt ci`, and `rt run` in crates/lister, leave it at crates/lister/out/lister. LOXURFA_LISTER names
 //! another program to be tested in its place.
 
 mod reference;
@@ -25,7 +25,7 @@ use support::programs::{file, root, run};
 use support::{assert_met, rounds, Random};
 
 /// Where the program is, from the repository's root.
-const LISTER: &str = "target/bin/lister";
+const LISTER: &str = "crates/lister/out/lister";
 
 /// No file is longer, in bytes.
 const LONGEST: usize = 65_532;
@@ -35,7 +35,7 @@ fn lister() -> PathBuf {
     let path = root().join(given.unwrap_or(LISTER.into()));
     assert!(
         path.is_file(),
-        "{} is missing: `rt check lister` builds it, LOXURFA_LISTER names another",
+        "{} is missing: `rt run` in crates/lister builds it, LOXURFA_LISTER names another",
         path.display()
     );
     path
