@@ -49,7 +49,11 @@ fn show_state(rt: &impl Print, words: &[i32]) -> io::Result<()> {
 }
 
 // Whether an output and its scratch area, which were lent with 7 in every word, are unchanged, all zero, or written.
-pub fn show_states(rt: &impl Print, out: &[i32], scratch: &[i32]) -> io::Result<()> {
+pub fn show_states(
+    rt: &impl Print,
+    out: &[i32; records::MAX_WORDS],
+    scratch: &[i32; records::MAX_WORDS],
+) -> io::Result<()> {
     print!(rt; "output ")?;
     show_state(rt, out)?;
     print!(rt; ", scratch ")?;

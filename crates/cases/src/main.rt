@@ -10,10 +10,9 @@ use files::{LayersRead, LayersWritten};
 use std::io;
 
 // The first bytes as a polygon file.
-fn fracture(rt: &(impl Print + AllocGlobal), file: &[u8], bytes: usize) -> io::Result<()> {
-    let alloc = rt.alloc();
-    let mut out = vec![in alloc; 7i32; records::MAX_WORDS]?;
-    let mut scratch = vec![in alloc; 7i32; records::MAX_WORDS]?;
+fn fracture(rt: &impl Print, file: &[u8], bytes: usize) -> io::Result<()> {
+    let mut out = [7i32; records::MAX_WORDS];
+    let mut scratch = [7i32; records::MAX_WORDS];
     if bytes <= file.len() {
         match loxurfa_files::fracture(0, &file[..bytes], &mut out, &mut scratch) {
             Fractured::Refused { number, place } => case_parts::refused(rt, number, place)?,
@@ -25,17 +24,17 @@ fn fracture(rt: &(impl Print + AllocGlobal), file: &[u8], bytes: usize) -> io::R
 }
 
 // One polygon: the first vertices of the staircase.
-fn polygon(rt: &(impl Print + AllocGlobal), n: usize) -> io::Result<()>
+fn polygon(rt: &impl Print, n: usize) -> io::Result<()>
     requires { n ≤ 33 }
 {
-    let mut file = vec![in rt.alloc(); 0u8; 20000]?;
+    let mut file = [0u8; 20000];
     case_parts::put_number(&mut file, 0, 1);
     case_parts::put_number(&mut file, 2, n);
     case_parts::stairs(&mut file, 3);
     fracture(rt, &file, 4 * (2 * n + 3))
 }
 
-fn vertices(rt: &(impl Print + AllocGlobal)) -> io::Result<()> {
+fn vertices(rt: &impl Print) -> io::Result<()> {
     println!(rt; "vertices")?;
     // refused 6 place 0
     polygon(rt, 2)?;
@@ -47,9 +46,9 @@ fn vertices(rt: &(impl Print + AllocGlobal)) -> io::Result<()> {
     polygon(rt, 33)
 }
 
-fn polygon_counts(rt: &(impl Print + AllocGlobal)) -> io::Result<()> {
+fn polygon_counts(rt: &impl Print) -> io::Result<()> {
     println!(rt; "polygons")?;
-    let mut file = vec![in rt.alloc(); 0u8; 20000]?;
+    let mut file = [0u8; 20000];
     case_parts::staircases(&mut file, 64);
     // done 512
     fracture(rt, &file, 16900)?;
@@ -109,18 +108,17 @@ fn read_layers(rt: &impl Print, file: &[u8], words: &mut [i32]) -> io::Result<()
     }
 }
 
-fn layer_file_1(rt: &(impl Print + AllocGlobal)) -> io::Result<()> {
+fn layer_file_1(rt: &impl Print) -> io::Result<()> {
     println!(rt; "layer files")?;
-    let alloc = rt.alloc();
-    let mut words = vec![in alloc; 0i32; 12803]?;
+    let mut words = [0i32; 12803];
     // one layer of 512 squares, from trapezoid 0 on, all with the set of all source layers
     words[0] = 1;
     words[2] = 512;
     case_parts::squares(&mut words, 3, -1);
-    let mut file = vec![in alloc; 9u8; 49164]?;
+    let mut file = [9u8; 49164];
     // done 512: 24 words a square
     write_layers(rt, &words, &mut file)?;
-    let mut back = vec![in alloc; 7i32; 12803]?;
+    let mut back = [7i32; 12803];
     // done 512
     read_layers(rt, &file, &mut back)?;
     case_parts::squares(&mut words, 3, 0);
@@ -128,22 +126,21 @@ fn layer_file_1(rt: &(impl Print + AllocGlobal)) -> io::Result<()> {
     case_parts::show_same(rt, &words, &back)
 }
 
-fn layer_file_2(rt: &(impl Print + AllocGlobal)) -> io::Result<()> {
-    let alloc = rt.alloc();
-    let mut words = vec![in alloc; 0i32; 12828]?;
+fn layer_file_2(rt: &impl Print) -> io::Result<()> {
+    let mut words = [0i32; 12828];
     // one layer of 513 squares, from trapezoid 0 on
     words[0] = 1;
     words[2] = 513;
     case_parts::squares(&mut words, 3, -1);
-    let mut file = vec![in alloc; 9u8; 49260]?;
+    let mut file = [9u8; 49260];
     // refused 6 place 0
     write_layers(rt, &words, &mut file)?;
-    let mut file_words = vec![in alloc; 0i32; 12315]?;
+    let mut file_words = [0i32; 12315];
     file_words[0] = 1;
     file_words[2] = 513;
     case_parts::file_squares(&mut file_words, 3);
     bytes_of(&file_words, &mut file);
-    let mut back = vec![in alloc; 7i32; 12828]?;
+    let mut back = [7i32; 12828];
     // refused 6 place 0
     read_layers(rt, &file, &mut back)
 }

@@ -297,14 +297,14 @@ module _ (less : ℕ → ℕ → Bool) (x : Four) where
 -- the column has the flags fa and fb, and its order is x
 record Stands (fa fb : Bool) (x : Four) (c : Column) : Type 0 where
   in_a_is : c.in_a ≡ fa
-  in_b : c.in_b ≡ fb
+  in_b_is : c.in_b ≡ fb
   order : c.order ≡ four_list x
 
 module _ (A B : Trapezoid) (p : Fraction) (fa fb : Bool) where
   stands_next : (i j : ℕ) (x y : Four) (c r : Column) → exchanged (number_less A B p fa fb) i j (four_list x) ≡ four_list y → Stands fa fb x c → Exchanged A B p fa fb i j c r → Stands fa fb y r
   stands_next i j x y c r e s h = record {
     in_a_is = h.in_a_is ∙ s.in_a_is;
-    in_b = h.in_b ∙ s.in_b;
+    in_b_is = h.in_b_is ∙ s.in_b_is;
     order = h.order ∙ ap (exchanged (number_less A B p fa fb) i j) s.order ∙ e;
   }
 
@@ -321,10 +321,10 @@ column_exact {A} {B} ha hb p d e f g h r s ea eb de ef fg gh hr =
     let x₄ = sort13 less x₃ in
     let x₅ = sort12 less x₄ in
     let e₀ : d.order ≡ four_list x₀ = four_entries d.order s.long in
-    let s₁ = stands_next A B p fa fb 0 1 x₀ x₁ d e (list01 less x₀) (record { in_a_is = refl; in_b = refl; order = e₀ }) de in
+    let s₁ = stands_next A B p fa fb 0 1 x₀ x₁ d e (list01 less x₀) (record { in_a_is = refl; in_b_is = refl; order = e₀ }) de in
     let s₂ = stands_next A B p fa fb 2 3 x₁ x₂ e f (list23 less x₁) s₁ ef in
     let s₃ = stands_next A B p fa fb 0 2 x₂ x₃ f g (list02 less x₂) s₂ fg in
     let s₄ = stands_next A B p fa fb 1 3 x₃ x₄ g h (list13 less x₃) s₃ gh in
     let s₅ = stands_next A B p fa fb 1 2 x₄ x₅ h r (list12 less x₄) s₄ hr in
     let o : four_list x₅ ≡ order_at A B p fa fb = network_exact ha hb p fa fb x₀ (subst HasSides e₀ s.all) in
-    record { in_a_is = s₅.in_a_is ∙ ea; in_b = s₅.in_b ∙ eb; order = s₅.order ∙ o ∙ ap₂ (order_at A B p) (sym s₅.in_a_is) (sym s₅.in_b) }
+    record { in_a_is = s₅.in_a_is ∙ ea; in_b_is = s₅.in_b_is ∙ eb; order = s₅.order ∙ o ∙ ap₂ (order_at A B p) (sym s₅.in_a_is) (sym s₅.in_b_is) }

@@ -68,7 +68,7 @@ FrontIn f i j r = (A B : Trapezoid) (x : Fraction) (fa fb : Bool) → FrontsAt A
 -- the state stands for the column right of x
 pub record ColumnAt (A B : Trapezoid) (x : Fraction) (c : Column) : Type 0 where
   pub in_a_is : c.in_a ≡ in_range x A
-  pub in_b : c.in_b ≡ in_range x B
+  pub in_b_is : c.in_b ≡ in_range x B
   pub order : c.order ≡ order_at A B x c.in_a c.in_b
 
 abbrev pub ColumnBy : Orders → Bool → Bool → Column → Type 0
@@ -92,7 +92,7 @@ exchanged less i j l = cond (less (get_or l j 0) (get_or l i 0)) (set (set l i (
 -- r is c with the entries i and j put in order right of x
 pub record Exchanged (A B : Trapezoid) (x : Fraction) (fa fb : Bool) (i j : ℕ) (c r : Column) : Type 0 where
   pub in_a_is : r.in_a ≡ c.in_a
-  pub in_b : r.in_b ≡ c.in_b
+  pub in_b_is : r.in_b ≡ c.in_b
   pub order : r.order ≡ exchanged (number_less A B x fa fb) i j c.order
 
 abbrev pub ExchangedIn : Fronts → ℕ → ℕ → Column → Column → Type 0

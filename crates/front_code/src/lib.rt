@@ -28,7 +28,7 @@ fn reduce_past_at(
     requires remainder_past { RemainderPast e boxes.now out.old k n room × (i < k) }
     requires scratch_for { ScratchFor out.old scratch.old }
     ensures step_written { StepWritten out.old room k i n result out.new }
-    ensures k_unchanged { front out.new k ≡ front out.old k }
+    ensures first_unchanged { front out.new k ≡ front out.old k }
     ensures blank { Blank (pos 0) scratch.new }
 {
     if boxes_code::boxes_disjoint(e, boxes, i) {
@@ -56,7 +56,7 @@ fn reduce_by_front(
     requires remainder_past { RemainderPast e boxes.now out.old k n room × (start ≤ k) × (room ≤ max_records) }
     requires scratch_for { ScratchFor out.old scratch.old }
     ensures rest_written { RestWritten out.old room k start n result out.new }
-    ensures k_unchanged { front out.new k ≡ front out.old k }
+    ensures first_unchanged { front out.new k ≡ front out.old k }
     ensures overlays_within { OverlaysWithin (max_records * (max_records - start)) result }
     ensures blank { Blank (pos 0) scratch.new }
 {
@@ -105,7 +105,7 @@ fn one_past(
     requires boxed_as { BoxedAs a e × BoxedLayer (front out.old k) boxes.now × BlankPast out.old k room × (room ≤ max_records) }
     requires scratch_for { ScratchFor out.old scratch.old }
     ensures one_written { OneWritten (rest out.old k) (room - k) a.shape (from (front out.old k) j) result (rest out.new k) }
-    ensures k_unchanged { front out.new k ≡ front out.old k }
+    ensures first_unchanged { front out.new k ≡ front out.old k }
     ensures overlays_within { OverlaysWithin (max_records * (max_records - j) + 1) result }
     ensures blank { Blank (pos 0) scratch.new }
 {
@@ -140,7 +140,7 @@ fn one_by_front(
     requires boxed_as { BoxedAs a e × BoxedLayer (front out.old k) boxes.now × BlankPast out.old k room × (room ≤ max_records) }
     requires scratch_for { ScratchFor out.old scratch.old }
     ensures one_written { OneWritten (rest out.old k) (room - k) a.shape (leading out.old k) result (rest out.new k) }
-    ensures k_unchanged { front out.new k ≡ front out.old k }
+    ensures first_unchanged { front out.new k ≡ front out.old k }
     ensures overlays_within { OverlaysWithin overlays_of_one result }
     ensures blank { Blank (pos 0) scratch.new }
 {
@@ -167,7 +167,7 @@ pub fn one_bearing_by_front(
     requires boxed_as { BoxedAs a e × BoxedLayer (front out.old k) boxes.now × BlankPast out.old k room × (room ≤ max_records) }
     requires scratch_for { ScratchFor out.old scratch.old }
     ensures one_bearing { OneBearing (rest out.old k) (room - k) sources a.shape (leading out.old k) result (rest out.new k) }
-    ensures k_unchanged { front out.new k ≡ front out.old k }
+    ensures first_unchanged { front out.new k ≡ front out.old k }
     ensures overlays_within { OverlaysWithin overlays_of_one result }
     ensures blank { Blank (pos 0) scratch.new }
 {

@@ -7,10 +7,9 @@ ghost use Rattle.std.specs.Prelude.{◌≡◌, length};
 use calls::{Combined, Connected, Deoverlapped, Equality};
 use std::io;
 
-fn combine(rt: &(impl Print + AllocGlobal), code: u32, a: &[i32], b: &[i32]) -> io::Result<()> {
-    let alloc = rt.alloc();
-    let mut out = vec![in alloc; 7i32; records::MAX_WORDS]?;
-    let mut scratch = vec![in alloc; 7i32; records::MAX_WORDS]?;
+fn combine(rt: &impl Print, code: u32, a: &[i32], b: &[i32]) -> io::Result<()> {
+    let mut out = [7i32; records::MAX_WORDS];
+    let mut scratch = [7i32; records::MAX_WORDS];
     match loxurfa::combine(code, a, b, &mut out, &mut scratch) {
         Combined::Refused { number, place } => case_parts::refused(rt, number, place)?,
         Combined::Done { pieces, overlays } => case_parts::done(rt, pieces, overlays)?,
@@ -19,13 +18,7 @@ fn combine(rt: &(impl Print + AllocGlobal), code: u32, a: &[i32], b: &[i32]) -> 
 }
 
 // With 512 squares, the square after them, all 513, and none.
-fn combines(
-    rt: &(impl Print + AllocGlobal),
-    a: &[i32],
-    b: &[i32],
-    more: &[i32],
-    none: &[i32],
-) -> io::Result<()> {
+fn combines(rt: &impl Print, a: &[i32], b: &[i32], more: &[i32], none: &[i32]) -> io::Result<()> {
     println!(rt; "combine")?;
     // done 512 overlays 0: B has nothing
     combine(rt, 0, a, none)?;
@@ -43,10 +36,9 @@ fn combines(
     combine(rt, 0, more, none)
 }
 
-fn deoverlap(rt: &(impl Print + AllocGlobal), a: &[i32]) -> io::Result<()> {
-    let alloc = rt.alloc();
-    let mut out = vec![in alloc; 7i32; records::MAX_WORDS]?;
-    let mut scratch = vec![in alloc; 7i32; records::MAX_WORDS]?;
+fn deoverlap(rt: &impl Print, a: &[i32]) -> io::Result<()> {
+    let mut out = [7i32; records::MAX_WORDS];
+    let mut scratch = [7i32; records::MAX_WORDS];
     match loxurfa::deoverlap(a, &mut out, &mut scratch) {
         Deoverlapped::Refused { number, place } => case_parts::refused(rt, number, place)?,
         Deoverlapped::Done { pieces, overlays } => case_parts::done(rt, pieces, overlays)?,
@@ -55,7 +47,7 @@ fn deoverlap(rt: &(impl Print + AllocGlobal), a: &[i32]) -> io::Result<()> {
 }
 
 // With 512 squares, and 513.
-fn deoverlaps(rt: &(impl Print + AllocGlobal), a: &[i32], more: &[i32]) -> io::Result<()> {
+fn deoverlaps(rt: &impl Print, a: &[i32], more: &[i32]) -> io::Result<()> {
     println!(rt; "deoverlap")?;
     // done 512 overlays 130816: square number i meets the i before it
     deoverlap(rt, a)?;
@@ -63,10 +55,9 @@ fn deoverlaps(rt: &(impl Print + AllocGlobal), a: &[i32], more: &[i32]) -> io::R
     deoverlap(rt, more)
 }
 
-fn equal(rt: &(impl Print + AllocGlobal), a: &[i32], b: &[i32]) -> io::Result<()> {
-    let alloc = rt.alloc();
-    let mut out = vec![in alloc; 7i32; records::MAX_WORDS]?;
-    let mut scratch = vec![in alloc; 7i32; records::MAX_WORDS]?;
+fn equal(rt: &impl Print, a: &[i32], b: &[i32]) -> io::Result<()> {
+    let mut out = [7i32; records::MAX_WORDS];
+    let mut scratch = [7i32; records::MAX_WORDS];
     match loxurfa::equal(a, b, &mut out, &mut scratch) {
         Equality::Refused { number, place } => case_parts::refused(rt, number, place)?,
         Equality::Same { overlays } => {
@@ -82,7 +73,7 @@ fn equal(rt: &(impl Print + AllocGlobal), a: &[i32], b: &[i32]) -> io::Result<()
 }
 
 // With 512 squares, and 511.
-fn equals(rt: &(impl Print + AllocGlobal), a: &[i32], less: &[i32]) -> io::Result<()> {
+fn equals(rt: &impl Print, a: &[i32], less: &[i32]) -> io::Result<()> {
     println!(rt; "equal")?;
     // same overlays 262656: 131,328 each way
     equal(rt, a, a)?;
@@ -150,7 +141,7 @@ fn sets(rt: &impl Print) -> io::Result<()> {
 }
 
 // All cases of 513 squares; the first 512 have 12,800 words.
-fn layers(rt: &(impl Print + AllocGlobal), squares: &[i32]) -> io::Result<()>
+fn layers(rt: &impl Print, squares: &[i32]) -> io::Result<()>
     requires { length squares.now ≡ 12825 }
 {
     let a = &squares[..records::MAX_WORDS];
@@ -167,7 +158,7 @@ fn layers(rt: &(impl Print + AllocGlobal), squares: &[i32]) -> io::Result<()>
 }
 
 fn main(rt: HostRuntime) -> io::Result<()> {
-    let mut squares = vec![in rt.alloc(); 0i32; 12825]?;
+    let mut squares = [0i32; 12825];
     // all with the set of all source layers
     case_parts::squares(&mut squares, 0, -1);
     layers(&rt, &squares)?;

@@ -66,18 +66,18 @@ fn read_file<R: Read + Drop>(alloc: Global, input: R) -> io::Result<Vec<u8>>
 }
 
 // The text for the bytes of a polygon file, written to `output`.
-fn print_listing<W: Write>(alloc: Global, file: &[u8], output: &mut W) -> io::Result<()>
+fn print_listing<W: Write>(file: &[u8], output: &mut W) -> io::Result<()>
     ensures { OnOk result (Appends (W.contents output.old) (W.contents output.new) (listed file.now)) }
 {
-    let mut first = vec![in alloc; 0i32; records::MAX_WORDS]?;
-    let mut out = vec![in alloc; 0i32; records::MAX_WORDS]?;
-    let mut scratch = vec![in alloc; 0i32; records::MAX_WORDS]?;
-    let mut text = vec![in alloc; 0u8; listing::LISTING_ROOM]?;
+    let mut first = [0i32; records::MAX_WORDS];
+    let mut out = [0i32; records::MAX_WORDS];
+    let mut scratch = [0i32; records::MAX_WORDS];
+    let mut text = [0u8; listing::LISTING_ROOM];
     let n = list_file(file, &mut first, &mut out, &mut scratch, &mut text);
     output.write_all(&text[..n])
 }
 
 fn main(rt: HostRuntime) -> Result<()> {
     let file = read_file(rt.alloc(), rt.reader()).context("standard input")?;
-    print_listing(rt.alloc(), &file, &mut io::writer(&rt)).context("standard output")
+    print_listing(&file, &mut io::writer(&rt)).context("standard output")
 }

@@ -142,7 +142,7 @@ module _ {A B : Trapezoid} (ha : FitFor coordinate_limit A) (hb : FitFor coordin
         ∙ ap (λ (ts : List Trapezoid). ts ++ later)
         (sym
         (ap (strips tag A B from to d.in_a d.in_b) (col.order ∙ ap (λ (y : Fraction). order_at A B y d.in_a d.in_b) p.is)
-        ∙ strips_exact ha hb from to proper tag ht d.in_a d.in_b (col.in_a_is ∙ ap (λ (y : Fraction). in_range y A) p.is) (col.in_b ∙ ap (λ (y : Fraction). in_range y B) p.is)))
+        ∙ strips_exact ha hb from to proper tag ht d.in_a d.in_b (col.in_a_is ∙ ap (λ (y : Fraction). in_range y A) p.is) (col.in_b_is ∙ ap (λ (y : Fraction). in_range y B) p.is)))
 
     module _ (f : Fill) (t : List ℤ) (g : FilledAs (length (tail out k)) (room - k) more f t) where
       -- they do not fit

@@ -39,7 +39,7 @@ returns-in-NoRoom c =
     let a : Sourced = record { shape = p.result.shape; sources = to_z w32 (of_z w32 s.result) } in
     let is : a ≡ record_at sourced_codec layer c.loop-i.i = (λ j. record { shape = p.ensures.shape j; sources = z j }) ∙ sym (sourced_at layer c.loop-i.i) in
     let f = c.one_bearing_by_front-f in
-    deoverlap_turn c.loop-i.invariant.0 c.loop-i-test.true a is f.result f.new.out f.new.scratch f.ensures.one_bearing f.ensures.overlays_within f.ensures.k_unchanged f.ensures.blank
+    deoverlap_turn c.loop-i.invariant.0 c.loop-i-test.true a is f.result f.new.out f.new.scratch f.ensures.one_bearing f.ensures.overlays_within f.ensures.first_unchanged f.ensures.blank
     f.auto.scratch in
     let e = c.in-NoRoom.is in
     let z = c.clear.ensures ∙ ap (λ (n : ℕ). replicate n (pos 0)) (c.one_bearing_by_front-f.auto.out ∙ c.loop-i.invariant.0.folding.long) in
@@ -54,12 +54,12 @@ extend_boxes-requires c =
     let a : Sourced = record { shape = p.result.shape; sources = to_z w32 (of_z w32 s.result) } in
     let is : a ≡ record_at sourced_codec layer c.loop-i.i = (λ j. record { shape = p.ensures.shape j; sources = z j }) ∙ sym (sourced_at layer c.loop-i.i) in
     let f = c.one_bearing_by_front-f in
-    deoverlap_turn c.loop-i.invariant.0 c.loop-i-test.true a is f.result f.new.out f.new.scratch f.ensures.one_bearing f.ensures.overlays_within f.ensures.k_unchanged f.ensures.blank
+    deoverlap_turn c.loop-i.invariant.0 c.loop-i-test.true a is f.result f.new.out f.new.scratch f.ensures.one_bearing f.ensures.overlays_within f.ensures.first_unchanged f.ensures.blank
     f.auto.scratch in
     let h = c.loop-i.invariant in
     let f = c.one_bearing_by_front-f in
     let k = (turn).keeps _ _ c.in-Done.is in
-    boxes_more c.loop-i.out f.new.out c.loop-i.boxes c.loop-i.k _ c.args.room (deoverlap_past h.0) (deoverlap_past k) k.fit f.ensures.k_unchanged (omega (arith, h.2, c.requires.fit_layer.1)) h.1
+    boxes_more c.loop-i.out f.new.out c.loop-i.boxes c.loop-i.k _ c.args.room (deoverlap_past h.0) (deoverlap_past k) k.fit f.ensures.first_unchanged (omega (arith, h.2, c.requires.fit_layer.1)) h.1
 
 pub loop-i-preserved : goal.loop-i-preserved
 loop-i-preserved c =
@@ -70,7 +70,7 @@ loop-i-preserved c =
     let a : Sourced = record { shape = p.result.shape; sources = to_z w32 (of_z w32 s.result) } in
     let is : a ≡ record_at sourced_codec layer c.loop-i.i = (λ j. record { shape = p.ensures.shape j; sources = z j }) ∙ sym (sourced_at layer c.loop-i.i) in
     let f = c.one_bearing_by_front-f in
-    deoverlap_turn c.loop-i.invariant.0 c.loop-i-test.true a is f.result f.new.out f.new.scratch f.ensures.one_bearing f.ensures.overlays_within f.ensures.k_unchanged f.ensures.blank
+    deoverlap_turn c.loop-i.invariant.0 c.loop-i-test.true a is f.result f.new.out f.new.scratch f.ensures.one_bearing f.ensures.overlays_within f.ensures.first_unchanged f.ensures.blank
     f.auto.scratch in
     let b = c.extend_boxes.ensures in
     ((turn).keeps _ _ c.in-Done.is, b.boxes_of, b.boxes_len_unchanged ∙ c.loop-i.invariant.2)

@@ -20,7 +20,7 @@ returns c =
     let e = c.bear.ensures ∙ ap (λ (z : ℤ). borne f.result z (tail t a.k)) (to_z-of_z c.ranges.sources) in
     record {
       one_bearing = past_bearing d a.k a.room h t kept a.a.shape (leading d a.k) f.result f.ensures.one_written a.sources u e;
-      k_unchanged = back_front t a.k (kept_fits d a.k a.room h t kept) u ∙ f.ensures.k_unchanged;
+      first_unchanged = back_front t a.k (kept_fits d a.k a.room h t kept) u ∙ f.ensures.first_unchanged;
       overlays_within = f.ensures.overlays_within;
       blank = f.ensures.blank;
     }

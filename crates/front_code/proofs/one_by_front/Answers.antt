@@ -11,7 +11,7 @@ pub returns-then-room-k : goal.returns-then-room-k
 returns-then-room-k c =
     let f = c.one_past in
     let a = c.args in
-    record { one_written = past_start a.out.now a.k a.room c.requires.boxed_as.2 a.a.shape f.result _ f.ensures.one_written; k_unchanged = f.ensures.k_unchanged; overlays_within = f.ensures.overlays_within; blank = f.ensures.blank }
+    record { one_written = past_start a.out.now a.k a.room c.requires.boxed_as.2 a.a.shape f.result _ f.ensures.one_written; first_unchanged = f.ensures.first_unchanged; overlays_within = f.ensures.overlays_within; blank = f.ensures.blank }
 
 pub more_overlays-requires : goal.more_overlays-requires
 more_overlays-requires c =
@@ -30,4 +30,4 @@ returns c =
     let g = past_skip a.out.now a.k a.room c.requires.boxed_as.2 a.a.shape v.result.before v.ensures.before (omega (arith, c.if-room-k.false)) f.result _ f.ensures.one_written in
     let m = max_records * (max_records - v.result.before) + 1 in
     let w = within_more m v.result.before v.result.before f.result (omega arith) f.ensures.overlays_within in
-    record { one_written = rw r g; k_unchanged = f.ensures.k_unchanged; overlays_within = within_least (v.result.before + m) overlays_of_one c.more_overlays.result (omega (arith, u, c.requires.boxed_as.2.within, c.requires.boxed_as.3)) (subst (OverlaysWithin (v.result.before + m)) (sym r) w); blank = f.ensures.blank }
+    record { one_written = rw r g; first_unchanged = f.ensures.first_unchanged; overlays_within = within_least (v.result.before + m) overlays_of_one c.more_overlays.result (omega (arith, u, c.requires.boxed_as.2.within, c.requires.boxed_as.3)) (subst (OverlaysWithin (v.result.before + m)) (sym r) w); blank = f.ensures.blank }

@@ -18,7 +18,7 @@ returns-then-k-j c =
     let d = a.out.now in
     let w = c.add_whole in
     let t = w.new.out in
-    record { one_written = past_whole d a.k a.room c.requires.boxed_as.2 a.a.shape a.j c.if-k-j.true w.result t w.ensures; k_unchanged = past_front d a.k a.room c.requires.boxed_as.2 t; overlays_within = within_least 1 (max_records * (max_records - a.j) + 1) w.result (omega arith) (folded_within (length (tail d a.k)) (a.room - a.k) (a.a.shape ∷ []) (addition 1 ∷ []) w.result t w.ensures); blank = c.requires.scratch_for.0 }
+    record { one_written = past_whole d a.k a.room c.requires.boxed_as.2 a.a.shape a.j c.if-k-j.true w.result t w.ensures; first_unchanged = past_front d a.k a.room c.requires.boxed_as.2 t; overlays_within = within_least 1 (max_records * (max_records - a.j) + 1) w.result (omega arith) (folded_within (length (tail d a.k)) (a.room - a.k) (a.a.shape ∷ []) (addition 1 ∷ []) w.result t w.ensures); blank = c.requires.scratch_for.0 }
 
 pub returns-in_default : goal.returns-in_default
 returns-in_default c =
@@ -28,7 +28,7 @@ returns-in_default c =
     let d = a.out.now in
     let t = f.new.out in
     let l : a.j < a.k = omega (arith, c.if-k-j.false) in
-    record { one_written = past_refused d a.k a.room c.requires.boxed_as.2 a.a.shape a.j l p.result.shape p.ensures.shape f.result t f.ensures _ c.in_default.is; k_unchanged = past_front d a.k a.room c.requires.boxed_as.2 t; overlays_within = within_least 1 (max_records * (max_records - a.j) + 1) f.result (omega arith) (past_few d a.k a.room c.requires.boxed_as.2 a.a.shape a.j l p.result.shape p.ensures.shape f.result t f.ensures); blank = c.requires.scratch_for.0 }
+    record { one_written = past_refused d a.k a.room c.requires.boxed_as.2 a.a.shape a.j l p.result.shape p.ensures.shape f.result t f.ensures _ c.in_default.is; first_unchanged = past_front d a.k a.room c.requires.boxed_as.2 t; overlays_within = within_least 1 (max_records * (max_records - a.j) + 1) f.result (omega arith) (past_few d a.k a.room c.requires.boxed_as.2 a.a.shape a.j l p.result.shape p.ensures.shape f.result t f.ensures); blank = c.requires.scratch_for.0 }
 
 pub reduce_by_front-g-requires : goal.reduce_by_front-g-requires
 reduce_by_front-g-requires c =
@@ -65,4 +65,4 @@ returns c =
     let g = past_folded d a.k a.room c.requires.boxed_as.2 a.a.shape a.j l p.result.shape p.ensures.shape f.result t f.ensures f.auto.out _ _ c.in-Done.is q.result _ q.ensures.rest_written in
     let e = past_front d a.k a.room c.requires.boxed_as.2 t in
     let w = within_more (max_records * (max_records - (a.j + 1))) 1 _ q.result v q.ensures.overlays_within in
-    record { one_written = rw r g; k_unchanged = q.ensures.k_unchanged ∙ e; overlays_within = within_least (1 + max_records * (max_records - (a.j + 1))) (max_records * (max_records - a.j) + 1) c.more_overlays.result (omega arith) (subst (OverlaysWithin (1 + max_records * (max_records - (a.j + 1)))) (sym r) w); blank = q.ensures.blank }
+    record { one_written = rw r g; first_unchanged = q.ensures.first_unchanged ∙ e; overlays_within = within_least (1 + max_records * (max_records - (a.j + 1))) (max_records * (max_records - a.j) + 1) c.more_overlays.result (omega arith) (subst (OverlaysWithin (1 + max_records * (max_records - (a.j + 1)))) (sym r) w); blank = q.ensures.blank }

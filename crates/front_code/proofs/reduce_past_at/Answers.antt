@@ -8,7 +8,7 @@ use Rattle.front_code.proofs.reduce_past_at.Goals as goal
 pub returns-then-boxes_disjoint : goal.returns-then-boxes_disjoint
 returns-then-boxes_disjoint c =
     let h = c.requires in
-    record { step_written = step_stands h.remainder_past.0 c.args.i h.remainder_past.1 (sym c.boxes_disjoint.ensures ∙ c.if-boxes_disjoint.true); k_unchanged = refl; blank = h.scratch_for.0 }
+    record { step_written = step_stands h.remainder_past.0 c.args.i h.remainder_past.1 (sym c.boxes_disjoint.ensures ∙ c.if-boxes_disjoint.true); first_unchanged = refl; blank = h.scratch_for.0 }
 
 pub reduce-requires : goal.reduce-requires
 reduce-requires c =
@@ -23,4 +23,4 @@ returns c =
     let p = c.placed_at-b in
     let m = c.reduce in
     let l = past_fits h.remainder_past.0 in
-    record { step_written = step_written h.remainder_past.0 a.i h.remainder_past.1 p.result.shape p.ensures.shape m.result m.new.out m.ensures.minus_written; k_unchanged = back_front a.out.now a.k l m.new.out; blank = back_blank a.scratch.now a.k (omega (arith, l, h.scratch_for.1)) m.new.scratch h.scratch_for.0 m.ensures.blank }
+    record { step_written = step_written h.remainder_past.0 a.i h.remainder_past.1 p.result.shape p.ensures.shape m.result m.new.out m.ensures.minus_written; first_unchanged = back_front a.out.now a.k l m.new.out; blank = back_blank a.scratch.now a.k (omega (arith, l, h.scratch_for.1)) m.new.scratch h.scratch_for.0 m.ensures.blank }

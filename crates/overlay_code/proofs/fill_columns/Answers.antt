@@ -43,7 +43,7 @@ fill_column-f-requires c =
     let pair = c.requires.pair.0 in
     let h = c.loop-i.invariant in
     let col = column in (
-      orders_moved (event).is (in_first ∙ sym col.in_a_is) (c.in_range-in_b.ensures ∙ sym col.in_b) (orders),
+      orders_moved (event).is (in_first ∙ sym col.in_a_is) (c.in_range-in_b.ensures ∙ sym col.in_b_is) (orders),
       (column_four pair.first.fit pair.second.fit _ _ col).long,
       write_borrowed h.writing,
     )
