@@ -75,6 +75,22 @@ from_closed P t h =
     let d = and_yes (le_z (pos 0) (orientation t.bottom P)) (le_z (orientation t.top P) (pos 0)) c.1 in
     record { from = b.0; to = c.0; bottom = le_z_yes d.0; top = le_z_yes d.1 }
 
+-- the test at x by its four comparisons. (Over plain variables, so that a test that is another is told apart at once.)
+upright_parts : (A B : Trapezoid) (x : Fraction) → T (touches_upright A B x) → T (lower_at x A.bottom B.top) × T (lower_at x B.bottom A.top) × T (lower_at x A.bottom A.top) × T (lower_at x B.bottom B.top)
+unfolding touches_upright
+upright_parts A B x h =
+    let k = and_yes (lower_at x A.bottom B.top && lower_at x B.bottom A.top) (lower_at x A.bottom A.top && lower_at x B.bottom B.top) h in
+    let a = and_yes (lower_at x A.bottom B.top) (lower_at x B.bottom A.top) k.0 in
+    let b = and_yes (lower_at x A.bottom A.top) (lower_at x B.bottom B.top) k.1 in
+    (a.0, a.1, b.0, b.1)
+
+upright_whole : (A B : Trapezoid) (x : Fraction) → T (lower_at x A.bottom B.top) → T (lower_at x B.bottom A.top) → T (lower_at x A.bottom A.top) → T (lower_at x B.bottom B.top) → T (touches_upright A B x)
+unfolding touches_upright
+upright_whole A B x a b c d =
+    yes_and (lower_at x A.bottom B.top && lower_at x B.bottom A.top) (lower_at x A.bottom A.top && lower_at x B.bottom B.top)
+    (yes_and (lower_at x A.bottom B.top) (lower_at x B.bottom A.top) a b)
+    (yes_and (lower_at x A.bottom A.top) (lower_at x B.bottom B.top) c d)
+
 module _ (L : ℕ) (A B : Trapezoid) (ha : FitFor L A) (hb : FitFor L B) where
   abbrev lo : Fraction
   lo = common_left A B
@@ -228,12 +244,9 @@ module _ (L : ℕ) (A B : Trapezoid) (ha : FitFor L A) (hb : FitFor L B) where
           touch_right_of (position k) (crossing_proper A B k a.0) (before→at_most lo (position k) c.after) c.by a.1
 
   upright→ : T (not (before hi lo)) → T (touches_upright A B lo) → Touch A B
-  unfolding touches_upright
   upright→ w h =
-      let k = and_yes (lower_at lo A.bottom B.top && lower_at lo B.bottom A.top) (lower_at lo A.bottom A.top && lower_at lo B.bottom B.top) h in
-      let a = and_yes (lower_at lo A.bottom B.top) (lower_at lo B.bottom A.top) k.0 in
-      let b = and_yes (lower_at lo A.bottom A.top) (lower_at lo B.bottom B.top) k.1 in
-      touch_upright lo hlo (at_most_refl lo) w (lower→gap lo A.bottom B.top a.0) (lower→gap lo B.bottom A.top a.1) (lower→gap lo A.bottom A.top b.0) (lower→gap lo B.bottom B.top b.1)
+      let p = upright_parts A B lo h in
+      touch_upright lo hlo (at_most_refl lo) w (lower→gap lo A.bottom B.top p.0) (lower→gap lo B.bottom A.top p.1) (lower→gap lo A.bottom A.top p.2) (lower→gap lo B.bottom B.top p.3)
 
   there : T (touches A B) → Touch A B
   unfolding touches
@@ -369,14 +382,11 @@ module _ (L : ℕ) (A B : Trapezoid) (ha : FitFor L A) (hb : FitFor L B) where
           ]
 
       upright : T (not (before lo hi)) → T (touches_upright A B lo)
-      unfolding touches_upright
       upright w =
           let lower : (l m : Line) → gap l m (at R) <ℤ pos 0 → T (lower_at lo l m) = λ l m g. gap→lower lo l m (at_left l m (at_most_trans (at R) hi lo s.0 hhi hlo to_R w) g) in
-          yes_and (lower_at lo A.bottom B.top && lower_at lo B.bottom A.top) (lower_at lo A.bottom A.top && lower_at lo B.bottom B.top)
-          (yes_and (lower_at lo A.bottom B.top) (lower_at lo B.bottom A.top) (lower A.bottom B.top a_b) (lower B.bottom A.top b_a))
-          (yes_and (lower_at lo A.bottom A.top) (lower_at lo B.bottom B.top)
+          upright_whole A B lo (lower A.bottom B.top a_b) (lower B.bottom A.top b_a)
           (lower A.bottom A.top (strict A.bottom A.top (bottom_line ha) (top_line ha) ra.bottom ra'.top))
-          (lower B.bottom B.top (strict B.bottom B.top (bottom_line hb) (top_line hb) rb.bottom rb'.top)))
+          (lower B.bottom B.top (strict B.bottom B.top (bottom_line hb) (top_line hb) rb.bottom rb'.top))
 
       stack : T (touches A B)
       unfolding touches

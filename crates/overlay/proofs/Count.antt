@@ -30,11 +30,11 @@ use Rattle.sweep.proofs.Prefix.{value, prefix, Decided, decided, nothing, up_to_
 use Rattle.sweep.proofs.Column.{Good, goods, ordered, groups_good, groups_rising, under_lower}
 use Rattle.sweep.proofs.Sweep.{sweep_count}
 use Rattle.overlay.specs.Overlaps.{overlaps}
-use Rattle.overlay.specs.Overlay.{Part, tag_of, in_range, sides, overlay_events, segment_line, fills, tag_above, part, parts, subdivision, overlay}
+use Rattle.overlay.specs.Overlay.{Part, tag_of, in_range, sides, overlay_events, segment_line, fills, tag_above, part, stack, parts, subdivision, overlay}
 use Rattle.overlay.proofs.Ranges.{from_lies, lies_is}
 use Rattle.overlay.proofs.Overlaps.{apart_exact}
 use Rattle.overlay.proofs.Events.{Cell, dividers, groups, complete}
-use Rattle.overlay.proofs.Stack.{stack_all, stack_count}
+use Rattle.overlay.proofs.Stack.{parts_stack, stack_all, stack_count}
 
 -- a part that the point lies in and whose tag is asked for
 abbrev pub hit : Point → (ℕ → Bool) → Part → Bool
@@ -145,20 +145,20 @@ module _ {L : ℕ} {A B : Trapezoid} (ha : FitFor L A) (hb : FitFor L B) where
           lies_is P s (yes_and (crosses p.first p.second) (crosses q.first q.second) first second) ∙ ap (λ (u : Bool). u && (at_or_below g && not (at_or_below h))) i
 
       column_count : (t : ℕ → Bool) → t 0 ≡ false → count_if (hit P t) (parts A B p q (dividers A B p)) ≡ bit (t own)
-      unfolding parts
       column_count t t0 =
           let first_part = prefix o at_or_below down (groups A B p) (groups_good segment_line c.clear) (groups_rising segment_line c.clear) in
           let reads : (g h : Segment) → hit P t (part A B p q g h) ≡ at_or_below g && not (at_or_below h) && t (tag_above A B (position p) g)
           = λ g h. ap (λ (u : Bool). u && t (tag_above A B (position p) g)) (part_lies g h) in
-          stack_count A B p q at_or_below t t0 (hit P t) reads (groups A B p) first_part (top_tag p q c) ∙ ap (λ (n : ℕ). bit (t n)) point_tag
+          ap (count_if (hit P t)) (parts_stack A B p q (dividers A B p))
+          ∙ stack_count A B p q at_or_below t t0 (hit P t) reads (groups A B p) first_part (top_tag p q c) ∙ ap (λ (n : ℕ). bit (t n)) point_tag
 
     -- ---- the columns
     module _ (t : ℕ → Bool) (t0 : t 0 ≡ false) where
       elsewhere : (p q : Base) (ss : List Segment) → T (before (at P) (position p)) ⊎ T (not (before (at P) (position q))) → count_if (hit P t) (parts A B p q ss) ≡ 0
-      unfolding parts
       elsewhere p q ss o =
           let gs = levels (lower segment_line (position p)) ss in
-          count_none (hit P t) (parts A B p q ss) (stack_all A B p q (λ (s : Part). hit P t s ≡ false) gs (neighbours_every (λ (g h : Segment). hit P t (part A B p q g h) ≡ false) miss gs))
+          ap (count_if (hit P t)) (parts_stack A B p q ss)
+          ∙ count_none (hit P t) (stack A B p q gs) (stack_all A B p q (λ (s : Part). hit P t s ≡ false) gs (neighbours_every (λ (g h : Segment). hit P t (part A B p q g h) ≡ false) miss gs))
         where
           out : (s : Trapezoid) → T (before (at P) (position s.left)) ⊎ T (not (before (at P) (position s.right))) → T (lies_in P s) → ⊥
           out s (inl b) k = T_not (before (at P) (position s.left)) (from_lies P s k).from b

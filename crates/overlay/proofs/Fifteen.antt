@@ -1,6 +1,6 @@
 -- At most 15 parts. A column outside the common range has at most one part, one inside it at most three. Inside it there are at most four columns, or,
 -- where each bottom crosses the other's top, five, of which the first and the last have two: 1 + (2 + 3 + 3 + 3 + 2) + 1.
-use mathlib.Core.Path.{◌≡◌, refl, ap₂}
+use mathlib.Core.Path.{◌≡◌, refl, ap, ap₂}
 use mathlib.Core.Bool.{Bool, true, false, not, cond, ◌&&◌, ◌||◌}
 use mathlib.Core.List.{List, ◌∷◌}
 use mathlib.Core.Logic.{◌⊎◌, inl, inr}
@@ -33,11 +33,11 @@ use Rattle.sweep.specs.Columns.{lower}
 use Rattle.sweep.specs.Sweep.{earlier, sweep}
 use Rattle.sweep.proofs.Sweep.{Placed, placed_order}
 use Rattle.overlay.specs.Overlaps.{crosses_in_common, overlap_right}
-use Rattle.overlay.specs.Overlay.{Part, in_range, sides, side_crossings, overlay_events, segment_line, parts, subdivision}
+use Rattle.overlay.specs.Overlay.{Part, in_range, sides, side_crossings, overlay_events, segment_line, stack, parts, subdivision}
 use Rattle.overlay.specs.Statements.{AtMostFifteen}
 use Rattle.overlay.proofs.Ranges.{crossing_proper}
 use Rattle.overlay.proofs.Events.{dividers, groups, complete}
-use Rattle.overlay.proofs.Stack.{stack_length}
+use Rattle.overlay.proofs.Stack.{parts_stack, stack_length}
 use Rattle.overlay.proofs.Count.{overlay_cases}
 use Rattle.overlay.proofs.Sums.{levels_step, levels_total, levels_same, columns_length}
 use Rattle.overlay.proofs.Opposite.{apart_left, apart_after}
@@ -109,8 +109,8 @@ module _ {L : ℕ} {A B : Trapezoid} (ha : FitFor L A) (hb : FitFor L B) where
       go false false e d = rw (e, d) (le_refl 0)
 
   sides_bound : (p q : Base) → length (parts A B p q (dividers A B p)) ≤ cost false (in_a p) (in_b p)
-  unfolding parts
   sides_bound p q =
+      let e : length (parts A B p q (dividers A B p)) ≡ length (stack A B p q (groups A B p)) = ap length (parts_stack A B p q (dividers A B p)) in
       let i = stack_length A B p q (groups A B p) in
       let j = levels_length (lower segment_line (position p)) (dividers A B p) in
       let k = dividers_length p in

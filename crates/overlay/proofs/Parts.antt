@@ -1,5 +1,5 @@
 -- Each part of the overlay: its tag is not 0, its lines are lines of A or B, and it is fit.
-use mathlib.Core.Path.{◌≡◌}
+use mathlib.Core.Path.{◌≡◌, sym, subst}
 use mathlib.Core.Bool.{not}
 use mathlib.Core.List.{List, ◌++◌}
 use Prim.Native.Nat.{ℕ}
@@ -28,7 +28,7 @@ use Rattle.overlay.specs.Overlaps.{crosses_in_common}
 use Rattle.overlay.specs.Overlay.{Part, sides, side_crossings, overlay_events, segment_line, part, parts, subdivision, overlay}
 use Rattle.overlay.specs.Statements.{PartsFit, PartsLines}
 use Rattle.overlay.proofs.Events.{Cell, dividers, groups, complete}
-use Rattle.overlay.proofs.Stack.{stack_all, stack_tags}
+use Rattle.overlay.proofs.Stack.{parts_stack, stack_all, stack_tags}
 use Rattle.overlay.proofs.Count.{overlay_cases}
 
 -- ---- lines
@@ -74,13 +74,14 @@ module _ {L : ℕ} {A B : Trapezoid} (ha : FitFor L A) (hb : FitFor L B) where
 
   -- what holds of the part between each two groups of each column, of which the one is below the other, holds of each part
   each_part : (R : Part → Type 0) → ((p q : Base) → Cell A B p q → (g h : Segment) → Below segment_line (position p) (position q) (dividers A B p) g h → R (part A B p q g h)) → All R (subdivision A B)
-  unfolding subdivision parts
+  unfolding subdivision
   each_part R f = sweep_all (λ (s : Segment). s) position (sides A B) (overlay_events A B) (parts A B) R (complete ha hb) column
     where
       column : (p q : Base) → Cell A B p q → All R (parts A B p q (dividers A B p))
       column p q c =
           let below = pairs_neighbours (Below segment_line (position p) (position q) (dividers A B p)) (groups A B p) (groups_ordered segment_line c.clear) in
-          stack_all A B p q R (groups A B p) (neighbours_map (f p q c) (groups A B p) below)
+          subst (All R) (sym (parts_stack A B p q (dividers A B p)))
+          (stack_all A B p q R (groups A B p) (neighbours_map (f p q c) (groups A B p) below))
 
   part_lines : (p q : Base) → Cell A B p q → (g h : Segment) → Below segment_line (position p) (position q) (dividers A B p) g h → All (Ours A B) (lines_of (part A B p q g h).trapezoid)
   part_lines p q c g h b =
@@ -110,9 +111,9 @@ module _ {L : ℕ} {A B : Trapezoid} (ha : FitFor L A) (hb : FitFor L B) where
       }
 
   subdivision_tags : All (λ (s : Part). T (not (eqb s.tag 0))) (subdivision A B)
-  unfolding subdivision parts
+  unfolding subdivision
   subdivision_tags =
-      sweep_all (λ (s : Segment). s) position (sides A B) (overlay_events A B) (parts A B) (λ (s : Part). T (not (eqb s.tag 0))) (complete ha hb) (λ p q c. stack_tags A B p q (groups A B p))
+      sweep_all (λ (s : Segment). s) position (sides A B) (overlay_events A B) (parts A B) (λ (s : Part). T (not (eqb s.tag 0))) (complete ha hb) (λ p q c. subst (All (λ (s : Part). T (not (eqb s.tag 0)))) (sym (parts_stack A B p q (dividers A B p))) (stack_tags A B p q (groups A B p)))
 
   pub overlay_tags : All (λ (s : Part). T (not (eqb s.tag 0))) (overlay A B)
   overlay_tags = overlay_cases ha hb (All (λ (s : Part). T (not (eqb s.tag 0)))) subdivision_tags (λ n. (tt, (tt, tt)))

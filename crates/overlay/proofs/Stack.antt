@@ -18,7 +18,14 @@ use Rattle.geometry.specs.declared.Trapezoid.{Trapezoid}
 use Rattle.geometry.specs.Positions.{position}
 use Rattle.sweep.specs.Segments.{Segment}
 use Rattle.sweep.proofs.Prefix.{Prefix, value}
-use Rattle.overlay.specs.Overlay.{Part, tag_above, part, stack}
+use Rattle.levels.specs.Levels.{levels}
+use Rattle.sweep.specs.Columns.{lower}
+use Rattle.overlay.specs.Overlay.{Part, segment_line, tag_above, part, stack, parts}
+
+-- the parts between the groups of the sides that divide a column. (Said once, so that parts of other groups are told apart at once.)
+pub parts_stack : (A B : Trapezoid) (p q : Base) (ss : List Segment) → parts A B p q ss ≡ stack A B p q (levels (lower segment_line (position p)) ss)
+unfolding parts
+parts_stack A B p q ss = refl
 
 module _ (A B : Trapezoid) (p q : Base) where
   -- to prove something of the parts: what is above the lowest group is dropped, or is the first part

@@ -1,5 +1,5 @@
 -- A column in which A and B do not overlap has at most two parts.
-use mathlib.Core.Path.{◌≡◌, refl, ap₂}
+use mathlib.Core.Path.{◌≡◌, refl, sym, ap₂, subst}
 use mathlib.Core.Bool.{Bool, true, false, not, cond, and-false}
 use mathlib.Core.List.{List, [], ◌∷◌}
 use mathlib.Core.Logic.{inl, inr}
@@ -32,7 +32,7 @@ use Rattle.overlay.specs.Overlaps.{overlap_right}
 use Rattle.overlay.specs.Overlay.{Part, tag_of, along, in_range, sides, segment_line, fills, tag_above, stack, parts}
 use Rattle.overlay.proofs.Events.{dividers}
 use Rattle.overlay.proofs.Count.{fill_top}
-use Rattle.overlay.proofs.Stack.{stack_cases, stack_length}
+use Rattle.overlay.proofs.Stack.{parts_stack, stack_cases, stack_length}
 
 -- ---- two pairs w < x and y < z with x at most y, put in order: y z w x and w x y z
 module _ {S : Type 0} {less : S → S → Bool} {Good : S → Type 0} (o : StrictWeakOrder less Good) (w x y z : S) (gw : Good w) (gx : Good x) (gy : Good y) (gz : Good z)
@@ -173,5 +173,7 @@ module _ {L : ℕ} {A B : Trapezoid} (ha : FitFor L A) (hb : FitFor L B) (p q : 
       (λ k. stack_length A B p q (w ∷ x ∷ z ∷ [])))
 
   pub two_parts : T (not (overlap_right A B (position p))) → length (parts A B p q (dividers A B p)) ≤ 2
-  unfolding parts overlap_right
-  two_parts h = rw all_divide (elim (and_no (below (position p) A.bottom B.top) (below (position p) B.bottom A.top) h) [ inl k ↦ second_first k | inr k ↦ first_first k ])
+  unfolding overlap_right
+  two_parts h =
+      subst (λ (ss : List Part). length ss ≤ 2) (sym (parts_stack A B p q (dividers A B p)))
+      (rw all_divide (elim (and_no (below (position p) A.bottom B.top) (below (position p) B.bottom A.top) h) [ inl k ↦ second_first k | inr k ↦ first_first k ]))
