@@ -1,6 +1,6 @@
 /* The union of the two layers of examples/two.layers, printed as a listing. From the repository's root:
  *
- *     cc -Iinclude examples/union.c target/staticlib/libloxurfa_c.a -o union && ./union < examples/two.layers
+ *     cc -Iinclude examples/union.c crates/loxurfa_c/out/libloxurfa_c.a -o union && ./union < examples/two.layers
  */
 #include <stdio.h>
 
