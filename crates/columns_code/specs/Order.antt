@@ -60,11 +60,11 @@ module _ (A B : Trapezoid) (p : Fraction) (fa fb : Bool) where
 abbrev pub passing : ℕ → ℕ → ℕ → Bool → Bool
 passing b t z f = cond (eqb z b) true (cond (eqb z t) false f)
 
-unfoldable pub enterA : ℕ → Bool → Bool
-enterA z ina = passing 0 1 z ina
+unfoldable pub enter_a : ℕ → Bool → Bool
+enter_a z ina = passing 0 1 z ina
 
-unfoldable pub enterB : ℕ → Bool → Bool
-enterB z inb = passing 2 3 z inb
+unfoldable pub enter_b : ℕ → Bool → Bool
+enter_b z inb = passing 2 3 z inb
 
 -- from the event p to the event q, and from the side i to the side j
 abbrev pub strip : Trapezoid → Trapezoid → Base → Base → ℕ → ℕ → Trapezoid
@@ -78,10 +78,10 @@ module _ (n : ℕ) (A B : Trapezoid) (p q : Base) (fa fb : Bool) where
   strips_from rep ina inb (z ∷ zs) =
       cond (present_by fa fb z)
       (cond (below (position p) (line_of_side A B rep) (line_of_side A B z))
-      (in_front (eqb (tag_of ina inb) n) (strip A B p q rep z) (strips_from z (enterA z ina) (enterB z inb) zs))
-      (strips_from rep (enterA z ina) (enterB z inb) zs))
+      (in_front (eqb (tag_of ina inb) n) (strip A B p q rep z) (strips_from z (enter_a z ina) (enter_b z inb) zs))
+      (strips_from rep (enter_a z ina) (enter_b z inb) zs))
       []
 
   unfoldable pub strips : List ℕ → List Trapezoid
   strips [] = []
-  strips (z ∷ zs) = cond (present_by fa fb z) (strips_from z (enterA z false) (enterB z false) zs) []
+  strips (z ∷ zs) = cond (present_by fa fb z) (strips_from z (enter_a z false) (enter_b z false) zs) []

@@ -12,41 +12,41 @@ use Rattle.integer.specs.Integer.{◌⊕◌, ◌⊖◌, ◌⊗◌, ⊝◌}
 use Rattle.integer.proofs.Laws.{sub_is, add_zero, add_neg, ind, add_suc, add_pred, add_comm}
 use Rattle.integer.proofs.Ring.{ring, ◌⊞◌, ◌⊟◌, ◌⊠◌, con, ◌≗◌, sub_zero}
 
-leZ_suc : (a b : ℤ) → le_z (suc_ℤ a) (suc_ℤ b) ≡ le_z a b
-leZ_suc (pos a) (pos b) = leb-suc-suc a b
-leZ_suc (pos a) (negsuc zero) = leb-suc-zero a
-leZ_suc (pos a) (negsuc (suc b)) = refl
-leZ_suc (negsuc zero) (pos b) = leb-zero (suc b)
-leZ_suc (negsuc (suc a)) (pos b) = refl
-leZ_suc (negsuc zero) (negsuc zero) = refl
-leZ_suc (negsuc zero) (negsuc (suc b)) = sym (leb-suc-zero b)
-leZ_suc (negsuc (suc a)) (negsuc zero) = sym (leb-zero (suc a))
-leZ_suc (negsuc (suc a)) (negsuc (suc b)) = sym (leb-suc-suc b a)
+le_z_suc : (a b : ℤ) → le_z (suc_ℤ a) (suc_ℤ b) ≡ le_z a b
+le_z_suc (pos a) (pos b) = leb-suc-suc a b
+le_z_suc (pos a) (negsuc zero) = leb-suc-zero a
+le_z_suc (pos a) (negsuc (suc b)) = refl
+le_z_suc (negsuc zero) (pos b) = leb-zero (suc b)
+le_z_suc (negsuc (suc a)) (pos b) = refl
+le_z_suc (negsuc zero) (negsuc zero) = refl
+le_z_suc (negsuc zero) (negsuc (suc b)) = sym (leb-suc-zero b)
+le_z_suc (negsuc (suc a)) (negsuc zero) = sym (leb-zero (suc a))
+le_z_suc (negsuc (suc a)) (negsuc (suc b)) = sym (leb-suc-suc b a)
 
-ltZ_leZ : (a b : ℤ) → lt_z a b ≡ le_z (suc_ℤ a) b
-ltZ_leZ (pos a) (pos b) = refl
-ltZ_leZ (pos a) (negsuc b) = refl
-ltZ_leZ (negsuc zero) (pos b) = sym (leb-zero b)
-ltZ_leZ (negsuc (suc a)) (pos b) = refl
-ltZ_leZ (negsuc zero) (negsuc b) = leb-suc-zero b
-ltZ_leZ (negsuc (suc a)) (negsuc b) = leb-suc-suc b a
+lt_z_le_z : (a b : ℤ) → lt_z a b ≡ le_z (suc_ℤ a) b
+lt_z_le_z (pos a) (pos b) = refl
+lt_z_le_z (pos a) (negsuc b) = refl
+lt_z_le_z (negsuc zero) (pos b) = sym (leb-zero b)
+lt_z_le_z (negsuc (suc a)) (pos b) = refl
+lt_z_le_z (negsuc zero) (negsuc b) = leb-suc-zero b
+lt_z_le_z (negsuc (suc a)) (negsuc b) = leb-suc-suc b a
 
-leZ_shift : (a b c : ℤ) → le_z (a ⊕ c) (b ⊕ c) ≡ le_z a b
-leZ_shift a b c = ind (λ (x : ℤ). le_z (a ⊕ x) (b ⊕ x) ≡ le_z a b)
+le_z_shift : (a b c : ℤ) → le_z (a ⊕ c) (b ⊕ c) ≡ le_z a b
+le_z_shift a b c = ind (λ (x : ℤ). le_z (a ⊕ x) (b ⊕ x) ≡ le_z a b)
     (ap₂ le_z (add_zero a) (add_zero b))
-    (λ k h. ap₂ le_z (add_suc a k) (add_suc b k) ∙ leZ_suc (a ⊕ k) (b ⊕ k) ∙ h)
-    (λ k h. ap₂ le_z (add_pred a k) (add_pred b k) ∙ sym (leZ_suc (pred_ℤ (a ⊕ k)) (pred_ℤ (b ⊕ k))) ∙ ap₂ le_z (suc-pred (a ⊕ k)) (suc-pred (b ⊕ k)) ∙ h)
+    (λ k h. ap₂ le_z (add_suc a k) (add_suc b k) ∙ le_z_suc (a ⊕ k) (b ⊕ k) ∙ h)
+    (λ k h. ap₂ le_z (add_pred a k) (add_pred b k) ∙ sym (le_z_suc (pred_ℤ (a ⊕ k)) (pred_ℤ (b ⊕ k))) ∙ ap₂ le_z (suc-pred (a ⊕ k)) (suc-pred (b ⊕ k)) ∙ h)
     c
 
-ltZ_shift : (a b c : ℤ) → lt_z (a ⊕ c) (b ⊕ c) ≡ lt_z a b
+lt_z_shift : (a b c : ℤ) → lt_z (a ⊕ c) (b ⊕ c) ≡ lt_z a b
 unfolding ◌⊕◌
-ltZ_shift a b c = ltZ_leZ (a ⊕ c) (b ⊕ c) ∙ ap (λ (x : ℤ). le_z x (b ⊕ c)) (sym (suc_ℤ-+ℤ a c)) ∙ leZ_shift (suc_ℤ a) b c ∙ sym (ltZ_leZ a b)
+lt_z_shift a b c = lt_z_le_z (a ⊕ c) (b ⊕ c) ∙ ap (λ (x : ℤ). le_z x (b ⊕ c)) (sym (suc_ℤ-+ℤ a c)) ∙ le_z_shift (suc_ℤ a) b c ∙ sym (lt_z_le_z a b)
 
 pub le_sub : (a b : ℤ) → le_z (pos 0) (b ⊖ a) ≡ le_z a b
-le_sub a b = ap₂ le_z (sym (add_neg a)) (sub_is b a) ∙ leZ_shift a b (⊝ a)
+le_sub a b = ap₂ le_z (sym (add_neg a)) (sub_is b a) ∙ le_z_shift a b (⊝ a)
 
 pub lt_sub : (a b : ℤ) → lt_z (pos 0) (b ⊖ a) ≡ lt_z a b
-lt_sub a b = ap₂ lt_z (sym (add_neg a)) (sub_is b a) ∙ ltZ_shift a b (⊝ a)
+lt_sub a b = ap₂ lt_z (sym (add_neg a)) (sub_is b a) ∙ lt_z_shift a b (⊝ a)
 
 -- ---- a fact as a sign, and back: `le_by (ring ..) h`
 pub le→nonneg : {a b : ℤ} → a ≤ℤ b → pos 0 ≤ℤ b ⊖ a

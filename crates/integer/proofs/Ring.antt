@@ -54,14 +54,14 @@ add_const a (num b) = num (a +ℤ b)
 add_const a (node q p) = node (add_const a q) p
 
 -- a polynomial is not walked for a zero
-abbrev pub addConst? : ℤ → Poly → Poly
-addConst? (pos zero) r = r
-addConst? (pos (suc n)) r = add_const (pos (suc n)) r
-addConst? (negsuc n) r = add_const (negsuc n) r
+abbrev pub add_const? : ℤ → Poly → Poly
+add_const? (pos zero) r = r
+add_const? (pos (suc n)) r = add_const (pos (suc n)) r
+add_const? (negsuc n) r = add_const (negsuc n) r
 
 abbrev pub add : Poly → Poly → Poly
-add (num a) r = addConst? a r
-add (node q p) (num b) = node (addConst? b q) p
+add (num a) r = add_const? a r
+add (node q p) (num b) = node (add_const? b q) p
 add (node q p) (node q' p') = node (add q q') (add p p')
 
 abbrev pub scale : ℤ → Poly → Poly
@@ -141,16 +141,16 @@ unfolding value ◌⊕◌
 value_add_const ρ a (num b) = refl
 value_add_const ρ a (node q p) = ap (λ (x : ℤ). x ⊕ hd ρ ⊗ value ρ p) (value_add_const (tl ρ) a q) ∙ add_assoc a (value (tl ρ) q) (hd ρ ⊗ value ρ p)
 
-value-addConst? : (ρ : List ℤ) (a : ℤ) (p : Poly) → value ρ (addConst? a p) ≡ a ⊕ value ρ p
-value-addConst? ρ (pos zero) p = sym (zero_add (value ρ p))
-value-addConst? ρ (pos (suc n)) p = value_add_const ρ (pos (suc n)) p
-value-addConst? ρ (negsuc n) p = value_add_const ρ (negsuc n) p
+value-add_const? : (ρ : List ℤ) (a : ℤ) (p : Poly) → value ρ (add_const? a p) ≡ a ⊕ value ρ p
+value-add_const? ρ (pos zero) p = sym (zero_add (value ρ p))
+value-add_const? ρ (pos (suc n)) p = value_add_const ρ (pos (suc n)) p
+value-add_const? ρ (negsuc n) p = value_add_const ρ (negsuc n) p
 
 value_add : (ρ : List ℤ) (p r : Poly) → value ρ (add p r) ≡ value ρ p ⊕ value ρ r
 unfolding value
-value_add ρ (num a) r = value-addConst? ρ a r
+value_add ρ (num a) r = value-add_const? ρ a r
 value_add ρ (node q p) (num b) =
-    ap (λ (x : ℤ). x ⊕ hd ρ ⊗ value ρ p) (value-addConst? (tl ρ) b q) ∙ add_assoc b (value (tl ρ) q) (hd ρ ⊗ value ρ p) ∙ add_comm b (value (tl ρ) q ⊕ hd ρ ⊗ value ρ p)
+    ap (λ (x : ℤ). x ⊕ hd ρ ⊗ value ρ p) (value-add_const? (tl ρ) b q) ∙ add_assoc b (value (tl ρ) q) (hd ρ ⊗ value ρ p) ∙ add_comm b (value (tl ρ) q ⊕ hd ρ ⊗ value ρ p)
 value_add ρ (node q p) (node q' p') =
     ap₂ ◌⊕◌ (value_add (tl ρ) q q') (ap (λ (x : ℤ). hd ρ ⊗ x) (value_add ρ p p') ∙ mul_add (hd ρ) (value ρ p) (value ρ p'))
     ∙ add4 (value (tl ρ) q) (value (tl ρ) q') (hd ρ ⊗ value ρ p) (hd ρ ⊗ value ρ p')

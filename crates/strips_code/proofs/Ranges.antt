@@ -13,11 +13,11 @@ use Rattle.geometry.specs.declared.Trapezoid.{Trapezoid}
 use Rattle.geometry.specs.Positions.{position, below}
 use Rattle.overlay.specs.Overlay.{tag_of}
 use Rattle.trapezoids_code.specs.Tails.{in_front}
-use Rattle.columns_code.specs.Order.{line_of_side, present_by, passing, enterA, enterB, strip, strips_from, strips}
+use Rattle.columns_code.specs.Order.{line_of_side, present_by, passing, enter_a, enter_b, strip, strips_from, strips}
 
 -- ---- sides that are not there
-no_first : (fb : Bool) (z : ℕ) (f : Bool) → present_by false fb z ≡ true → enterA z f ≡ f
-unfolding present_by enterA
+no_first : (fb : Bool) (z : ℕ) (f : Bool) → present_by false fb z ≡ true → enter_a z f ≡ f
+unfolding present_by enter_a
 no_first fb z f e = go (yes_or_no (ltb z 2)) e
   where
     go : T (ltb z 2) ⊎ T (not (ltb z 2)) → cond (ltb z 2) false fb ≡ true → passing 0 1 z f ≡ f
@@ -48,18 +48,18 @@ module _ (n : ℕ) (A B : Trapezoid) (p q : Base) where
   outside_first t fb rep inb (z ∷ zs) =
       if_there (present_by false fb z)
       (cond (below (position p) (line_of_side A B rep) (line_of_side A B z))
-      (in_front (eqb (tag_of false inb) n) (strip A B p q rep z) (strips_from n A B p q false fb z (enterA z false) (enterB z inb) zs))
-      (strips_from n A B p q false fb rep (enterA z false) (enterB z inb) zs))
+      (in_front (eqb (tag_of false inb) n) (strip A B p q rep z) (strips_from n A B p q false fb z (enter_a z false) (enter_b z inb) zs))
+      (strips_from n A B p q false fb rep (enter_a z false) (enter_b z inb) zs))
       (λ e.
       let s = no_first fb z false e in
       either (below (position p) (line_of_side A B rep) (line_of_side A B z)) _ _
-      (nothing (eqb (tag_of false inb) n) (strip A B p q rep z) (strips_from n A B p q false fb z (enterA z false) (enterB z inb) zs) (t inb)
-      (ap (λ (f : Bool). strips_from n A B p q false fb z f (enterB z inb) zs) s ∙ outside_first t fb z (enterB z inb) zs))
-      (ap (λ (f : Bool). strips_from n A B p q false fb rep f (enterB z inb) zs) s ∙ outside_first t fb rep (enterB z inb) zs))
+      (nothing (eqb (tag_of false inb) n) (strip A B p q rep z) (strips_from n A B p q false fb z (enter_a z false) (enter_b z inb) zs) (t inb)
+      (ap (λ (f : Bool). strips_from n A B p q false fb z f (enter_b z inb) zs) s ∙ outside_first t fb z (enter_b z inb) zs))
+      (ap (λ (f : Bool). strips_from n A B p q false fb rep f (enter_b z inb) zs) s ∙ outside_first t fb rep (enter_b z inb) zs))
 
   pub first_strips : ((inb : Bool) → eqb (tag_of false inb) n ≡ false) → (fb : Bool) (zs : List ℕ) → strips n A B p q false fb zs ≡ []
   unfolding strips
   first_strips t fb [] = refl
   first_strips t fb (z ∷ zs) =
-      if_there (present_by false fb z) (strips_from n A B p q false fb z (enterA z false) (enterB z false) zs)
-      (λ e. ap (λ (f : Bool). strips_from n A B p q false fb z f (enterB z false) zs) (no_first fb z false e) ∙ outside_first t fb z (enterB z false) zs)
+      if_there (present_by false fb z) (strips_from n A B p q false fb z (enter_a z false) (enter_b z false) zs)
+      (λ e. ap (λ (f : Bool). strips_from n A B p q false fb z f (enter_b z false) zs) (no_first fb z false e) ∙ outside_first t fb z (enter_b z false) zs)

@@ -23,7 +23,7 @@ use Rattle.geometry.specs.declared.Fill.TheVariants.{NoRoom, Written}
 use Rattle.overlay.specs.Overlay.{tag_of}
 use Rattle.trapezoids_code.specs.Tails.{in_front, Borrowed, FilledAs}
 use Rattle.trapezoids_code.proofs.Writing.{tail, Writing, write_start, write_stop, write_full, write_upto, write_turn, fill_nothing}
-use Rattle.columns_code.specs.Order.{line_of_side, present_by, passing, enterA, enterB, strip, strips_from, strips}
+use Rattle.columns_code.specs.Order.{line_of_side, present_by, passing, enter_a, enter_b, strip, strips_from, strips}
 use Rattle.strips_code.proofs.Strips.{strips_none, strips_first, strips_end, strips_above, strips_level}
 
 front : (b : Bool) (t : Trapezoid) (ts : List Trapezoid) → in_front b t ts ≡ in_front b t [] ++ ts
@@ -56,7 +56,7 @@ module _ (tag : ℕ) (A B : Trapezoid) (p q : Base) (fa fb : Bool) where
 
     pub stack_start : present_by fa fb (get_or order 0 0) ≡ true → (ina inb : Bool) → ina ≡ passing 0 1 (get_or order 0 0) false → inb ≡ passing 2 3 (get_or order 0 0) false
         → Stacking (length d) room order d (get_or order 0 0) ina inb 0 1
-    unfolding enterA enterB
+    unfolding enter_a enter_b
     stack_start e ina inb ea eb =
         let s : strips tag A B p q fa fb order ≡ left (get_or order 0 0) ina inb (drop 1 order)
         = ap (strips tag A B p q fa fb) order_first ∙ strips_first tag A B p q fa fb (get_or order 0 0) (drop 1 order) (is_true e) ∙ rw (ea, eb) in
@@ -77,7 +77,7 @@ module _ (tag : ℕ) (A B : Trapezoid) (p q : Base) (fa fb : Bool) where
       pub stack_turn : present_by fa fb (get_or order k 0) ≡ true → (rises : Bool) → rises ≡ below (position p) (line_of_side A B lower) (line_of_side A B (get_or order k 0))
           → left lower ina inb (drop k order)
           ≡ in_front (rises && eqb (tag_of ina inb) tag) (strip A B p q lower (get_or order k 0)) [] ++ left (cond rises (get_or order k 0) lower) (passing 0 1 (get_or order k 0) ina) (passing 2 3 (get_or order k 0) inb) (drop (k + 1) order)
-      unfolding enterA enterB
+      unfolding enter_a enter_b
       stack_turn e true r =
           ap (left lower ina inb) order_next ∙ strips_above tag A B p q fa fb (get_or order k 0) (drop (k + 1) order) lower ina inb (is_true e) (is_true (sym r)) ∙ front (eqb (tag_of ina inb) tag) (strip A B p q lower (get_or order k 0)) (left (get_or order k 0) (passing 0 1 (get_or order k 0) ina) (passing 2 3 (get_or order k 0) inb) (drop (k + 1) order))
       stack_turn e false r =

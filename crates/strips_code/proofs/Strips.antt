@@ -25,7 +25,7 @@ use Rattle.sweep.specs.Segments.{Segment, spans, spanning}
 use Rattle.sweep.specs.Columns.{lower}
 use Rattle.overlay.specs.Overlay.{tag_of, in_range, sides, segment_line, fills, tag_above, stack, parts, tagged}
 use Rattle.trapezoids_code.specs.Tails.{in_front}
-use Rattle.columns_code.specs.Order.{side_numbers, HasSides, line_of_side, present_by, number_less, order_at, passing, enterA, enterB, strip, strips_from, strips}
+use Rattle.columns_code.specs.Order.{side_numbers, HasSides, line_of_side, present_by, number_less, order_at, passing, enter_a, enter_b, strip, strips_from, strips}
 use Rattle.columns_code.proofs.NumberOrder.{has_side, own_below, present_less, less_present, below_less, less_not_below, less_below, first_sides, second_sides, side_line, number_ordered, number_total, order_rising, order_members}
 
 -- x is greater than g; every element is above `none`
@@ -312,7 +312,7 @@ module _ (n : ℕ) (A B : Trapezoid) (p q : Base) (fa fb : Bool) (z : ℕ) (zs :
   unfolding strips
   strips_none h = cond_no (present_by fa fb z) _ [] h
 
-  pub strips_first : T (present_by fa fb z) → strips n A B p q fa fb (z ∷ zs) ≡ strips_from n A B p q fa fb z (enterA z false) (enterB z false) zs
+  pub strips_first : T (present_by fa fb z) → strips n A B p q fa fb (z ∷ zs) ≡ strips_from n A B p q fa fb z (enter_a z false) (enter_b z false) zs
   unfolding strips
   strips_first h = cond_yes (present_by fa fb z) _ [] h
 
@@ -322,12 +322,12 @@ module _ (n : ℕ) (A B : Trapezoid) (p q : Base) (fa fb : Bool) (z : ℕ) (zs :
     strips_end h = cond_no (present_by fa fb z) _ [] h
 
     pub strips_above : T (present_by fa fb z) → T (below (position p) (line_of_side A B rep) (line_of_side A B z))
-        → strips_from n A B p q fa fb rep ina inb (z ∷ zs) ≡ in_front (eqb (tag_of ina inb) n) (strip A B p q rep z) (strips_from n A B p q fa fb z (enterA z ina) (enterB z inb) zs)
+        → strips_from n A B p q fa fb rep ina inb (z ∷ zs) ≡ in_front (eqb (tag_of ina inb) n) (strip A B p q rep z) (strips_from n A B p q fa fb z (enter_a z ina) (enter_b z inb) zs)
     unfolding strips_from
     strips_above h k = cond_yes (present_by fa fb z) _ [] h ∙ cond_yes (below (position p) (line_of_side A B rep) (line_of_side A B z)) _ _ k
 
     pub strips_level : T (present_by fa fb z) → T (not (below (position p) (line_of_side A B rep) (line_of_side A B z)))
-        → strips_from n A B p q fa fb rep ina inb (z ∷ zs) ≡ strips_from n A B p q fa fb rep (enterA z ina) (enterB z inb) zs
+        → strips_from n A B p q fa fb rep ina inb (z ∷ zs) ≡ strips_from n A B p q fa fb rep (enter_a z ina) (enter_b z inb) zs
     unfolding strips_from
     strips_level h k = cond_yes (present_by fa fb z) _ [] h ∙ cond_no (below (position p) (line_of_side A B rep) (line_of_side A B z)) _ _ k
 
@@ -380,9 +380,9 @@ module _ {L : ℕ} {A B : Trapezoid} (ha : FitFor L A) (hb : FitFor L B) (p q : 
       from s ina inb = strips_from n A B p q fa fb s ina inb zs
 
       -- the flags after z
-      entered : (s : ℕ) → from s (enterA z (in_a last)) (enterB z (in_b last)) ≡ from s (in_a z) (in_b z)
+      entered : (s : ℕ) → from s (enter_a z (in_a last)) (enter_b z (in_b last)) ≡ from s (in_a z) (in_b z)
       entered s =
-          unfold enterA enterB in
+          unfold enter_a enter_b in
           ap₂ (from s)
           (passing_next ha hb x fa fb r last z zs h 0 1 (omega arith) (omega arith) bottom_top_A)
           (passing_next ha hb x fa fb r last z zs h 2 3 (omega arith) (omega arith) bottom_top_B)
@@ -437,9 +437,9 @@ module _ {L : ℕ} {A B : Trapezoid} (ha : FitFor L A) (hb : FitFor L B) (p q : 
       outside : (b t : ℕ) → b < 4 → (z ≡ b → ⊥) → false ≡ inside ha hb x fa fb b t z
       outside b t l e = let d : number_less A B x fa fb z b ≡ true = true_is (all_member (λ (y : ℕ). T (number_less A B x fa fb z y)) b zs r.0 (later b l e)) in rw d
 
-      entered : strips_from n A B p q fa fb z (enterA z false) (enterB z false) zs ≡ strips_from n A B p q fa fb z (in_a z) (in_b z) zs
+      entered : strips_from n A B p q fa fb z (enter_a z false) (enter_b z false) zs ≡ strips_from n A B p q fa fb z (in_a z) (in_b z) zs
       entered =
-          unfold enterA enterB in
+          unfold enter_a enter_b in
           ap₂ (λ (ina inb : Bool). strips_from n A B p q fa fb z ina inb zs)
           (passing_is ha hb x fa fb 0 1 z false bottom_top_A (λ e d. outside 0 1 (omega arith) e))
           (passing_is ha hb x fa fb 2 3 z false bottom_top_B (λ e d. outside 2 3 (omega arith) e))
