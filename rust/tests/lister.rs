@@ -118,31 +118,30 @@ fn run_on(input: Stdio) -> Output {
     Command::new(lister()).stdin(input).output().expect("run")
 }
 
-/// Asserts that the program wrote this line on standard error and nothing else.
-fn assert_failed(output: Output, line: &str) {
+/// Asserts that the program wrote on standard error what failed and why, and nothing else, and ended with 1.
+fn assert_failed(output: Output, what: &str, why: &str) {
     assert!(output.stdout.is_empty(), "{output:?}");
-    assert_eq!(String::from_utf8_lossy(&output.stderr), format!("{line}\n"));
-    assert!(output.status.success(), "{output:?}");
+    let text = format!("Error: {what}\n\nCaused by:\n    {why}\n");
+    assert_eq!(String::from_utf8_lossy(&output.stderr), text);
+    assert_eq!(output.status.code(), Some(1), "{output:?}");
 }
 
 /// Input that can't be read is not listed, be it from the start or after a part.
 #[test]
 fn read_errors() {
+    let assert_unread = |output, why| assert_failed(output, "standard input", why);
     let directory = File::open(root()).expect("there");
-    assert_failed(run_on(directory.into()), "standard input: Is a directory");
+    assert_unread(run_on(directory.into()), "Is a directory (os error 21)");
     let path =
         Path::new(env!("CARGO_TARGET_TMPDIR")).join(format!("lister-{}", std::process::id()));
     let no_reader = File::create(&path).expect("made");
-    assert_failed(
-        run_on(no_reader.into()),
-        "standard input: Bad file descriptor",
-    );
+    assert_unread(run_on(no_reader.into()), "Bad file descriptor (os error 9)");
     std::fs::remove_file(path).expect("removed");
     let closed = Command::new("sh")
         .args(["-c", "exec \"$0\" <&-"])
         .arg(lister())
         .output();
-    assert_failed(closed.expect("run"), "standard input: Bad file descriptor");
+    assert_unread(closed.expect("run"), "Bad file descriptor (os error 9)");
 
     // The whole file is there, but not the end of it.
     let plate = file("examples/plate.polygons");
@@ -151,13 +150,13 @@ fn read_errors() {
         writer.write_all(&plate[..bytes]).expect("taken");
         reader.set_nonblocking(true).expect("set");
         let output = run_on(Stdio::from(OwnedFd::from(reader)));
-        assert_failed(output, "standard input: Resource temporarily unavailable");
+        assert_unread(output, "Resource temporarily unavailable (os error 11)");
         drop(writer);
     }
 }
 
-/// A read that fails, and more bytes after it. When they come is a matter of time, so it is tried again
-/// where they came too early or too late.
+/// A read that fails, and more bytes after it, which change nothing. When they come is a matter of time, so it is tried
+/// again where they came before the read failed, and the file was listed.
 #[test]
 fn bytes_after_a_read_error() {
     let plate = file("examples/plate.polygons");
@@ -176,12 +175,32 @@ fn bytes_after_a_read_error() {
             });
             run_on(Stdio::from(OwnedFd::from(reader)))
         });
-        assert!(output.stdout.is_empty(), "{output:?}");
-        if output.stderr == b"standard input: not read to its end\n" {
+        if !output.status.success() {
+            let why = "Resource temporarily unavailable (os error 11)";
+            assert_failed(output, "standard input", why);
             return;
         }
     }
     panic!("never in time");
+}
+
+/// A listing that can't be written.
+#[test]
+fn write_errors() {
+    let full = File::options()
+        .write(true)
+        .open("/dev/full")
+        .expect("there");
+    let plate = File::open(root().join("examples/plate.polygons")).expect("there");
+    let output = Command::new(lister())
+        .stdin(plate)
+        .stdout(full)
+        .stderr(Stdio::piped())
+        .spawn()
+        .expect("run")
+        .wait_with_output();
+    let why = "No space left on device (os error 28)";
+    assert_failed(output.expect("ended"), "standard output", why);
 }
 
 /// Lengths about the longest file and its multiples, with a count of 0, with a fit file at the start,
