@@ -118,6 +118,7 @@ fn both_checked(limit: u32, a: &[i32], b: &[i32]) -> Checked
 }
 
 // The rows of `fracture`, or of `fracture_first_edition`, for a source layer.
+#[tactic(auto, using(crate::proofs::Fracturing::fracture_lengths, crate::proofs::Fracturing::fracture_layer, crate::proofs::Fracturing::fracture_rows))]
 pub fn fracture_checked(
     edition: Edition,
     limit: u32,
