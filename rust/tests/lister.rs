@@ -180,6 +180,7 @@ fn bytes_after_a_read_error() {
             assert_failed(output, "standard input", why);
             return;
         }
+        assert_eq!(output.stdout, file("examples/plate.listing"));
     }
     panic!("never in time");
 }

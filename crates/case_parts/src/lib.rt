@@ -1,4 +1,5 @@
 // Parts of the programs `cases` and `layer_cases`: the lines that they print, polygon files of staircases, and layers of squares.
+// What prints answers the error of the first write that failed, and no other; what was printed before it stays, and nothing is lent to it to be changed.
 #![tactic(auto)]
 
 ghost use Rattle.std.specs.Prelude.{◌≡◌, ◌<◌, ◌≤◌, ◌↔◌, IsTrue, All, length, take};

@@ -1,6 +1,7 @@
 // The limits on files, through the public functions of `loxurfa_files`: 2, 3, 32, 33 vertices and 64, 65 polygons in a
 // polygon file, source layers 31 and 32, 512, 513 trapezoids in a layer file. Each case has its answer, which stands in the file `stdout`,
 // and the reason.
+// A write that fails ends the program with its error, and no other error comes; the words and bytes of a case are then as the calls wrote them.
 #![tactic(auto)]
 
 ghost use Rattle.std.specs.Prelude.{◌≤◌};

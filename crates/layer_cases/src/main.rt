@@ -1,5 +1,6 @@
 // The limit on layers, through the public functions of `loxurfa` and `loxurfa_shapes`: 512 and 513 trapezoids; and lent sets
 // of source layers, which may have any bits. Each case has its answer, which stands in the file `stdout`, and the reason.
+// A write that fails ends the program with its error, and no other error comes; the words and bytes of a case are then as the calls wrote them.
 #![tactic(auto)]
 
 ghost use Rattle.std.specs.Prelude.{◌≡◌, length};

@@ -1,8 +1,8 @@
 // Lists a polygon file: reads it on standard input, fractures it, deoverlaps the trapezoids, and prints them on standard output.
 #![tactic(auto)]
 
-ghost use Rattle.std.specs.Prelude.{◌≡◌, ◌≤◌, length, take, IfOk, IfSome, OnOk};
-ghost use Rattle.std.specs.Io.KnownBytes.{Appends};
+ghost use Rattle.std.specs.Prelude.{◌≡◌, ◌<◌, ◌≤◌, ℕ, length, take, IfOk, OnOk, OnErr};
+ghost use Rattle.std.specs.Io.KnownBytes.{Appends, Consumes, IsAtEnd};
 ghost use Rattle.records.specs.Limits.{max_words};
 ghost use Rattle.listing.specs.Listing.{listing_room};
 ghost use Rattle.listing.specs.Lister.{deoverlap_listed, listed};
@@ -10,12 +10,11 @@ ghost use Rattle.lister.specs.Code.{Put};
 
 use anyhow::{Context, Result};
 use calls::{Deoverlapped, Fractured};
-use std::alloc::Global;
 use std::io;
 use std::io::{Read, Write};
 
 // How much of the input is read: a file of more than 65,532 bytes is refused, whatever follows.
-const ENOUGH_BYTES: u64 = 65536;
+const ENOUGH_BYTES: usize = 65536;
 
 // The text for a layer, deoverlapped into `out`, at the start of `text`. The answer is its length.
 fn list_layer(layer: &[i32], out: &mut [i32], scratch: &mut [i32], text: &mut [u8]) -> usize
@@ -56,16 +55,26 @@ fn list_file(
     }
 }
 
-// The first bytes of the input, or all where it has no more. Input that cannot be read so far is an error.
-fn read_file<R: Read + Drop>(alloc: Global, input: R) -> io::Result<Vec<u8>>
-    ensures { IfOk result (λ file. IfSome (R.remaining input) (λ bytes. file.items ≡ take 65536 bytes)) }
+// Reads until `file` is full or the input ends. The answer is how many bytes came. An error is that of the read that failed; what came before it stands
+// at the start of `file`.
+fn read_file<R: Read>(input: &mut R, file: &mut [u8]) -> io::Result<usize>
+    ensures within { IfOk result (λ n. n ≤ length file.new) }
+    ensures came { IfOk result (λ n. Consumes (R.remaining input.old) (R.remaining input.new) (take n file.new)) }
+    ensures end { IfOk result (λ n. n < length file.new → IsAtEnd (R.remaining input.new)) }
+    ensures err { OnErr result ((k : ℕ) × (k ≤ length file.new) × Consumes (R.remaining input.old) (R.remaining input.new) (take k file.new)) }
 {
-    let mut file = Vec::new(alloc);
-    input.take(ENOUGH_BYTES).read_to_end(&mut file)?;
-    Ok(file)
+    let mut at = 0;
+    while at < file.len() {
+        let n = input.read(&mut file[at..])?;
+        if n == 0 {
+            return Ok(at);
+        }
+        at += n;
+    }
+    Ok(at)
 }
 
-// The text for the bytes of a polygon file, written to `output`.
+// The text for the bytes of a polygon file, written to `output`. An error is that of the write that failed; how much of the text is written then is not told.
 fn print_listing<W: Write>(file: &[u8], output: &mut W) -> io::Result<()>
     ensures { OnOk result (Appends (W.contents output.old) (W.contents output.new) (listed file.now)) }
 {
@@ -78,6 +87,7 @@ fn print_listing<W: Write>(file: &[u8], output: &mut W) -> io::Result<()>
 }
 
 fn main(rt: HostRuntime) -> Result<()> {
-    let file = read_file(rt.alloc(), rt.reader()).context("standard input")?;
-    print_listing(&file, &mut io::writer(&rt)).context("standard output")
+    let mut file = [0u8; ENOUGH_BYTES];
+    let n = read_file(&mut rt.reader(), &mut file).context("standard input")?;
+    print_listing(&file[..n], &mut io::writer(&rt)).context("standard output")
 }
