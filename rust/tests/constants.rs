@@ -194,7 +194,7 @@ fn refusals() -> Vec<(&'static str, i64, i64)> {
     let grid = between(fitness, "pass (all (line_on_grid L) (lines_of t)) ", " ");
     assert_eq!(
         grid,
-        between(files, "grid_row false i below = Refused ", " i")
+        between(files, "grid_row false i below = refused_by ", " i")
     );
     let space = between(outcomes, "answer = refused ", " 0;");
     assert_eq!(
@@ -205,10 +205,10 @@ fn refusals() -> Vec<(&'static str, i64, i64)> {
             " 0;"
         )
     );
-    let pair = between(directory, "after_pair Outside i rest = Wrong ", " i");
+    let pair = between(directory, "after_pair None i rest = wrong_by ", " i");
     assert_eq!(
         pair,
-        between(directory, "at_end false n total = Wrong ", " n")
+        between(directory, "at_end false n total = wrong_by ", " n")
     );
     vec![
         (
@@ -228,12 +228,12 @@ fn refusals() -> Vec<(&'static str, i64, i64)> {
         ),
         (
             "FILE",
-            between(files, "size_row false below = Refused ", " 0"),
+            between(files, "size_row false below = refused_by ", " 0"),
             refused::FILE.into(),
         ),
         (
             "COUNT",
-            between(directory, "directory_by f ws Outside = Wrong ", " 0"),
+            between(directory, "directory_by f ws None = wrong_by ", " 0"),
             refused::COUNT.into(),
         ),
         ("PAIR", pair, refused::PAIR.into()),
@@ -261,7 +261,7 @@ fn refusals() -> Vec<(&'static str, i64, i64)> {
         ("SPACE", space, refused::SPACE.into()),
         (
             "OVERLAP",
-            between(overlaps, "refuse_overlap true i c = Refused ", " i"),
+            between(overlaps, "refuse_overlap true i c = refused_by ", " i"),
             refused::OVERLAP.into(),
         ),
         (
@@ -361,7 +361,7 @@ fn functions() {
     let limit = named["PLATE_LIMIT"];
     assert_eq!(constant(calls, "PLATE_LIMIT: u32"), limit);
     let directory = "crates/directory_code/src/lib.rt";
-    let bytes = between(directory, "return n <= ", ";");
+    let bytes = between(directory, "4 <= n && n <= ", "\n");
     assert_eq!(bytes, named["MAX_FILE_BYTES"]);
     let rows = "crates/rows_code/src/lib.rt";
     assert_eq!(constant(rows, "CODES: u32"), codes().len() as i64);

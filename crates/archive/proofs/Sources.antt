@@ -10,7 +10,6 @@ use lib.ListN.{length, take, get_or}
 use Rattle.lists.specs.Lists.{All, Any, At}
 use Rattle.lists.proofs.Tests.{same_test}
 use Rattle.geometry.specs.declared.Trapezoid.{Trapezoid}
-use Rattle.geometry.specs.declared.Checked.TheVariants.{Passed}
 use Rattle.geometry.specs.Points.{Point, IsPoint}
 use Rattle.geometry.specs.Trapezoids.{trapezoid_codec, layer_of, LiesInLayer, lies_in_layer}
 use Rattle.geometry.proofs.Layers.{lies_in-layer_exact}
@@ -38,6 +37,7 @@ use Rattle.chains.specs.Statements.{DisjointLayer}
 use Rattle.archive.specs.Calls.{FractureCall, FractureAccepted, fractured_by, DeoverlapCall, deoverlapped_by, ReadCall, words_by}
 use Rattle.archive.specs.Archive.{Source, polygons, disjoint_polygons, archived, layer_from, file_layer_at, BothAccepted, LayerAccepted, Accepted, DisjointSource, Sent, sent}
 use Rattle.archive.proofs.Points.{sent_exact}
+use Rattle.std.specs.Prelude.{Ok}
 
 -- ---- a polygon file, fractured, and then deoverlapped
 -- what holds of the layer that the definition gives, where it gives one, holds of the layer that an accepted call wrote
@@ -76,7 +76,7 @@ module _ (r : ReadCall) (n : ℕ) (h : LayerAccepted r n) where
   read_are : words_read r.limit r.file r.out ≡ memory_words (file_words r.file)
   read_are = let p = read_passed r.limit r.file r.out read_done in read_words r.limit r.file r.out p.0 p.1
 
-  checked : layers_checked r.limit layer_file file_codec (file_words r.file) ≡ Passed
+  checked : layers_checked r.limit layer_file file_codec (file_words r.file) ≡ Ok tt
   checked = (file_passes r.limit r.file (read_passed r.limit r.file r.out read_done).0).1
 
   layers_are : layers_of (words_read r.limit r.file r.out) ≡ file_layers_of (file_words r.file)

@@ -1,28 +1,28 @@
 -- Sets written over those of the trapezoids that a fold has written.
-use Rattle.std.specs.Prelude.{◌≡◌, List, [], ◌∷◌, ℕ, ◌*◌, ◌≤◌, length, ℤ}
+use Rattle.std.specs.Prelude.{◌≡◌, List, [], ◌∷◌, ℕ, ◌*◌, ◌≤◌, length, ℤ, Result, Ok, Err}
 use Rattle.records.specs.Limits.{memory_width}
 use Rattle.records.specs.Records.{records_from, image}
 use Rattle.geometry.specs.declared.Trapezoid.{Trapezoid}
 use Rattle.sources.specs.Sourced.{Sourced, sourced_codec, bearing}
 use Rattle.boolean.specs.declared.Folded.{Folded}
-use Rattle.boolean.specs.declared.Folded.TheVariants.{NoRoom, Done}
 use Rattle.boolean.specs.Operations.{minus_all}
 use Rattle.boolean.specs.Space.{Stage, one_stages}
+use Rattle.boolean.specs.declared.NoRoom.{NoRoom}
 use Rattle.sources_code.specs.Code.{with_sources}
 use Rattle.remainder_code.specs.Code.{FoldedBy}
 
 -- what a fold has written fits into n words
-abbrev pub Fits : Folded → ℕ → Type 0
-Fits (NoRoom overlays) n = Unit {0}
-Fits (Done trapezoids overlays) n = memory_width * trapezoids ≤ n
+abbrev pub Fits : Result Folded NoRoom → ℕ → Type 0
+Fits (Err r) n = Unit {0}
+Fits (Ok f) n = memory_width * f.trapezoids ≤ n
 
 -- the words d with z as the set of each trapezoid that a fold has written
-abbrev pub borne : Folded → ℤ → List ℤ → List ℤ
-borne (NoRoom overlays) z d = d
-borne (Done trapezoids overlays) z d = with_sources z trapezoids d
+abbrev pub borne : Result Folded NoRoom → ℤ → List ℤ → List ℤ
+borne (Err r) z d = d
+borne (Ok f) z d = with_sources z f.trapezoids d
 
 -- of a tail of n words: it holds trapezoids with their sets, the result of a fold with these stages
-abbrev pub SourcedAs : ℕ → ℕ → List Sourced → List Stage → Folded → List ℤ → Type 0
+abbrev pub SourcedAs : ℕ → ℕ → List Sourced → List Stage → Result Folded NoRoom → List ℤ → Type 0
 SourcedAs n room rs ms r d = FoldedBy sourced_codec n room rs ms r d
 
 -- the first n trapezoids of a buffer, with their sets
@@ -36,5 +36,5 @@ pub record Holding (d : List ℤ) (n room : ℕ) : Type 0 where
   pub wide : memory_width * room ≤ length d
 
 -- one trapezoid a with the set z minus all of bs and added, written into a tail that was d₀
-abbrev pub OneBearing : List ℤ → ℕ → ℤ → Trapezoid → List Trapezoid → Folded → List ℤ → Type 0
+abbrev pub OneBearing : List ℤ → ℕ → ℤ → Trapezoid → List Trapezoid → Result Folded NoRoom → List ℤ → Type 0
 OneBearing d₀ room z a bs r d = SourcedAs (length d₀) room (bearing z (minus_all (a ∷ []) bs)) (one_stages 0 a bs) r d

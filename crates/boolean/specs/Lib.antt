@@ -4,3 +4,4 @@ pub mod Space
 pub mod Counts
 pub mod Statements
 pub mod Sources
+pub mod Folds

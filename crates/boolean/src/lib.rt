@@ -1,11 +1,17 @@
 // What folds over layers of trapezoids answer.
 #![tactic(auto)]
 
-// What a fold answers: there was no room, after so many overlays; or how many trapezoids it wrote, and the number of overlays.
+// What a fold did, where there was room: how many trapezoids it wrote, and the number of overlays that it made.
 #[derive(Clone, Copy)]
-pub enum Folded {
-    NoRoom(usize),
-    Done { trapezoids: usize, overlays: usize },
+pub struct Folded {
+    pub trapezoids: usize,
+    pub overlays: usize,
+}
+
+// A fold for whose result there was no room: the number of overlays that it had made by then.
+#[derive(Clone, Copy)]
+pub struct NoRoom {
+    pub overlays: usize,
 }
 
 // What the equality test answers: there was no room; no trapezoid is left of either difference; or some are left of the one

@@ -1,4 +1,5 @@
 -- The operations put together from differences: what an answer about one part says of the whole.
+use Rattle.std.specs.Prelude.{Result, Ok, Err}
 use mathlib.Core.Path.{◌≡◌, refl, sym, ◌∙◌, ap, subst}
 use mathlib.Core.List.{List, ◌∷◌, ◌++◌}
 use Prim.Native.Nat.{ℕ, ◌*◌, ◌-◌, ◌<◌, ◌≤◌}
@@ -17,35 +18,36 @@ use Rattle.geometry.specs.Trapezoids.{trapezoid_codec, layer_of}
 use Rattle.sources.specs.Sourced.{Sourced, sourced_codec, sourced_of}
 use Rattle.sources.proofs.Sourced.{sourced_faithful, shapes_of}
 use Rattle.boolean.specs.declared.Folded.{Folded}
-use Rattle.boolean.specs.declared.Folded.TheVariants.{NoRoom, Done}
 use Rattle.boolean.specs.Operations.{difference, Code, union, intersect, a_minus_b, b_minus_a, symmetric_difference, code_at}
 use Rattle.boolean.specs.Sources.{sourced_difference, sourced_intersection, sourced_result}
 use Rattle.boolean.specs.Space.{Stage, addition, no_room, plus, space, difference_stages, stages}
 use Rattle.boolean.proofs.Space.{plus_none, space_enough, space_no_room}
+use Rattle.boolean.specs.declared.NoRoom.{NoRoom}
+use Rattle.boolean.specs.Folds.{folded, no_room_after}
 use Rattle.trapezoids_code.specs.Tails.{Borrowed}
 use Rattle.remainder_code.specs.Code.{with_overlays}
 use Rattle.bearing_code.specs.Code.{SourcedAs, standing, Holding}
-use Rattle.bearing_code.proofs.Bearing.{filled_standing, sourced_known}
+use Rattle.bearing_code.proofs.Bearing.{filled_standing}
 use Rattle.difference_code.proofs.Folds.{difference-count}
 
 -- ---- after what a success has left
-module _ (n room : ℕ) (ts : List Sourced) (ms : List Stage) (p c : ℕ) (t : List ℤ) (g : SourcedAs n room ts ms (Done p c) t) (long : length t ≡ n) (wide : memory_width * room ≤ n) where
+module _ (n room : ℕ) (ts : List Sourced) (ms : List Stage) (p c : ℕ) (t : List ℤ) (g : SourcedAs n room ts ms (folded p c) t) (long : length t ≡ n) (wide : memory_width * room ≤ n) where
   pub holding_done : Holding t p room
   holding_done =
       let d = filled_standing n room ts p t g.1 in
       record { is = g.1.2 ∙ (λ j. image sourced_codec (sym long j) (sym d j)); within = omega (arith, g.1.0, g.1.1); wide = omega (arith, long, wide) }
 
   -- `us` with the stages `ns p` follow
-  pub folded_after : (us : List Sourced) (ns : ℕ → List Stage) (r : Folded) (v : List ℤ) → SourcedAs (length t) room (standing t p ++ us) (ns p) r v → SourcedAs n room (ts ++ us) (ms ++ ns (length ts)) (with_overlays c r) v
+  pub folded_after : (us : List Sourced) (ns : ℕ → List Stage) (r : Result Folded NoRoom) (v : List ℤ) → SourcedAs (length t) room (standing t p ++ us) (ns p) r v → SourcedAs n room (ts ++ us) (ms ++ ns (length ts)) (with_overlays c r) v
   folded_after us ns r v h =
       let d = filled_standing n room ts p t g.1 in
       let a = subst (λ (x : List Sourced). SourcedAs (length t) room (x ++ us) (ns p) r v) d h in
       let b = subst (λ (x : ℕ). SourcedAs (length t) room (ts ++ us) (ns x) r v) g.1.0 a in
       go r (subst (λ (x : ℕ). SourcedAs x room (ts ++ us) (ns (length ts)) r v) long b)
     where
-      go : (r : Folded) → SourcedAs n room (ts ++ us) (ns (length ts)) r v → SourcedAs n room (ts ++ us) (ms ++ ns (length ts)) (with_overlays c r) v
-      go (NoRoom k) x = (space_enough room c ms (ns (length ts)) g.0 ∙ ap (plus c) x.0, x.1)
-      go (Done q k) x = (space_enough room c ms (ns (length ts)) g.0 ∙ ap (plus c) x.0, x.1)
+      go : (r : Result Folded NoRoom) → SourcedAs n room (ts ++ us) (ns (length ts)) r v → SourcedAs n room (ts ++ us) (ms ++ ns (length ts)) (with_overlays c r) v
+      go (Err q) x = (space_enough room c ms (ns (length ts)) g.0 ∙ ap (plus c) x.0, x.1)
+      go (Ok q) x = (space_enough room c ms (ns (length ts)) g.0 ∙ ap (plus c) x.0, x.1)
 
 -- ---- after a layer that was copied
 add_over : (room k : ℕ) (ms : List Stage) → room < k → space room (addition k ∷ ms) ≡ no_room 0
@@ -67,7 +69,7 @@ module _ (first d : List ℤ) (room : ℕ) (h : Borrowed d room) where
   length_A = length_from sourced_codec n first 0
 
   pub copied_no_room : (ts : List Sourced) (ns : ℕ → List Stage) → room < count trapezoid_codec first
-      → SourcedAs (length d) room ts (addition (length (layer_of first)) ∷ ns (length (layer_of first))) (NoRoom 0) d
+      → SourcedAs (length d) room ts (addition (length (layer_of first)) ∷ ns (length (layer_of first))) (no_room_after 0) d
   copied_no_room ts ns l = (add_over room (length (layer_of first)) (ns (length (layer_of first))) (omega (arith, l, length_from trapezoid_codec n first 0)), h.blank)
 
   module _ (fits : count trapezoid_codec first ≤ room) (t : List ℤ) (is : t ≡ take (memory_width * count trapezoid_codec first) first ++ drop (memory_width * count trapezoid_codec first) d) where
@@ -94,7 +96,7 @@ module _ (first d : List ℤ) (room : ℕ) (h : Borrowed d room) where
     pub copied_holding : Holding t (count trapezoid_codec first) room
     copied_holding = record { is = laid ∙ (λ j. image sourced_codec (sym copied_long j) (sym copied_standing j)); within = fits; wide = omega (arith, copied_long, h.wide) }
 
-    pub copied_folded : (us : List Sourced) (ns : ℕ → List Stage) (r : Folded) (v : List ℤ) → SourcedAs (length t) room (standing t (count trapezoid_codec first) ++ us) (ns (count trapezoid_codec first)) r v
+    pub copied_folded : (us : List Sourced) (ns : ℕ → List Stage) (r : Result Folded NoRoom) (v : List ℤ) → SourcedAs (length t) room (standing t (count trapezoid_codec first) ++ us) (ns (count trapezoid_codec first)) r v
         → SourcedAs (length d) room (sourced_of first ++ us) (addition (length (layer_of first)) ∷ ns (length (layer_of first))) r v
     copied_folded us ns r v g =
         let a = subst (λ (x : List Sourced). SourcedAs (length t) room (x ++ us) (ns n) r v) copied_standing g in
@@ -107,9 +109,9 @@ module _ (first d : List ℤ) (room : ℕ) (h : Borrowed d room) where
         e : space room (addition (length (layer_of first)) ∷ ns (length (layer_of first))) ≡ space room (ns (length (layer_of first)))
         e = add_next room (length (layer_of first)) (ns (length (layer_of first))) (omega (arith, m, fits))
 
-        go : (r : Folded) → SourcedAs (length d) room (A ++ us) (ns (length (layer_of first))) r v → SourcedAs (length d) room (A ++ us) (addition (length (layer_of first)) ∷ ns (length (layer_of first))) r v
-        go (NoRoom k) x = (e ∙ x.0, x.1)
-        go (Done q k) x = (e ∙ x.0, x.1)
+        go : (r : Result Folded NoRoom) → SourcedAs (length d) room (A ++ us) (ns (length (layer_of first))) r v → SourcedAs (length d) room (A ++ us) (addition (length (layer_of first)) ∷ ns (length (layer_of first))) r v
+        go (Err q) x = (e ∙ x.0, x.1)
+        go (Ok q) x = (e ∙ x.0, x.1)
 
 -- ---- both differences in a row
 -- the first layer minus the second, and so many trapezoids
@@ -120,19 +122,17 @@ abbrev stages_after : ℕ → List ℤ → List ℤ → List Stage
 stages_after n a b = difference_stages 0 (layer_of a) (layer_of b) ++ difference_stages n (layer_of b) (layer_of a)
 
 -- they are counted without their sets
-pub symmetric_counted : (n room : ℕ) (a b : List ℤ) (r : Folded) (d : List ℤ) → SourcedAs n room (minus_of a b ++ minus_of b a) (stages_after (length (minus_of a b)) a b) r d
+pub symmetric_counted : (n room : ℕ) (a b : List ℤ) (r : Result Folded NoRoom) (d : List ℤ) → SourcedAs n room (minus_of a b ++ minus_of b a) (stages_after (length (minus_of a b)) a b) r d
     → SourcedAs n room (minus_of a b ++ minus_of b a) (stages_after (length (difference (layer_of a) (layer_of b))) a b) r d
 symmetric_counted n room a b r d g = subst (λ (k : ℕ). SourcedAs n room (minus_of a b ++ minus_of b a) (stages_after k a b) r d) (difference-count a (layer_of b)) g
 
 -- the first had no room
-pub symmetric_no_room : (room : ℕ) (a b : List ℤ) (n : ℕ) (d : List ℤ) (f : Folded) (c : ℕ) → f ≡ NoRoom c → SourcedAs n room (minus_of a b) (difference_stages 0 (layer_of a) (layer_of b)) f d
-    → SourcedAs n room (minus_of a b ++ minus_of b a) (stages_after (length (difference (layer_of a) (layer_of b))) a b) f d
-symmetric_no_room room a b n d f c e g =
+pub symmetric_no_room : (room : ℕ) (a b : List ℤ) (n : ℕ) (d : List ℤ) (c : ℕ) → SourcedAs n room (minus_of a b) (difference_stages 0 (layer_of a) (layer_of b)) (no_room_after c) d
+    → SourcedAs n room (minus_of a b ++ minus_of b a) (stages_after (length (difference (layer_of a) (layer_of b))) a b) (no_room_after c) d
+symmetric_no_room room a b n d c g =
     let A = layer_of a in
     let B = layer_of b in
-    let h = sourced_known n room (minus_of a b) (difference_stages 0 A B) f (NoRoom c) d e g in
-    subst (λ (x : Folded). SourcedAs n room (minus_of a b ++ minus_of b a) (stages_after (length (difference A B)) a b) x d) (sym e)
-    (space_no_room room c (difference_stages 0 A B) (difference_stages (length (difference A B)) B A) h.0, h.1)
+    (space_no_room room c (difference_stages 0 A B) (difference_stages (length (difference A B)) B A) g.0, g.1)
 
 -- ---- by the code's number
 -- a result of two layers' words, the trapezoids without sets read off the words
@@ -150,11 +150,11 @@ result_is a_minus_b a b = ap (sourced_difference (sourced_of a)) (sym (shapes_of
 result_is b_minus_a a b = ap (sourced_difference (sourced_of b)) (sym (shapes_of a))
 result_is symmetric_difference a b = let p = sym (shapes_of a) in let q = sym (shapes_of b) in (λ j. sourced_difference (sourced_of a) (q j) ++ sourced_difference (sourced_of b) (p j))
 
-pub result_folded : (c : Code) (n room : ℕ) (a b : List ℤ) (r : Folded) (d : List ℤ) → SourcedAs n room (result_of c a b) (stages c (layer_of a) (layer_of b)) r d
+pub result_folded : (c : Code) (n room : ℕ) (a b : List ℤ) (r : Result Folded NoRoom) (d : List ℤ) → SourcedAs n room (result_of c a b) (stages c (layer_of a) (layer_of b)) r d
     → SourcedAs n room (sourced_result c (sourced_of a) (sourced_of b)) (stages c (layer_of a) (layer_of b)) r d
 result_folded c n room a b r d g = subst (λ (rs : List Sourced). SourcedAs n room rs (stages c (layer_of a) (layer_of b)) r d) (result_is c a b) g
 
-pub code_folded : (code : ℕ) (c : Code) → code_at code ≡ c → (n room : ℕ) (a b : List ℤ) (r : Folded) (d : List ℤ)
+pub code_folded : (code : ℕ) (c : Code) → code_at code ≡ c → (n room : ℕ) (a b : List ℤ) (r : Result Folded NoRoom) (d : List ℤ)
     → SourcedAs n room (sourced_result c (sourced_of a) (sourced_of b)) (stages c (layer_of a) (layer_of b)) r d
     → SourcedAs n room (sourced_result (code_at code) (sourced_of a) (sourced_of b)) (stages (code_at code) (layer_of a) (layer_of b)) r d
 code_folded code c e n room a b r d g = subst (λ (x : Code). SourcedAs n room (sourced_result x (sourced_of a) (sourced_of b)) (stages x (layer_of a) (layer_of b)) r d) (sym e) g

@@ -10,7 +10,7 @@ ghost use Rattle.boxes_code.specs.Code.{BoxedLayer};
 ghost use Rattle.remainder_code.specs.Code.{overlays_of_layer, max_overlays, OverlaysWithin, ScratchFor};
 ghost use Rattle.boolean_code.specs.Code.{ResultWritten};
 
-use boolean::Folded;
+use boolean::{Folded, NoRoom};
 
 // The first layer, and then the second minus the first.
 fn union_into(
@@ -21,7 +21,7 @@ fn union_into(
     out: &mut [i32],
     scratch: &mut [i32],
     room: usize,
-) -> Folded
+) -> Result<Folded, NoRoom>
     requires boxed_layer { BoxedLayer first.now first_boxes.now × BoxedLayer second.now second_boxes.now }
     requires borrowed { Borrowed out.old room × (room ≤ max_records) }
     requires scratch_for { ScratchFor out.old scratch.old }
@@ -31,10 +31,10 @@ fn union_into(
 {
     let n = first.len() / records::MEMORY_WIDTH;
     if room < n {
-        return Folded::NoRoom(0);
+        return Err(NoRoom { overlays: 0 });
     }
     let end = records::MEMORY_WIDTH * n;
-    records_code::copy(&first[..end], &mut out[..end]);
+    out[..end].copy_from_slice(&first[..end]);
     difference_code::difference_into(
         n,
         second,
@@ -56,7 +56,7 @@ fn symmetric_difference_into(
     out: &mut [i32],
     scratch: &mut [i32],
     room: usize,
-) -> Folded
+) -> Result<Folded, NoRoom>
     requires boxed_layer { BoxedLayer first.now first_boxes.now × BoxedLayer second.now second_boxes.now }
     requires borrowed { Borrowed out.old room × (room ≤ max_records) }
     requires scratch_for { ScratchFor out.old scratch.old }
@@ -73,16 +73,9 @@ fn symmetric_difference_into(
         out,
         scratch,
         room,
-    );
-    let Folded::Done {
-        trapezoids: n,
-        overlays: made,
-    } = f
-    else {
-        return f;
-    };
+    )?;
     let g = difference_code::difference_into(
-        n,
+        f.trapezoids,
         second,
         second_boxes,
         first,
@@ -91,7 +84,7 @@ fn symmetric_difference_into(
         scratch,
         room,
     );
-    remainder_code::more_overlays(made, g)
+    remainder_code::more_overlays(f.overlays, g)
 }
 
 // The set operation with the code's number, by the boxes of both layers.
@@ -104,7 +97,7 @@ pub fn combine_boxed(
     out: &mut [i32],
     scratch: &mut [i32],
     room: usize,
-) -> Folded
+) -> Result<Folded, NoRoom>
     requires code_bound { (code < 5) × BoxedLayer first.now first_boxes.now × BoxedLayer second.now second_boxes.now }
     requires borrowed { Borrowed out.old room × (room ≤ max_records) }
     requires scratch_for { ScratchFor out.old scratch.old }
@@ -112,21 +105,17 @@ pub fn combine_boxed(
     ensures overlays_within { OverlaysWithin max_overlays result }
     ensures blank { Blank (pos 0) scratch.new }
 {
-    if code == 0 {
-        return union_into(first, first_boxes, second, second_boxes, out, scratch, room);
-    }
-    if code == 1 {
-        return intersection_code::intersection_into(
+    match code {
+        0 => union_into(first, first_boxes, second, second_boxes, out, scratch, room),
+        1 => intersection_code::intersection_into(
             first,
             first_boxes,
             second,
             second_boxes,
             out,
             room,
-        );
-    }
-    if code == 2 {
-        return difference_code::difference_into(
+        ),
+        2 => difference_code::difference_into(
             0,
             first,
             first_boxes,
@@ -135,10 +124,8 @@ pub fn combine_boxed(
             out,
             scratch,
             room,
-        );
-    }
-    if code == 3 {
-        return difference_code::difference_into(
+        ),
+        3 => difference_code::difference_into(
             0,
             second,
             second_boxes,
@@ -147,7 +134,15 @@ pub fn combine_boxed(
             out,
             scratch,
             room,
-        );
+        ),
+        _ => symmetric_difference_into(
+            first,
+            first_boxes,
+            second,
+            second_boxes,
+            out,
+            scratch,
+            room,
+        ),
     }
-    symmetric_difference_into(first, first_boxes, second, second_boxes, out, scratch, room)
 }

@@ -3,5 +3,6 @@ pub mod Magnitudes
 pub mod Branches
 pub mod Slices
 pub mod Layers
+pub mod BoxedLayers
 pub mod Skipping
 pub mod Small

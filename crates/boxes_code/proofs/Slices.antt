@@ -3,12 +3,12 @@ use mathlib.Core.Path.{◌≡◌, refl, sym, ◌∙◌, ap, subst, ap₂}
 use mathlib.Core.Bool.{Bool, true, false}
 use lib.Dec.{ltb, ltb→lt, nltb→le}
 use Rattle.lists.proofs.Tests.{is_true, is_false}
-use mathlib.Core.List.{List, [], ◌∷◌}
-use Prim.Native.Nat.{ℕ, zero, suc, ◌+◌, ◌*◌, ◌<◌, ◌≤◌}
+use mathlib.Core.List.{List}
+use Prim.Native.Nat.{ℕ, ◌+◌, ◌*◌, ◌<◌, ◌≤◌}
 use native.Mathlib.Numerals.{add-one, add-two, add-three}
 use native.Mathlib.Omega.{arith}
-use lib.ListN.{length, get_or, set, length-set}
-use lib.Seq.{sets, get_or-set_same, get_or-set_other, length-sets}
+use lib.ListN.{length, get_or, set}
+use lib.Seq.{sets, length-sets}
 use lib.IntN.{ℤ, pos}
 use Rattle.lists.proofs.Sets.{sets_before, sets_at}
 use Rattle.records.specs.Records.{record_at, count}

@@ -1,13 +1,18 @@
 -- What the functions require, and boxes in a slice, four words each.
-use Rattle.std.specs.Prelude.{◌≡◌, Bool, true, false, ◌&&◌, List, [], ◌∷◌, ℕ, ◌+◌, ◌*◌, ◌<◌, ◌≤◌, leb, length, get_or, ℤ, pos, nat_abs, ◌<ℤ◌}
+use Rattle.std.specs.Prelude.{cond, ◌≡◌, Bool, true, false, ◌&&◌, List, [], ◌∷◌, ℕ, ◌+◌, ◌*◌, ◌<◌, ◌≤◌, leb, length, get_or, ℤ, pos, nat_abs, ◌<ℤ◌}
+use Rattle.std.specs.Int.Signed.{lt_z}
+use Rattle.integer.specs.Integer.{◌⊕◌, ◌⊗◌}
 use Rattle.records.specs.Limits.{memory_width}
 use Rattle.records.specs.Records.{record_at, count}
+use Rattle.geometry.specs.declared.Line.{Line}
 use Rattle.geometry.specs.declared.Coefficients.{Coefficients}
 use Rattle.geometry.specs.declared.Placed.{Placed}
+use Rattle.geometry.specs.Limit.{on_grid}
+use Rattle.geometry.specs.Lines.{dx, dy, offset}
 use Rattle.geometry.specs.Fitness.{FitLayer}
 use Rattle.geometry.specs.Trapezoids.{trapezoid_codec}
 use Rattle.boxes.specs.declared.Box.{Box}
-use Rattle.boxes.specs.Boxes.{largest_limit, int, box_of}
+use Rattle.boxes.specs.Boxes.{largest_limit, near, int, box_of}
 use Rattle.trapezoids_code.specs.Placed.{PlacedAs}
 
 -- a line's three numbers, as a height at a whole position takes them
@@ -15,6 +20,13 @@ pub record Sizes (k : Coefficients) : Type 0 where
   pub rightward : pos 0 <ℤ k.dx.v
   pub dy_small : nat_abs k.dy.v ≤ 2 * largest_limit
   pub offset_small : nat_abs k.offset.v ≤ 2 * (largest_limit * largest_limit)
+
+-- a line's height by a rounding of fractions, at one whole position if it falls and else at the other; far out, `far`
+abbrev pub end_height : (ℤ → ℤ → ℤ) → ℤ → Line → ℤ → ℤ → ℤ
+end_height round far l falling other = height_at (cond (lt_z (dy l) (pos 0)) falling other)
+  where
+    height_at : ℤ → ℤ
+    height_at x = cond (on_grid near x) (round (dy l ⊗ x ⊕ offset l) (dx l)) far
 
 -- ---- slices
 -- words of a box: left, right, bottom, top

@@ -2,10 +2,10 @@
 // tell so with at most four comparisons.
 #![tactic(auto)]
 
-ghost use Rattle.std.specs.Prelude.{◌≡◌, ◌+◌, ◌*◌, ◌<◌, ◌≤◌, pos, nat_abs, length, ◌<ℤ◌};
+ghost use Rattle.std.specs.Prelude.{◌≡◌, T, Bool, ℤ, ◌+◌, ◌*◌, ◌<◌, ◌≤◌, pos, nat_abs, length, ◌<ℤ◌};
 ghost use Rattle.std.proofs.lemmas.List.Edits.{sets};
-ghost use Rattle.std.specs.Int.Signed.{quot_z};
 ghost use Rattle.lists.specs.Lists.{All};
+ghost use Rattle.records.specs.Limits.{max_records};
 ghost use Rattle.integer.specs.Integer.{limit64};
 ghost use Rattle.records.specs.Records.{record_at, count};
 ghost use Rattle.geometry.specs.Limit.{coordinate_limit, OnGrid};
@@ -13,12 +13,13 @@ ghost use Rattle.geometry.specs.Lines.{IsLine};
 ghost use Rattle.geometry.specs.Fitness.{FitFor};
 ghost use Rattle.geometry.specs.Trapezoids.{trapezoid_codec, layer_of};
 ghost use Rattle.boxes.specs.Whole.{floor as floor_of, ceiling as ceiling_of};
-ghost use Rattle.boxes.specs.Boxes.{height_below, height_above, lowest as lowest_of, highest as highest_of, box_of, boxes_apart, boxes_disjoint};
+ghost use Rattle.boxes.specs.Boxes.{box_of, boxes_apart_by, boxes_apart, boxes_disjoint};
 ghost use Rattle.trapezoids_code.specs.Placed.{PlacedAs};
-ghost use Rattle.boxes_code.specs.Code.{Sizes, box_width, box_words, box_at, FirstBoxes, BoxesOf, NextBox, both_small};
+ghost use Rattle.boxes_code.specs.Layers.{all_fit, BoxEach, BoxEach-prop};
+ghost use Rattle.boxes_code.specs.Code.{end_height, box_width, box_words, box_at, FirstBoxes, BoxesOf, BoxedLayer, RoomForBoxes, NextBox, both_small};
 
 use boxes::Box;
-use geometry::{Coefficients, Line, Placed};
+use geometry::{Line, Placed};
 use integer::Int;
 
 // Words of a box in a slice.
@@ -27,13 +28,15 @@ pub const WIDTH: usize = 4;
 // Words of a small layer.
 pub const SMALL_WORDS: usize = records::MEMORY_WIDTH * boxes::FEW;
 
-// Rounded toward zero.
-fn quotient(n: Int, d: Int) -> Int
-    requires { (nat_abs n.v < limit64) × (pos 0 <ℤ d.v) }
-    ensures v_value { result.v ≡ quot_z n.v d.v }
-    ensures magnitude { nat_abs result.v ≤ nat_abs n.v }
-{
-    Int { v: n.v / d.v }
+// A layer of fit trapezoids, at most 512, beside the boxes of all.
+#[derive(Clone, Copy)]
+pub struct Layer<'a> {
+    pub words: &'a [i32],
+    pub boxes: &'a [i64],
+    pub ghost fit: { T (all_fit words.now) },
+    pub ghost few: { count trapezoid_codec words.now ≤ max_records },
+    pub ghost room: { box_width * count trapezoid_codec words.now ≤ length boxes.now },
+    pub ghost each: { BoxEach words.now boxes.now } by { BoxEach-prop words.now boxes.now },
 }
 
 pub fn floor(n: Int, d: Int) -> Int
@@ -41,14 +44,9 @@ pub fn floor(n: Int, d: Int) -> Int
     ensures v_value { result.v ≡ floor_of n.v d.v }
     ensures magnitude { nat_abs result.v ≤ nat_abs n.v }
 {
-    let zero = integer_code::of(0);
-    if integer_code::less(n, zero) {
-        let one = integer_code::of(1);
-        let m = integer_code::add(n, one);
-        let q = quotient(m, d);
-        return integer_code::sub(q, one);
+    Int {
+        v: n.v.div_euclid(d.v),
     }
-    quotient(n, d)
 }
 
 pub fn ceiling(n: Int, d: Int) -> Int
@@ -56,79 +54,42 @@ pub fn ceiling(n: Int, d: Int) -> Int
     ensures v_value { result.v ≡ ceiling_of n.v d.v }
     ensures magnitude { nat_abs result.v ≤ nat_abs n.v }
 {
-    let m = integer_code::neg(n);
-    let q = floor(m, d);
-    integer_code::neg(q)
+    integer_code::neg(floor(integer_code::neg(n), d))
 }
 
-// The height of a line at a whole position, rounded down; far out, no height.
-fn height_below(k: Coefficients, x: Int) -> Int
-    requires { Sizes k }
-    ensures { result.v ≡ height_below k.dx.v k.dy.v k.offset.v x.v }
-{
-    if fitness_code::within(x, boxes::NEAR) {
-        let m = integer_code::mul(k.dy, x);
-        let n = integer_code::add(m, k.offset);
-        return floor(n, k.dx);
-    }
-    integer_code::of(-boxes::ENDLESS)
-}
-
-// And rounded up.
-fn height_above(k: Coefficients, x: Int) -> Int
-    requires { Sizes k }
-    ensures { result.v ≡ height_above k.dx.v k.dy.v k.offset.v x.v }
-{
-    if fitness_code::within(x, boxes::NEAR) {
-        let m = integer_code::mul(k.dy, x);
-        let n = integer_code::add(m, k.offset);
-        return ceiling(n, k.dx);
-    }
-    integer_code::of(boxes::ENDLESS)
-}
-
-// The lowest height of a line between two whole positions.
-fn lowest(l: Line, left: Int, right: Int) -> Int
-    requires { OnGrid coordinate_limit l × IsLine l }
-    ensures { result.v ≡ lowest_of l left.v right.v }
+// The rounded height of a line at the one whole position if it falls, and else at the other; far out, `far`.
+fn end_height<F: Fn(Int, Int) -> Int>(round: F, far: i64, l: Line, falling: Int, other: Int) -> Int
+    requires line { OnGrid coordinate_limit l × IsLine l }
+    requires callable { (n : Int) (d : Int) → nat_abs n.v + 2 < limit64 → pos 0 <ℤ d.v → F.pre round n d }
+    ensures { (r : ℤ → ℤ → ℤ) → ((n : Int) (d : Int) (m : Int) → F.post round n d m → m.v ≡ r n.v d.v) → result.v ≡ end_height r far l falling.v other.v }
 {
     let k = geometry_code::coefficients_of(l);
-    let zero = integer_code::of(0);
-    if integer_code::less(k.dy, zero) {
-        return height_below(k, right);
+    let x = if integer_code::less(k.dy, integer_code::of(0)) {
+        falling
+    } else {
+        other
+    };
+    if fitness_code::within(x, boxes::NEAR) {
+        round(
+            integer_code::add(integer_code::mul(k.dy, x), k.offset),
+            k.dx,
+        )
+    } else {
+        integer_code::of(far)
     }
-    height_below(k, left)
-}
-
-// The highest.
-fn highest(l: Line, left: Int, right: Int) -> Int
-    requires { OnGrid coordinate_limit l × IsLine l }
-    ensures { result.v ≡ highest_of l left.v right.v }
-{
-    let k = geometry_code::coefficients_of(l);
-    let zero = integer_code::of(0);
-    if integer_code::less(k.dy, zero) {
-        return height_above(k, left);
-    }
-    height_above(k, right)
 }
 
 pub fn box_of(a: Placed) -> Box
     requires { PlacedAs a.shape a }
     ensures { result ≡ box_of a.shape }
 {
-    let p = a.left;
-    let q = a.right;
-    let left = floor(p.num, p.den);
-    let right = ceiling(q.num, q.den);
-    let s = a.shape;
-    let bottom = lowest(s.bottom, left, right);
-    let top = highest(s.top, left, right);
+    let left = floor(a.left.num, a.left.den);
+    let right = ceiling(a.right.num, a.right.den);
     Box {
         left,
         right,
-        bottom,
-        top,
+        bottom: end_height(floor, -boxes::ENDLESS, a.shape.bottom, right, left),
+        top: end_height(ceiling, boxes::ENDLESS, a.shape.top, left, right),
     }
 }
 
@@ -149,80 +110,68 @@ pub fn load_box(boxes: &[i64], i: usize) -> Box
     ensures { result ≡ box_at boxes.now i }
 {
     let at = WIDTH * i;
-    let left = integer_code::get_number(boxes, at);
-    let right = integer_code::get_number(boxes, at + 1);
-    let bottom = integer_code::get_number(boxes, at + 2);
-    let top = integer_code::get_number(boxes, at + 3);
     Box {
-        left,
-        right,
-        bottom,
-        top,
+        left: integer_code::get_number(boxes, at),
+        right: integer_code::get_number(boxes, at + 1),
+        bottom: integer_code::get_number(boxes, at + 2),
+        top: integer_code::get_number(boxes, at + 3),
     }
+}
+
+// Whether one of two boxes ends before the other begins, by a test of "before".
+#[tactic(auto, unfolding(boxes::specs::Boxes::boxes_apart_by))]
+fn apart_by<F: Fn(Int, Int) -> bool>(before: F, e: Box, f: Box) -> bool
+    requires { F.IsAlwaysCallable before }
+    ensures { (t : ℤ → ℤ → Bool) → ((a : Int) (b : Int) (r : Bool) → F.post before a b r → r ≡ t a.v b.v) → result ≡ boxes_apart_by t e f }
+{
+    before(f.right, e.left)
+        || before(e.right, f.left)
+        || before(f.top, e.bottom)
+        || before(e.top, f.bottom)
 }
 
 // Whether two boxes share no point, edges counted.
 pub fn is_apart(e: Box, f: Box) -> bool
     ensures { result ≡ boxes_apart e f }
 {
-    if integer_code::less(f.right, e.left) {
-        return true;
-    }
-    if integer_code::less(e.right, f.left) {
-        return true;
-    }
-    if integer_code::less(f.top, e.bottom) {
-        return true;
-    }
-    integer_code::less(e.top, f.bottom)
+    apart_by(integer_code::less, e, f)
 }
 
 // Whether they share no point inside: edges may meet.
 pub fn is_disjoint(e: Box, f: Box) -> bool
     ensures { result ≡ boxes_disjoint e f }
 {
-    if integer_code::at_most(f.right, e.left) {
-        return true;
-    }
-    if integer_code::at_most(e.right, f.left) {
-        return true;
-    }
-    if integer_code::at_most(f.top, e.bottom) {
-        return true;
-    }
-    integer_code::at_most(e.top, f.bottom)
+    apart_by(integer_code::at_most, e, f)
 }
 
 // The same of a box and box number i.
-pub fn boxes_apart(e: Box, boxes: &[i64], i: usize) -> bool
-    requires { box_width * i + box_width ≤ length boxes.now }
-    ensures { result ≡ boxes_apart e (box_at boxes.now i) }
-{
-    let f = load_box(boxes, i);
-    is_apart(e, f)
-}
-
 pub fn boxes_disjoint(e: Box, boxes: &[i64], i: usize) -> bool
     requires { box_width * i + box_width ≤ length boxes.now }
     ensures { result ≡ boxes_disjoint e (box_at boxes.now i) }
 {
-    let f = load_box(boxes, i);
-    is_disjoint(e, f)
+    is_disjoint(e, load_box(boxes, i))
 }
 
-// The first of the boxes from number j on, before number i, that is not apart from a box; i if there is none.
+// The first of the boxes from number j on, before number i, that a test of two boxes refuses; i if there is none.
+fn next_by<F: Fn(Box, Box) -> bool>(apart: F, e: Box, boxes: &[i64], j: usize, i: usize) -> usize
+    requires range { (j ≤ i) × (box_width * i ≤ length boxes.now) }
+    requires callable { F.IsAlwaysCallable apart }
+    ensures { (t : Box → Box → Bool) → ((f : Box) (r : Bool) → F.post apart e f r → r ≡ t e f) → NextBox t e boxes.now j i result }
+{
+    for k in j..i {
+        if !apart(e, load_box(boxes, k)) {
+            return k;
+        }
+    }
+    i
+}
+
+// The first of them that is not apart from a box.
 pub fn next_near(e: Box, boxes: &[i64], j: usize, i: usize) -> usize
     requires { (j ≤ i) × (box_width * i ≤ length boxes.now) }
     ensures { NextBox boxes_apart e boxes.now j i result }
 {
-    let mut k = j;
-    while k < i {
-        if !boxes_apart(e, boxes, k) {
-            return k;
-        }
-        k += 1;
-    }
-    i
+    next_by(is_apart, e, boxes, j, i)
 }
 
 // The first of them that is not disjoint from it.
@@ -230,14 +179,7 @@ pub fn next_overlapping(e: Box, boxes: &[i64], j: usize, i: usize) -> usize
     requires { (j ≤ i) × (box_width * i ≤ length boxes.now) }
     ensures { NextBox boxes_disjoint e boxes.now j i result }
 {
-    let mut k = j;
-    while k < i {
-        if !boxes_disjoint(e, boxes, k) {
-            return k;
-        }
-        k += 1;
-    }
-    i
+    next_by(is_disjoint, e, boxes, j, i)
 }
 
 // The box of trapezoid number i of a layer.
@@ -245,8 +187,7 @@ fn box_at(layer: &[i32], i: usize) -> Box
     requires { All (FitFor coordinate_limit) (layer_of layer.now) × (i < count trapezoid_codec layer.now) }
     ensures { result ≡ box_of (record_at trapezoid_codec layer.now i) }
 {
-    let a = trapezoids_code::placed_at(layer, i);
-    box_of(a)
+    box_of(trapezoids_code::placed_at(layer, i))
 }
 
 // The boxes of a layer's first trapezoids, before number `start`, are there: those of the rest.
@@ -255,12 +196,8 @@ pub fn extend_boxes(layer: &[i32], boxes: &mut [i64], start: usize)
     ensures boxes_of { BoxesOf layer.now boxes.new }
     ensures boxes_len_unchanged { length boxes.new ≡ length boxes.old }
 {
-    let n = layer.len() / records::MEMORY_WIDTH;
-    let mut i = start;
-    while i < n {
-        let e = box_at(layer, i);
-        set_box(boxes, i, e);
-        i += 1;
+    for i in start..layer.len() / records::MEMORY_WIDTH {
+        set_box(boxes, i, box_at(layer, i));
     }
 }
 
@@ -273,12 +210,52 @@ pub fn fill_boxes(layer: &[i32], boxes: &mut [i64])
     extend_boxes(layer, boxes, 0);
 }
 
+// A layer with the box of each trapezoid, worked out into `boxes`.
+pub fn boxed<'a>(words: &'a [i32], boxes: &'a mut [i64]) -> Layer<'a>
+    requires { RoomForBoxes words.now boxes.old }
+    ensures { result.words.now ≡ words.now }
+{
+    fill_boxes(words, boxes);
+    Layer::new(words, boxes)
+}
+
 // Whether two layers are small.
 pub fn both_small(first: &[i32], second: &[i32]) -> bool
     ensures { result ≡ both_small first.now second.now }
 {
-    if first.len() <= SMALL_WORDS {
-        return second.len() <= SMALL_WORDS;
+    first.len() <= SMALL_WORDS && second.len() <= SMALL_WORDS
+}
+
+impl<'a> Layer<'a> {
+    pub fn new(words: &'a [i32], boxes: &'a [i64]) -> Layer<'a>
+        requires { BoxedLayer words.now boxes.now }
+        ensures { (result.words.now ≡ words.now) × (result.boxes.now ≡ boxes.now) }
+    {
+        Layer { words, boxes }
     }
-    false
+
+    // How many trapezoids it has.
+    pub fn count(self) -> usize
+        ensures value { result ≡ count trapezoid_codec self.entry.words.now }
+        ensures few { result ≤ max_records }
+    {
+        self.words.len() / records::MEMORY_WIDTH
+    }
+
+    // The trapezoid with number i, and the positions of its bases.
+    #[tactic(auto, using(crate::proofs::BoxedLayers::fit_all))]
+    pub fn placed(self, i: usize) -> Placed
+        requires { i < count trapezoid_codec self.words.now }
+        ensures { PlacedAs (record_at trapezoid_codec self.entry.words.now i) result }
+    {
+        trapezoids_code::placed_at(self.words, i)
+    }
+
+    // Its box.
+    pub fn box_at(self, i: usize) -> Box
+        requires { i < count trapezoid_codec self.words.now }
+        ensures { result ≡ box_of (record_at trapezoid_codec self.entry.words.now i) }
+    {
+        load_box(self.boxes, i)
+    }
 }

@@ -15,8 +15,6 @@ use Rattle.records.specs.Limits.{memory_width, max_records, sized}
 use Rattle.records.specs.Records.{count}
 use Rattle.records.proofs.Records.{length_from}
 use Rattle.geometry.specs.declared.Trapezoid.{Trapezoid}
-use Rattle.geometry.specs.declared.Checked.{Checked}
-use Rattle.geometry.specs.declared.Checked.TheVariants.{Passed}
 use Rattle.geometry.specs.Limit.{coordinate_limit}
 use Rattle.geometry.specs.Points.{Point}
 use Rattle.geometry.specs.Trapezoids.{trapezoid_codec, layer_of}
@@ -26,9 +24,11 @@ use Rattle.geometry.proofs.Fitness.{layer_exact, fit_more}
 use Rattle.boolean.specs.Operations.{is_code}
 use Rattle.calls.specs.Rows.{plate_limit, row, buffers_sized, point_passes, both_checked, combine_checked, deoverlap_checked, equal_checked, contains_checked}
 use Rattle.calls.proofs.Rows.{sized_most, sized-whole}
+use Rattle.std.specs.Prelude.{Result, Ok}
+use Rattle.geometry.specs.declared.Refusal.{Refusal}
 
 -- ---- passed
-pub row_passed : (n : ℕ) (b : Bool) (c : Checked) → row n b c ≡ Passed → (b ≡ true) × (c ≡ Passed)
+pub row_passed : (n : ℕ) (b : Bool) (c : Result (Unit {0}) Refusal) → row n b c ≡ Ok tt → (b ≡ true) × (c ≡ Ok tt)
 row_passed n true c e = (refl, e)
 row_passed n false c e = let z : ◌≡◌ {A = ℕ} 0 1 = cc in absurd (omega arith)
 
@@ -67,13 +67,13 @@ buffers_ready out scratch e =
 
 module _ (L : ℕ) (a b : List ℤ) where
   -- rows 7 to 11 of two layers
-  first_fit : both_checked L a b ≡ Passed → All (FitFor L) (layer_of a)
+  first_fit : both_checked L a b ≡ Ok tt → All (FitFor L) (layer_of a)
   first_fit e = all_left (FitFor L) (layer_of a) (layer_of b) ((layer_exact L 0 (layer_of a ++ layer_of b)).0 e)
 
-  second_fit : both_checked L a b ≡ Passed → All (FitFor L) (layer_of b)
+  second_fit : both_checked L a b ≡ Ok tt → All (FitFor L) (layer_of b)
   second_fit e = all_right (FitFor L) (layer_of a) (layer_of b) ((layer_exact L 0 (layer_of a ++ layer_of b)).0 e)
 
-  module _ (out scratch : ℕ) (s : sized (length a) && (sized (length b) && buffers_sized out scratch) ≡ true) (e : both_checked L a b ≡ Passed) where
+  module _ (out scratch : ℕ) (s : sized (length a) && (sized (length b) && buffers_sized out scratch) ≡ true) (e : both_checked L a b ≡ Ok tt) where
     first_ready : LayerFor L a
     first_ready = layer_ready L a (and_left _ _ s) (first_fit e)
 
@@ -89,7 +89,7 @@ pub record CombineReady (L code : ℕ) (a b : List ℤ) (out scratch : ℕ) : Ty
   pub second : LayerFor L b
   pub buffers : Buffers out scratch
 
-pub combine_ready : (L code : ℕ) (a b : List ℤ) (out scratch : ℕ) → combine_checked L code a b out scratch ≡ Passed → CombineReady L code a b out scratch
+pub combine_ready : (L code : ℕ) (a b : List ℤ) (out scratch : ℕ) → combine_checked L code a b out scratch ≡ Ok tt → CombineReady L code a b out scratch
 unfolding combine_checked
 combine_ready L code a b out scratch e =
     let h = row_passed 1 (sized (length a) && (sized (length b) && buffers_sized out scratch)) (row 2 (is_code code) (both_checked L a b)) e in
@@ -102,7 +102,7 @@ combine_ready L code a b out scratch e =
     }
 
 -- as the functions that go on from there ask it
-pub combine_buffers : (L code : ℕ) (a b : List ℤ) (out scratch : ℕ) → combine_checked L code a b out scratch ≡ Passed → buffers_sized out scratch ≡ true
+pub combine_buffers : (L code : ℕ) (a b : List ℤ) (out scratch : ℕ) → combine_checked L code a b out scratch ≡ Ok tt → buffers_sized out scratch ≡ true
 unfolding combine_checked
 combine_buffers L code a b out scratch e =
     and_right (sized (length b)) _ (and_right (sized (length a)) _ (row_passed 1 (sized (length a) && (sized (length b) && buffers_sized out scratch)) (row 2 (is_code code) (both_checked L a b)) e).0)
@@ -111,7 +111,7 @@ pub record DeoverlapReady (L : ℕ) (a : List ℤ) (out scratch : ℕ) : Type 0 
   pub layer : LayerFor L a
   pub buffers : Buffers out scratch
 
-pub deoverlap_ready : (L : ℕ) (a : List ℤ) (out scratch : ℕ) → deoverlap_checked L a out scratch ≡ Passed → DeoverlapReady L a out scratch
+pub deoverlap_ready : (L : ℕ) (a : List ℤ) (out scratch : ℕ) → deoverlap_checked L a out scratch ≡ Ok tt → DeoverlapReady L a out scratch
 unfolding deoverlap_checked
 deoverlap_ready L a out scratch e =
     let h = row_passed 1 (sized (length a) && buffers_sized out scratch) (first_refusal L 0 (layer_of a)) e in
@@ -125,13 +125,13 @@ pub record EqualReady (L : ℕ) (a b : List ℤ) (out scratch : ℕ) : Type 0 wh
   pub second : LayerFor L b
   pub buffers : Buffers out scratch
 
-pub equal_ready : (L : ℕ) (a b : List ℤ) (out scratch : ℕ) → equal_checked L a b out scratch ≡ Passed → EqualReady L a b out scratch
+pub equal_ready : (L : ℕ) (a b : List ℤ) (out scratch : ℕ) → equal_checked L a b out scratch ≡ Ok tt → EqualReady L a b out scratch
 unfolding equal_checked
 equal_ready L a b out scratch e =
     let h = row_passed 1 (sized (length a) && (sized (length b) && buffers_sized out scratch)) (both_checked L a b) e in
     record { first = first_ready L a b out scratch h.0 h.1; second = second_ready L a b out scratch h.0 h.1; buffers = both_buffers L a b out scratch h.0 h.1 }
 
-pub equal_buffers : (L : ℕ) (a b : List ℤ) (out scratch : ℕ) → equal_checked L a b out scratch ≡ Passed → buffers_sized out scratch ≡ true
+pub equal_buffers : (L : ℕ) (a b : List ℤ) (out scratch : ℕ) → equal_checked L a b out scratch ≡ Ok tt → buffers_sized out scratch ≡ true
 unfolding equal_checked
 equal_buffers L a b out scratch e =
     and_right (sized (length b)) _ (and_right (sized (length a)) _ (row_passed 1 (sized (length a) && (sized (length b) && buffers_sized out scratch)) (both_checked L a b) e).0)
@@ -142,7 +142,7 @@ pub record ContainsReady (L : ℕ) (P : Point) (a b : List ℤ) (code : ℕ) : T
   pub first : LayerFor L a
   pub second : LayerFor L b
 
-pub contains_ready : (L : ℕ) (P : Point) (a b : List ℤ) (code : ℕ) → contains_checked L P a b code ≡ Passed → ContainsReady L P a b code
+pub contains_ready : (L : ℕ) (P : Point) (a b : List ℤ) (code : ℕ) → contains_checked L P a b code ≡ Ok tt → ContainsReady L P a b code
 unfolding contains_checked
 contains_ready L P a b code e =
     let h = row_passed 1 (sized (length a) && sized (length b)) (row 2 (is_code code) (row 3 (point_passes L P) (both_checked L a b))) e in
@@ -156,7 +156,7 @@ contains_ready L P a b code e =
     }
 
 -- ---- refused
-pub small_row : (n : ℕ) → n < 256 → (b : Bool) (c : Checked) → (b ≡ true → SmallChecked c) → SmallChecked (row n b c)
+pub small_row : (n : ℕ) → n < 256 → (b : Bool) (c : Result (Unit {0}) Refusal) → (b ≡ true → SmallChecked c) → SmallChecked (row n b c)
 small_row n l true c h = h refl
 small_row n l false c h = (l, omega arith)
 

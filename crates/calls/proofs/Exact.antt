@@ -6,8 +6,6 @@ use mathlib.Core.Logic.{◌↔◌}
 use lib.Dec.{T}
 use Rattle.lists.specs.Lists.{All, Any}
 use Rattle.geometry.specs.declared.Trapezoid.{Trapezoid}
-use Rattle.geometry.specs.declared.Checked.{Checked}
-use Rattle.geometry.specs.declared.Checked.TheVariants.{Passed, Refused}
 use Rattle.geometry.specs.Trapezoids.{layer_of, LiesInLayer, lies_in_layer}
 use Rattle.geometry.proofs.Layers.{lies_in-layer_exact}
 use Rattle.boolean.specs.Operations.{code_at, result, says}
@@ -28,6 +26,8 @@ use Rattle.calls.proofs.Checks.{contains_ready}
 use Rattle.calls.proofs.Success.{combined_accepted, deoverlap_accepted}
 use Rattle.calls.proofs.Same.{equal_exactly}
 use Rattle.calls.proofs.Fracturing.{fracture_accepted}
+use Rattle.std.specs.Prelude.{Result, Ok, Err}
+use Rattle.geometry.specs.declared.Refusal.{Refusal}
 
 pub fracture_file_exact : FractureFileExact
 fracture_file_exact edition L layer file out scratch h =
@@ -58,14 +58,14 @@ pub equal_exact : EqualExact
 equal_exact L a b out scratch h = equal_exactly L a b out scratch h
 
 -- ---- the point question
-record Asked (c : Checked) (b : Bool) : Type 0 where
-  passed : c ≡ Passed
+record Asked (c : Result (Unit {0}) Refusal) (b : Bool) : Type 0 where
+  passed : c ≡ Ok tt
   answers : is_yes (asked c b) ≡ b
 
-asked_is : (c : Checked) (b : Bool) → T (is_answered (asked c b)) → Asked c b
-asked_is Passed true h = record { passed = refl; answers = refl }
-asked_is Passed false h = record { passed = refl; answers = refl }
-asked_is (Refused number place) b h = absurd h
+asked_is : (c : Result (Unit {0}) Refusal) (b : Bool) → T (is_answered (asked c b)) → Asked c b
+asked_is (Ok u) true h = record { passed = refl; answers = refl }
+asked_is (Ok u) false h = record { passed = refl; answers = refl }
+asked_is (Err refusal) b h = absurd h
 
 pub contains_exact : ContainsExact
 unfolding contains_answer

@@ -9,7 +9,6 @@ use lib.ListN.{length}
 use lib.IntN.{ℤ}
 use borrow.Author.Tests.{ltb-true}
 use Rattle.records.specs.Limits.{max_records}
-use Rattle.geometry.specs.declared.Checked.TheVariants.{Passed}
 use Rattle.geometry.specs.Trapezoids.{layer_of}
 use Rattle.geometry.proofs.Refusals.{SmallChecked}
 use Rattle.sources.specs.Sets.{source_layers, is_source_layer, single}
@@ -30,13 +29,14 @@ use Rattle.calls.specs.Statements.{WellFormed}
 use Rattle.calls.proofs.Checks.{Buffers, row_passed, buffers_ready, small_row}
 use Rattle.calls.proofs.Room.{addition_room}
 use Rattle.calls.proofs.Success.{FitTrapezoids, passed, outcome_wrote, sourced_words, layer_of_words, words_formed}
+use Rattle.std.specs.Prelude.{Ok}
 
 pub record FractureReady (edition : Edition) (L layer : ℕ) (file : List ℕ) (out scratch : ℕ) : Type 0 where
-  pub rows : polygon_file_checked edition L file ≡ Passed
+  pub rows : polygon_file_checked edition L file ≡ Ok tt
   pub is_source : layer < source_layers
   pub buffers : Buffers out scratch
 
-pub fracture_ready : (edition : Edition) (L layer : ℕ) (file : List ℕ) (out scratch : ℕ) → fracture_checked edition L layer file out scratch ≡ Passed → FractureReady edition L layer file out scratch
+pub fracture_ready : (edition : Edition) (L layer : ℕ) (file : List ℕ) (out scratch : ℕ) → fracture_checked edition L layer file out scratch ≡ Ok tt → FractureReady edition L layer file out scratch
 unfolding fracture_checked
 fracture_ready edition L layer file out scratch e =
     let h = row_passed 1 (buffers_sized out scratch) (row 14 (is_source_layer layer) (polygon_file_checked edition L file)) e in

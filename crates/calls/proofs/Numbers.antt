@@ -8,10 +8,6 @@ use lib.ListN.{length}
 use lib.IntN.{ℤ}
 use Rattle.records.specs.Limits.{sized}
 use Rattle.geometry.specs.declared.Trapezoid.{Trapezoid}
-use Rattle.geometry.specs.declared.Verdict.{Verdict}
-use Rattle.geometry.specs.declared.Verdict.TheVariants.{Fit, Row}
-use Rattle.geometry.specs.declared.Checked.{Checked}
-use Rattle.geometry.specs.declared.Checked.TheVariants.{Passed, Refused}
 use Rattle.geometry.specs.Trapezoids.{layer_of, Disjoint}
 use Rattle.geometry.specs.Fitness.{verdict, refuse, first_refusal}
 use Rattle.geometry.proofs.Fitness.{row_exact}
@@ -33,19 +29,21 @@ use Rattle.calls.proofs.Checks.{combine_ready, equal_ready}
 use Rattle.calls.proofs.Components.{passed_fit, computed}
 use Rattle.calls.proofs.Transistors.{transistors_ready}
 use Rattle.calls.proofs.Overlaps.{both_pass, three_pass}
+use Rattle.std.specs.Prelude.{Result, Ok, Err}
+use Rattle.geometry.specs.declared.Refusal.{Refusal}
 
 -- ---- no number above 11
-abbrev UpTo11 : Checked → Type 0
-UpTo11 Passed = Unit {0}
-UpTo11 (Refused n k) = n ≤ 11
+abbrev UpTo11 : Result (Unit {0}) Refusal → Type 0
+UpTo11 (Ok u) = Unit {0}
+UpTo11 (Err refusal) = refusal.number ≤ 11
 
-row_up : (n : ℕ) → n ≤ 11 → (b : Bool) (c : Checked) → UpTo11 c → UpTo11 (row n b c)
+row_up : (n : ℕ) → n ≤ 11 → (b : Bool) (c : Result (Unit {0}) Refusal) → UpTo11 c → UpTo11 (row n b c)
 row_up n l true c h = h
 row_up n l false c h = l
 
-refuse_up : (L i : ℕ) (t : Trapezoid) (v : Verdict) (c : Checked) → verdict L t ≡ v → UpTo11 c → UpTo11 (refuse v i c)
-refuse_up L i t Fit c e h = h
-refuse_up L i t (Row n) c e h = ((row_exact L t).numbers n e).1
+refuse_up : (L i : ℕ) (t : Trapezoid) (v : Result (Unit {0}) ℕ) (c : Result (Unit {0}) Refusal) → verdict L t ≡ v → UpTo11 c → UpTo11 (refuse v i c)
+refuse_up L i t (Ok u) c e h = h
+refuse_up L i t (Err n) c e h = ((row_exact L t).numbers n e).1
 
 first_up : (L i : ℕ) (ts : List Trapezoid) → UpTo11 (first_refusal L i ts)
 unfolding first_refusal
@@ -72,9 +70,9 @@ transistors_up L c b e out scratch =
     row_up 1 (omega arith) (sized (length c) && (sized (length b) && (sized (length e) && buffers_sized out scratch))) (three_checked L c b e) (first_up L 0 (layer_of c ++ (layer_of b ++ layer_of e)))
 
 -- row 13 below them, where it lets pass what they let pass
-and_up : (c d : Checked) → UpTo11 c → (c ≡ Passed → d ≡ Passed) → UpTo11 (and_then c d)
-and_up Passed d h f = let e = f refl in rw e tt
-and_up (Refused n k) d h f = h
+and_up : (c d : Result (Unit {0}) Refusal) → UpTo11 c → (c ≡ Ok tt → d ≡ Ok tt) → UpTo11 (and_then c d)
+and_up (Ok u) d h f = let e = f refl in rw e tt
+and_up (Err refusal) d h f = h
 
 -- ---- the answers
 over : {n : ℕ} → n ≤ 11 → n ≡ 13 → ⊥
@@ -88,9 +86,9 @@ module _ (place : ℕ) where
   written_not n rs (enough k) e = let z : ◌≡◌ {A = ℕ} 0 1 = cc in absurd (omega arith)
   written_not n rs (no_room k) e = let z : ◌≡◌ {A = ℕ} 12 13 = cc in other z
 
-  outcome_not : (c : Checked) (out scratch : List ℤ) (rs : List Sourced) (ms : List Stage) → UpTo11 c → (outcome c out scratch rs ms).answer ≡ refused 13 place → ⊥
-  outcome_not Passed out scratch rs ms h e = written_not (length out) rs (space (room_of out) ms) e
-  outcome_not (Refused n k) out scratch rs ms h e = let z : n ≡ 13 = cc in over h z
+  outcome_not : (c : Result (Unit {0}) Refusal) (out scratch : List ℤ) (rs : List Sourced) (ms : List Stage) → UpTo11 c → (outcome c out scratch rs ms).answer ≡ refused 13 place → ⊥
+  outcome_not (Ok u) out scratch rs ms h e = written_not (length out) rs (space (room_of out) ms) e
+  outcome_not (Err refusal) out scratch rs ms h e = let z : refusal.number ≡ 13 = cc in over h z
 
   compared_not : (ts us : List Trapezoid) (k : ℕ) → compared ts us k ≡ refused_equality 13 place → ⊥
   compared_not [] [] k e = let z : ◌≡◌ {A = ℕ} 0 1 = cc in absurd (omega arith)
@@ -101,18 +99,18 @@ module _ (place : ℕ) where
   compared_in_not ts us (enough k) e = compared_not ts us k e
   compared_in_not ts us (no_room k) e = let z : ◌≡◌ {A = ℕ} 12 13 = cc in other z
 
-  equality_not : (c : Checked) (out scratch : List ℤ) (ts us : List Trapezoid) (s : Space) → UpTo11 c → (equality_outcome c out scratch (compared_in ts us s)).answer ≡ refused_equality 13 place → ⊥
-  equality_not Passed out scratch ts us s h e = compared_in_not ts us s e
-  equality_not (Refused n k) out scratch ts us s h e = let z : n ≡ 13 = cc in over h z
+  equality_not : (c : Result (Unit {0}) Refusal) (out scratch : List ℤ) (ts us : List Trapezoid) (s : Space) → UpTo11 c → (equality_outcome c out scratch (compared_in ts us s)).answer ≡ refused_equality 13 place → ⊥
+  equality_not (Ok u) out scratch ts us s h e = compared_in_not ts us s e
+  equality_not (Err refusal) out scratch ts us s h e = let z : refusal.number ≡ 13 = cc in over h z
 
   extracted_not : (n : ℕ) (ts : List Triple) (fits : Bool) (s : Space) (out scratch : ℕ) → (extracted_in n ts fits s out scratch).answer ≡ refused 13 place → ⊥
   extracted_not n ts true (enough k) out scratch e = let z : ◌≡◌ {A = ℕ} 0 1 = cc in absurd (omega arith)
   extracted_not n ts false (enough k) out scratch e = let z : ◌≡◌ {A = ℕ} 12 13 = cc in other z
   extracted_not n ts fits (no_room k) out scratch e = let z : ◌≡◌ {A = ℕ} 12 13 = cc in other z
 
-  transistors_not : (c : Checked) (ts : List Triple) (s : Space) (list : List ℕ) (out scratch : List ℤ) → UpTo11 c → (transistors_outcome_of c ts s list out scratch).answer ≡ refused 13 place → ⊥
-  transistors_not Passed ts s list out scratch h e = extracted_not (length list) ts (list_fits (length list) ts) s (length out) (length scratch) e
-  transistors_not (Refused n k) ts s list out scratch h e = let z : n ≡ 13 = cc in over h z
+  transistors_not : (c : Result (Unit {0}) Refusal) (ts : List Triple) (s : Space) (list : List ℕ) (out scratch : List ℤ) → UpTo11 c → (transistors_outcome_of c ts s list out scratch).answer ≡ refused 13 place → ⊥
+  transistors_not (Ok u) ts s list out scratch h e = extracted_not (length list) ts (list_fits (length list) ts) s (length out) (length scratch) e
+  transistors_not (Err refusal) ts s list out scratch h e = let z : refusal.number ≡ 13 = cc in over h z
 
 -- ---- the calls
 combine_taken : (L code : ℕ) (a b out scratch : List ℤ) → Disjoint (layer_of a) → Disjoint (layer_of b) → (place : ℕ) → (combined L code a b out scratch).answer ≡ refused 13 place → ⊥
@@ -138,9 +136,9 @@ components_taken L a numbers d place e =
     components_not (and_then rows (first_overlap 0 (layer_of a)))
     (and_up rows (first_overlap 0 (layer_of a)) (components_up L a (length numbers)) (λ p. (first_overlap_exact L 0 (layer_of a) (passed_fit L a numbers p)).passed.1 d)) e
   where
-    components_not : (c : Checked) → UpTo11 c → (count_outcome c (computed a) numbers).answer ≡ refused_components 13 place → ⊥
-    components_not Passed h e = let z : ◌≡◌ {A = ℕ} 0 1 = cc in absurd (omega arith)
-    components_not (Refused n k) h e = let z : n ≡ 13 = cc in over h z
+    components_not : (c : Result (Unit {0}) Refusal) → UpTo11 c → (count_outcome c (computed a) numbers).answer ≡ refused_components 13 place → ⊥
+    components_not (Ok u) h e = let z : ◌≡◌ {A = ℕ} 0 1 = cc in absurd (omega arith)
+    components_not (Err refusal) h e = let z : refusal.number ≡ 13 = cc in over h z
 
 transistors_taken : (L : ℕ) (c b e : List ℤ) (list : List ℕ) (out scratch : List ℤ) → Disjoint (layer_of c) → Disjoint (layer_of b) → Disjoint (layer_of e)
     → (place : ℕ) → (transistors_outcome L c b e list out scratch).answer ≡ refused 13 place → ⊥

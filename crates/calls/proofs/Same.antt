@@ -7,8 +7,6 @@ use lib.Dec.{T}
 use lib.IntN.{ℤ}
 use lib.ListN.{length}
 use Rattle.geometry.specs.declared.Trapezoid.{Trapezoid}
-use Rattle.geometry.specs.declared.Checked.{Checked}
-use Rattle.geometry.specs.declared.Checked.TheVariants.{Passed, Refused}
 use Rattle.geometry.specs.Trapezoids.{layer_of, Disjoint}
 use Rattle.boolean.specs.Operations.{difference}
 use Rattle.boolean.specs.Space.{Space, enough, no_room, space, equality_stages}
@@ -21,6 +19,8 @@ use Rattle.calls.specs.Statements.{Compares}
 use Rattle.calls.proofs.Checks.{EqualReady, equal_ready}
 use Rattle.calls.proofs.Overlaps.{and_passed, both_passed}
 use Rattle.calls.proofs.Success.{FitTrapezoids}
+use Rattle.std.specs.Prelude.{Result, Ok, Err}
+use Rattle.geometry.specs.declared.Refusal.{Refusal}
 
 abbrev Empty : List Trapezoid → Type 0
 Empty ts = ts ≡ []
@@ -63,13 +63,13 @@ compared_in_by ts us (enough overlays) h = compared_by ts us overlays
 compared_in_by ts us (no_room overlays) h = absurd h
 
 -- ---- the rows
-record Passes (c : Checked) (out scratch : List ℤ) (answer : EqualityAnswer) : Type 0 where
-  passed : c ≡ Passed
+record Passes (c : Result (Unit {0}) Refusal) (out scratch : List ℤ) (answer : EqualityAnswer) : Type 0 where
+  passed : c ≡ Ok tt
   answers : (equality_outcome c out scratch answer).answer ≡ answer
 
-passes : (c : Checked) (out scratch : List ℤ) (answer : EqualityAnswer) → T (not (is_refused (equality_outcome c out scratch answer).answer)) → Passes c out scratch answer
-passes Passed out scratch answer h = record { passed = refl; answers = refl }
-passes (Refused number place) out scratch answer h = absurd h
+passes : (c : Result (Unit {0}) Refusal) (out scratch : List ℤ) (answer : EqualityAnswer) → T (not (is_refused (equality_outcome c out scratch answer).answer)) → Passes c out scratch answer
+passes (Ok u) out scratch answer h = record { passed = refl; answers = refl }
+passes (Err refusal) out scratch answer h = absurd h
 
 -- ---- the differences, by the points
 decided : (ts : List Trapezoid) → ((Empty ts → ⊥) → ⊥) → Empty ts
@@ -92,7 +92,7 @@ compares L answer A B hA hB k =
 
 -- ---- the test
 module _ (L : ℕ) (A B out scratch : List ℤ) where
-  abbrev rows : Checked
+  abbrev rows : Result (Unit {0}) Refusal
   rows = equal_checked L A B (length out) (length scratch)
 
   abbrev answer : EqualityAnswer
@@ -103,7 +103,7 @@ module _ (L : ℕ) (A B out scratch : List ℤ) where
     unfolding equal_outcome
     lets_pass = passes (and_then rows (both_disjoint A B)) out scratch answer h
 
-    both : (rows ≡ Passed) × (both_disjoint A B ≡ Passed)
+    both : (rows ≡ Ok tt) × (both_disjoint A B ≡ Ok tt)
     both = and_passed rows (both_disjoint A B) lets_pass.passed
 
     fit : EqualReady L A B (length out) (length scratch)

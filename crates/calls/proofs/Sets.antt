@@ -7,8 +7,6 @@ use lib.Dec.{eqb}
 use lib.IntN.{ℤ}
 use lib.ListN.{length}
 use Rattle.records.specs.Limits.{memory_width, sized}
-use Rattle.geometry.specs.declared.Checked.{Checked}
-use Rattle.geometry.specs.declared.Checked.TheVariants.{Passed, Refused}
 use Rattle.geometry.specs.Points.{Point}
 use Rattle.geometry.specs.Trapezoids.{layer_of, lies_in_layer}
 use Rattle.geometry.specs.Fitness.{first_refusal}
@@ -30,6 +28,8 @@ use Rattle.calls.specs.Transistors.{transistors_checked, transistors_outcome_of,
 use Rattle.calls.specs.Statements.{FractureSets, combined_layer, CombineSets, deoverlapped_layer, DeoverlapSets, SameTrapezoids, SetsUnseen}
 use Rattle.calls.proofs.Success.{wrote, layer_of_words, combined_accepted, deoverlap_accepted}
 use Rattle.calls.proofs.Fracturing.{fracture_accepted}
+use Rattle.std.specs.Prelude.{Result, Ok, Err}
+use Rattle.geometry.specs.declared.Refusal.{Refusal}
 
 -- ---- a success
 pub fracture_sets : FractureSets
@@ -53,12 +53,12 @@ module _ (rs qs : List Sourced) (e : shapes rs ≡ shapes qs) where
   )
   written_unseen n (no_room k) = (refl, refl)
 
-  outcome_unseen : (c : Checked) (out scratch : List ℤ) (ms : List Stage)
+  outcome_unseen : (c : Result (Unit {0}) Refusal) (out scratch : List ℤ) (ms : List Stage)
       → ((outcome c out scratch rs ms).answer ≡ (outcome c out scratch qs ms).answer)
       × (layer_of (records_of (outcome c out scratch rs ms).answer (outcome c out scratch rs ms).out)
       ≡ layer_of (records_of (outcome c out scratch qs ms).answer (outcome c out scratch qs ms).out))
-  outcome_unseen Passed out scratch ms = written_unseen (length out) (space (room_of out) ms)
-  outcome_unseen (Refused number place) out scratch ms = (refl, refl)
+  outcome_unseen (Ok u) out scratch ms = written_unseen (length out) (space (room_of out) ms)
+  outcome_unseen (Err refusal) out scratch ms = (refl, refl)
 
 combine_unseen : (L code : ℕ) (a a' b b' out scratch : List ℤ) → SameTrapezoids a a' → SameTrapezoids b b'
     → ((combined L code a b out scratch).answer ≡ (combined L code a' b' out scratch).answer)

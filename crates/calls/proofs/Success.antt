@@ -15,8 +15,6 @@ use Rattle.records.specs.Records.{words_of}
 use Rattle.records.proofs.Records.{length_words, records_words}
 use Rattle.records.proofs.Buffer.{image_take}
 use Rattle.geometry.specs.declared.Trapezoid.{Trapezoid}
-use Rattle.geometry.specs.declared.Checked.{Checked}
-use Rattle.geometry.specs.declared.Checked.TheVariants.{Passed, Refused}
 use Rattle.geometry.specs.Trapezoids.{layer_of, Disjoint}
 use Rattle.geometry.specs.Fitness.{FitFor, first_refusal}
 use Rattle.geometry.proofs.Fitness.{layer_exact}
@@ -36,6 +34,8 @@ use Rattle.calls.specs.Statements.{WellFormed, FitAsInput}
 use Rattle.calls.proofs.Room.{is_enough, result_room, deoverlapped_room}
 use Rattle.calls.proofs.Checks.{combine_ready, deoverlap_ready}
 use Rattle.calls.proofs.Overlaps.{and_passed, both_passed}
+use Rattle.std.specs.Prelude.{Result, Ok, Err}
+use Rattle.geometry.specs.declared.Refusal.{Refusal}
 
 abbrev pub FitTrapezoids : ℕ → List Trapezoid → Type 0
 FitTrapezoids L ts = All (FitFor L) ts
@@ -49,14 +49,14 @@ pub wrote : (n : ℕ) (rs : List Sourced) (s : Space) → T (is_done (written n 
 wrote n rs (enough cuts) h = record { room = tt; is = image_take sourced_codec sourced_faithful.readable n rs }
 wrote n rs (no_room cuts) h = absurd h
 
-pub passed : (c : Checked) (out scratch : List ℤ) (rs : List Sourced) (ms : List Stage) → T (is_done (outcome c out scratch rs ms).answer) → c ≡ Passed
-passed Passed out scratch rs ms h = refl
-passed (Refused number place) out scratch rs ms h = absurd h
+pub passed : (c : Result (Unit {0}) Refusal) (out scratch : List ℤ) (rs : List Sourced) (ms : List Stage) → T (is_done (outcome c out scratch rs ms).answer) → c ≡ Ok tt
+passed (Ok u) out scratch rs ms h = refl
+passed (Err refusal) out scratch rs ms h = absurd h
 
-pub outcome_wrote : (c : Checked) (out scratch : List ℤ) (rs : List Sourced) (ms : List Stage) → T (is_done (outcome c out scratch rs ms).answer)
+pub outcome_wrote : (c : Result (Unit {0}) Refusal) (out scratch : List ℤ) (rs : List Sourced) (ms : List Stage) → T (is_done (outcome c out scratch rs ms).answer)
     → Wrote (space (room_of out) ms) rs (records_of (outcome c out scratch rs ms).answer (outcome c out scratch rs ms).out)
-outcome_wrote Passed out scratch rs ms h = wrote (length out) rs (space (room_of out) ms) h
-outcome_wrote (Refused number place) out scratch rs ms h = absurd h
+outcome_wrote (Ok u) out scratch rs ms h = wrote (length out) rs (space (room_of out) ms) h
+outcome_wrote (Err refusal) out scratch rs ms h = absurd h
 
 -- ---- the words of a list of trapezoids with their sets
 pub sourced_words : (rs : List Sourced) → sourced_of (words_of sourced_codec rs) ≡ rs

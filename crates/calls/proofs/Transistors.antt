@@ -14,8 +14,6 @@ use Rattle.lists.proofs.Lists.{all_of, all_left, all_right}
 use Rattle.records.specs.Limits.{sized}
 use Rattle.records.specs.Records.{image}
 use Rattle.records.proofs.Buffer.{image_records}
-use Rattle.geometry.specs.declared.Checked.{Checked}
-use Rattle.geometry.specs.declared.Checked.TheVariants.{Passed, Refused}
 use Rattle.geometry.specs.Trapezoids.{layer_of, Disjoint}
 use Rattle.geometry.specs.Fitness.{FitFor}
 use Rattle.geometry.proofs.Refusals.{SmallChecked, small_first}
@@ -32,6 +30,9 @@ use Rattle.calls.specs.Outcomes.{zeros, room_of}
 use Rattle.calls.specs.Transistors.{three_checked, three_disjoint, transistors_checked, TransistorsOutcome, observed_transistors, extracted_in, list_fits, transistors_outcome_of, transistors_outcome, first_triples, ExtractedExact}
 use Rattle.calls.proofs.Checks.{row_passed, small_row, LayerFor, layer_ready, layer-length, Buffers, buffers_ready}
 use Rattle.calls.proofs.Overlaps.{and_passed, three_passed}
+use Rattle.std.specs.Prelude.{Result, Ok, Err}
+use Rattle.geometry.specs.declared.Refusal.{Refusal}
+use Rattle.geometry.specs.Refusals.{refused_by}
 
 -- ---- passed
 pub record TransistorsReady (L : ℕ) (c b e : List ℤ) (out scratch : ℕ) : Type 0 where
@@ -54,7 +55,7 @@ module _ (L : ℕ) (c b e : List ℤ) (out scratch : ℕ) where
     third_and_buffers : sized (length e) && buffers_sized out scratch ≡ true
     third_and_buffers = and_right (sized (length b)) _ (and_right (sized (length c)) _ s)
 
-  pub transistors_ready : transistors_checked L c b e out scratch ≡ Passed → TransistorsReady L c b e out scratch
+  pub transistors_ready : transistors_checked L c b e out scratch ≡ Ok tt → TransistorsReady L c b e out scratch
   unfolding transistors_checked
   transistors_ready p =
       let h = row_passed 1 lengths (three_checked L c b e) p in
@@ -68,7 +69,7 @@ module _ (L : ℕ) (c b e : List ℤ) (out scratch : ℕ) where
         buffers = buffers_ready out scratch (and_right (sized (length e)) _ (third_and_buffers s));
       }
 
-  pub transistors_buffers : transistors_checked L c b e out scratch ≡ Passed → buffers_sized out scratch ≡ true
+  pub transistors_buffers : transistors_checked L c b e out scratch ≡ Ok tt → buffers_sized out scratch ≡ true
   unfolding transistors_checked
   transistors_buffers p = and_right (sized (length e)) _ (third_and_buffers (row_passed 1 lengths (three_checked L c b e) p).0)
 
@@ -102,10 +103,10 @@ module _ (c b e : List ℤ) (list : List ℕ) (out scratch : List ℤ) where
   abbrev pub searched : TransistorsOutcome
   searched = transistors_outcome_of (three_disjoint c b e) found needed list out scratch
 
-  pub searched_refused : {n p : ℕ} → three_disjoint c b e ≡ Refused n p → observed_transistors (refused n p) list out scratch ≡ searched
+  pub searched_refused : {n p : ℕ} → three_disjoint c b e ≡ refused_by n p → observed_transistors (refused n p) list out scratch ≡ searched
   searched_refused h = rw h
 
-  module _ (p : three_disjoint c b e ≡ Passed) where
+  module _ (p : three_disjoint c b e ≡ Ok tt) where
     passes : extracted_in (length list) found (list_fits (length list) found) needed (length out) (length scratch) ≡ searched
     passes = rw p
 
@@ -127,11 +128,11 @@ module _ (c b e : List ℤ) (list : List ℕ) (out scratch : List ℤ) where
           (λ j. observed_transistors (done (l j) n) (x j) (y j) (z j)) ∙ w ∙ passes
 
   module _ (L : ℕ) where
-    pub transistors_refuses : {n p : ℕ} → transistors_checked L c b e (length out) (length scratch) ≡ Refused n p → observed_transistors (refused n p) list out scratch ≡ transistors_outcome L c b e list out scratch
+    pub transistors_refuses : {n p : ℕ} → transistors_checked L c b e (length out) (length scratch) ≡ refused_by n p → observed_transistors (refused n p) list out scratch ≡ transistors_outcome L c b e list out scratch
     unfolding transistors_outcome
     transistors_refuses h = rw h
 
-    pub transistors_past : transistors_checked L c b e (length out) (length scratch) ≡ Passed → searched ≡ transistors_outcome L c b e list out scratch
+    pub transistors_past : transistors_checked L c b e (length out) (length scratch) ≡ Ok tt → searched ≡ transistors_outcome L c b e list out scratch
     unfolding transistors_outcome
     transistors_past h = rw h
 
@@ -146,18 +147,18 @@ success m ts false (enough k) out scratch n overlays h = let z : ◌≡◌ {A = 
 success m ts false (no_room k) out scratch n overlays h = let z : ◌≡◌ {A = ℕ} 0 1 = cc in absurd (omega arith)
 
 module _ (L : ℕ) (c b e : List ℤ) (list : List ℕ) (out scratch : List ℤ) (n overlays : ℕ) where
-  abbrev rows : Checked
+  abbrev rows : Result (Unit {0}) Refusal
   rows = transistors_checked L c b e (length out) (length scratch)
 
-  abbrev outcome_of : Checked → TransistorsOutcome
+  abbrev outcome_of : Result (Unit {0}) Refusal → TransistorsOutcome
   outcome_of v = transistors_outcome_of v (found c b e list out scratch) (needed c b e list out scratch) list out scratch
 
-  let_pass : (v : Checked) → (outcome_of v).answer ≡ done n overlays → v ≡ Passed
-  let_pass Passed g = refl
-  let_pass (Refused number place) g = let z : ◌≡◌ {A = ℕ} 0 1 = cc in absurd (omega arith)
+  let_pass : (v : Result (Unit {0}) Refusal) → (outcome_of v).answer ≡ done n overlays → v ≡ Ok tt
+  let_pass (Ok u) g = refl
+  let_pass (Err refusal) g = let z : ◌≡◌ {A = ℕ} 0 1 = cc in absurd (omega arith)
 
   module _ (h : (transistors_outcome L c b e list out scratch).answer ≡ done n overlays) where
-    both : (rows ≡ Passed) × (three_disjoint c b e ≡ Passed)
+    both : (rows ≡ Ok tt) × (three_disjoint c b e ≡ Ok tt)
     unfolding transistors_outcome
     both = and_passed rows (three_disjoint c b e) (let_pass (and_then rows (three_disjoint c b e)) h)
 
@@ -177,13 +178,13 @@ extracted_exact L c b e list out scratch n overlays h = go checked (let_pass L c
     s : Space
     s = space (room_of out) (extraction_stages (layer_of c) (layer_of b) (layer_of e))
 
-    checked : Checked
+    checked : Result (Unit {0}) Refusal
     checked = and_then (transistors_checked L c b e (length out) (length scratch)) (three_disjoint c b e)
 
-    go : (v : Checked) → v ≡ Passed → (transistors_outcome_of v ts s list out scratch).answer ≡ done n overlays
+    go : (v : Result (Unit {0}) Refusal) → v ≡ Ok tt → (transistors_outcome_of v ts s list out scratch).answer ≡ done n overlays
         → TransistorsOf (layer_of c) (layer_of b) (layer_of e) (first_triples n (transistors_outcome_of v ts s list out scratch).list)
-    go Passed p g =
+    go (Ok u) p g =
         let r = ready L c b e list out scratch n overlays h in
         subst (TransistorsOf (layer_of c) (layer_of b) (layer_of e)) (sym (success (length list) ts (list_fits (length list) ts) s (length out) (length scratch) n overlays g))
         (transistors_exact L (layer_of c) (layer_of b) (layer_of e) r.collectors.fit r.bases.fit r.emitters.fit)
-    go (Refused number place) p g = let z : ◌≡◌ {A = ℕ} 0 1 = cc in absurd (omega arith)
+    go (Err refusal) p g = let z : ◌≡◌ {A = ℕ} 0 1 = cc in absurd (omega arith)

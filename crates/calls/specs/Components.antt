@@ -1,9 +1,7 @@
 -- What `components` answers, in the paper's numbers, and what the list of numbers holds then.
-use Rattle.std.specs.Prelude.{◌≡◌, Bool, ◌&&◌, List, ℕ, ◌≤◌, eqb, length, ℤ}
+use Rattle.std.specs.Prelude.{◌≡◌, Bool, ◌&&◌, List, ℕ, ◌≤◌, eqb, length, ℤ, Result, Ok, Err}
 use Rattle.records.specs.Limits.{max_records, sized}
 use Rattle.records.specs.Records.{count}
-use Rattle.geometry.specs.declared.Checked.{Checked}
-use Rattle.geometry.specs.declared.Checked.TheVariants.{Passed, Refused}
 use Rattle.geometry.specs.Trapezoids.{trapezoid_codec, layer_of}
 use Rattle.geometry.specs.Fitness.{SmallRefusal, first_refusal}
 use Rattle.overlay.specs.Overlaps.{first_overlap}
@@ -11,6 +9,7 @@ use Rattle.connectivity.specs.Components.{component_numbers, component_count, Co
 use Rattle.calls.specs.declared.Connected.{Connected}
 use Rattle.calls.specs.declared.Connected.TheVariants as connected
 use Rattle.calls.specs.Rows.{row, and_then}
+use Rattle.geometry.specs.declared.Refusal.{Refusal}
 
 -- ---- the rows
 -- row 1: "layer, output or work area for pieces not a multiple of 24 words or above 12,288; work area unlike output; component list not one entry per piece"; paper 02 (vii): "Lent
@@ -19,7 +18,7 @@ unfoldable pub lists_sized : List ℤ → ℕ → Bool
 lists_sized a n = sized (length a) && eqb n (count trapezoid_codec a)
 
 -- row 1, of a list of n numbers, then rows 7 to 11 under a coordinate limit
-unfoldable pub components_checked : ℕ → List ℤ → ℕ → Checked
+unfoldable pub components_checked : ℕ → List ℤ → ℕ → Result (Unit {0}) Refusal
 components_checked L a n = row 1 (lists_sized a n) (first_refusal L 0 (layer_of a))
 
 -- ---- the answer
@@ -46,9 +45,9 @@ abbrev pub observed_components : ComponentsAnswer → List ℕ → ComponentsOut
 observed_components answer numbers = record { answer = answer; numbers = numbers }
 
 -- "1 to 11 change nothing.", and neither does 13
-abbrev pub count_outcome : Checked → ComponentsOutcome → List ℕ → ComponentsOutcome
-count_outcome (Refused number place) done numbers = observed_components (refused_components number place) numbers
-count_outcome Passed done numbers = done
+abbrev pub count_outcome : Result (Unit {0}) Refusal → ComponentsOutcome → List ℕ → ComponentsOutcome
+count_outcome (Err refusal) done numbers = observed_components (refused_components refusal.number refusal.place) numbers
+count_outcome (Ok u) done numbers = done
 
 -- row 13 comes below the others
 unfoldable pub components_outcome : ℕ → List ℤ → List ℕ → ComponentsOutcome

@@ -1,9 +1,8 @@
 -- The two readers of polygon files, `fracture` and `fracture_first_edition`, as calls on the same bytes, output and scratch area, with the same layer number. Each statement is proved under its name in
 -- lower case in proofs/Editions.antt.
-use Rattle.std.specs.Prelude.{◌≡◌, List, ℕ, ◌<◌, length, ℤ}
+use Rattle.std.specs.Prelude.{◌≡◌, List, ℕ, ◌<◌, length, ℤ, Ok}
 use Rattle.lists.specs.Lists.{All}
 use Rattle.records.specs.Words.{Byte}
-use Rattle.geometry.specs.declared.Checked.TheVariants.{Passed}
 use Rattle.files.specs.declared.Edition.{Edition}
 use Rattle.files.specs.declared.Edition.TheVariants.{First, New}
 use Rattle.files.specs.Formats.{file_words}
@@ -15,7 +14,7 @@ use Rattle.calls.specs.Outcomes.{observed, fracture_outcome}
 
 -- the rows of a reader find nothing
 abbrev pub Takes : Edition → ℕ → ℕ → List ℕ → List ℤ → List ℤ → Type 0
-Takes edition L layer file out scratch = fracture_checked edition L layer file (length out) (length scratch) ≡ Passed
+Takes edition L layer file out scratch = fracture_checked edition L layer file (length out) (length scratch) ≡ Ok tt
 
 -- "For any sheet that both accept, they show the same polygons": they answer and write the same
 abbrev pub BothFracture : Type 0

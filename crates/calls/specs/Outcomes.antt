@@ -1,10 +1,8 @@
 -- What each call answers under a coordinate limit L, and what its output and scratch area (paper 01: work area) hold then.
-use Rattle.std.specs.Prelude.{Bool, true, false, List, [], ◌∷◌, ℕ, ◌*◌, ◌/◌, length, take, replicate, ℤ, pos}
+use Rattle.std.specs.Prelude.{Bool, true, false, List, [], ◌∷◌, ℕ, ◌*◌, ◌/◌, length, take, replicate, ℤ, pos, Result, Ok, Err}
 use Rattle.records.specs.Limits.{memory_width}
 use Rattle.records.specs.Records.{image}
 use Rattle.geometry.specs.declared.Trapezoid.{Trapezoid}
-use Rattle.geometry.specs.declared.Checked.{Checked}
-use Rattle.geometry.specs.declared.Checked.TheVariants.{Passed, Refused}
 use Rattle.geometry.specs.Points.{Point}
 use Rattle.geometry.specs.Trapezoids.{layer_of, lies_in_layer}
 use Rattle.sources.specs.Sets.{single}
@@ -19,6 +17,7 @@ use Rattle.files.specs.Contents.{polygons_of}
 use Rattle.files.specs.Outcomes.{Answer, refused, done}
 use Rattle.calls.specs.Answers.{EqualityAnswer, refused_equality, same, differs, PointAnswer, refused_point, yes, no}
 use Rattle.calls.specs.Rows.{and_then, both_disjoint, fracture_checked, combine_checked, deoverlap_checked, equal_checked, contains_checked}
+use Rattle.geometry.specs.declared.Refusal.{Refusal}
 
 pub record Outcome (A : Type 0) : Type 0 where
   pub answer : A
@@ -49,9 +48,9 @@ written n rs (enough overlays) = record { answer = done (length rs) overlays; ou
 written n rs (no_room overlays) = record { answer = refused 12 0; out = zeros n; scratch = zeros n }
 
 -- "1 to 11 change nothing.", and neither do 13 and 14
-abbrev pub outcome : Checked → List ℤ → List ℤ → List Sourced → List Stage → Outcome Answer
-outcome (Refused number place) out scratch rs ms = record { answer = refused number place; out = out; scratch = scratch }
-outcome Passed out scratch rs ms = written (length out) rs (space (room_of out) ms)
+abbrev pub outcome : Result (Unit {0}) Refusal → List ℤ → List ℤ → List Sourced → List Stage → Outcome Answer
+outcome (Err refusal) out scratch rs ms = record { answer = refused refusal.number refusal.place; out = out; scratch = scratch }
+outcome (Ok u) out scratch rs ms = written (length out) rs (space (room_of out) ms)
 
 -- fracturing the polygons of a polygon file of an edition: "Cutting reports 0 cuts."
 abbrev pub fractured_of : Edition → ℕ → List ℕ → List Trapezoid
@@ -83,9 +82,9 @@ compared_in ts us (enough overlays) = compared ts us overlays
 compared_in ts us (no_room overlays) = refused_equality 12 0
 
 -- "Sameness leaves both zero."
-abbrev pub equality_outcome : Checked → List ℤ → List ℤ → EqualityAnswer → Outcome EqualityAnswer
-equality_outcome (Refused number place) out scratch answer = record { answer = refused_equality number place; out = out; scratch = scratch }
-equality_outcome Passed out scratch answer = record { answer = answer; out = zeros (length out); scratch = zeros (length scratch) }
+abbrev pub equality_outcome : Result (Unit {0}) Refusal → List ℤ → List ℤ → EqualityAnswer → Outcome EqualityAnswer
+equality_outcome (Err refusal) out scratch answer = record { answer = refused_equality refusal.number refusal.place; out = out; scratch = scratch }
+equality_outcome (Ok u) out scratch answer = record { answer = answer; out = zeros (length out); scratch = zeros (length scratch) }
 
 unfoldable pub equal_outcome : ℕ → List ℤ → List ℤ → List ℤ → List ℤ → Outcome EqualityAnswer
 equal_outcome L a b out scratch =
@@ -93,10 +92,10 @@ equal_outcome L a b out scratch =
     (compared_in (difference (layer_of a) (layer_of b)) (difference (layer_of b) (layer_of a)) (space (room_of out) (equality_stages (layer_of a) (layer_of b))))
 
 -- ---- whether a point lies in the result (paper 01: point question)
-abbrev pub asked : Checked → Bool → PointAnswer
-asked (Refused number place) b = refused_point number place
-asked Passed true = yes
-asked Passed false = no
+abbrev pub asked : Result (Unit {0}) Refusal → Bool → PointAnswer
+asked (Err refusal) b = refused_point refusal.number refusal.place
+asked (Ok u) true = yes
+asked (Ok u) false = no
 
 -- "X, Y, D, two layers and a code; yes if the point lies in the result"
 unfoldable pub contains_answer : ℕ → Point → List ℤ → List ℤ → ℕ → PointAnswer

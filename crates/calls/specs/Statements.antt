@@ -1,10 +1,9 @@
 -- Demand 2, of what the calls answer and write, for words of any number and content and under any coordinate limit L. Each statement is proved under its name in lower case in
 -- proofs/Exact.antt, and those of the sets in proofs/Sets.antt.
-use Rattle.std.specs.Prelude.{◌≡◌, Bool, not, List, ◌↔◌, ℕ, ◌<◌, T, length, ℤ}
+use Rattle.std.specs.Prelude.{◌≡◌, Bool, not, List, ◌↔◌, ℕ, ◌<◌, T, length, ℤ, Ok}
 use Rattle.lists.specs.Lists.{All, Any}
 use Rattle.records.specs.Limits.{sized}
 use Rattle.geometry.specs.declared.Trapezoid.{Trapezoid}
-use Rattle.geometry.specs.declared.Checked.TheVariants.{Passed}
 use Rattle.geometry.specs.Points.{Point, IsPoint}
 use Rattle.geometry.specs.Trapezoids.{layer_of, LiesInLayer, Disjoint}
 use Rattle.geometry.specs.Fitness.{first_refusal}
@@ -26,7 +25,7 @@ use Rattle.calls.specs.Transistors.{transistors_outcome}
 -- "row 1 accepts its length and rows 7 to 11 find nothing in its pieces", under the limit of the call that made it or takes it; it may hold overlaps
 pub record WellFormed (L : ℕ) (a : List ℤ) : Type 0 where
   pub size : T (sized (length a))
-  pub rows : first_refusal L 0 (layer_of a) ≡ Passed
+  pub rows : first_refusal L 0 (layer_of a) ≡ Ok tt
 
 -- paper 02 (vi): "to be fit as input is now also to hold no overlap"
 pub record FitAsInput (L : ℕ) (a : List ℤ) : Type 0 where

@@ -1,9 +1,7 @@
 -- What `transistors` answers, and what its list, its output and its scratch area (paper 01: work area) hold then.
-use Rattle.std.specs.Prelude.{◌≡◌, Bool, true, false, ◌&&◌, List, ◌++◌, ℕ, ◌+◌, ◌*◌, leb, length, replicate, ℤ}
+use Rattle.std.specs.Prelude.{◌≡◌, Bool, true, false, ◌&&◌, List, ◌++◌, ℕ, ◌+◌, ◌*◌, leb, length, replicate, ℤ, Result, Ok, Err}
 use Rattle.records.specs.Limits.{sized}
 use Rattle.records.specs.Records.{records_from, image}
-use Rattle.geometry.specs.declared.Checked.{Checked}
-use Rattle.geometry.specs.declared.Checked.TheVariants.{Passed, Refused}
 use Rattle.geometry.specs.Trapezoids.{layer_of}
 use Rattle.geometry.specs.Fitness.{first_refusal}
 use Rattle.overlay.specs.Overlaps.{first_overlap}
@@ -15,19 +13,20 @@ use Rattle.calls.specs.declared.Extracted.{Extracted}
 use Rattle.calls.specs.declared.Extracted.TheVariants as extracted
 use Rattle.calls.specs.Rows.{row, and_then, buffers_sized, both_disjoint}
 use Rattle.calls.specs.Outcomes.{zeros, room_of}
+use Rattle.geometry.specs.declared.Refusal.{Refusal}
 
 -- ---- the rows
 -- rows 7 to 11: "Places are numbered on through collector, base and emitter layers."
-abbrev pub three_checked : ℕ → List ℤ → List ℤ → List ℤ → Checked
+abbrev pub three_checked : ℕ → List ℤ → List ℤ → List ℤ → Result (Unit {0}) Refusal
 three_checked L c b e = first_refusal L 0 (layer_of c ++ (layer_of b ++ layer_of e))
 
 -- row 1, of three layers and of an output and a scratch area of so many words, then rows 7 to 11 under a coordinate limit; the list has any length
-unfoldable pub transistors_checked : ℕ → List ℤ → List ℤ → List ℤ → ℕ → ℕ → Checked
+unfoldable pub transistors_checked : ℕ → List ℤ → List ℤ → List ℤ → ℕ → ℕ → Result (Unit {0}) Refusal
 transistors_checked L c b e out scratch =
     row 1 (sized (length c) && (sized (length b) && (sized (length e) && buffers_sized out scratch))) (three_checked L c b e)
 
 -- row 13, numbered on in the same way
-abbrev pub three_disjoint : List ℤ → List ℤ → List ℤ → Checked
+abbrev pub three_disjoint : List ℤ → List ℤ → List ℤ → Result (Unit {0}) Refusal
 three_disjoint c b e = and_then (both_disjoint c b) (first_overlap (length (layer_of c) + length (layer_of b)) (layer_of e))
 
 -- ---- the answer: "the answer counts triples and cuts", triples in the place of pieces
@@ -57,9 +56,9 @@ abbrev pub list_fits : ℕ → List Triple → Bool
 list_fits n ts = leb (3 * length ts) n
 
 -- "1 to 11 change nothing.", and neither does 13
-abbrev pub transistors_outcome_of : Checked → List Triple → Space → List ℕ → List ℤ → List ℤ → TransistorsOutcome
-transistors_outcome_of (Refused number place) ts s list out scratch = observed_transistors (refused number place) list out scratch
-transistors_outcome_of Passed ts s list out scratch = extracted_in (length list) ts (list_fits (length list) ts) s (length out) (length scratch)
+abbrev pub transistors_outcome_of : Result (Unit {0}) Refusal → List Triple → Space → List ℕ → List ℤ → List ℤ → TransistorsOutcome
+transistors_outcome_of (Err refusal) ts s list out scratch = observed_transistors (refused refusal.number refusal.place) list out scratch
+transistors_outcome_of (Ok u) ts s list out scratch = extracted_in (length list) ts (list_fits (length list) ts) s (length out) (length scratch)
 
 unfoldable pub transistors_outcome : ℕ → List ℤ → List ℤ → List ℤ → List ℕ → List ℤ → List ℤ → TransistorsOutcome
 transistors_outcome L c b e list out scratch =

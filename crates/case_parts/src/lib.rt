@@ -2,8 +2,9 @@
 // What prints answers the error of the first write that failed, and no other; what was printed before it stays, and nothing is lent to it to be changed.
 #![tactic(auto)]
 
-ghost use Rattle.std.specs.Prelude.{◌≡◌, ◌<◌, ◌≤◌, ◌↔◌, IsTrue, All, length, take};
-ghost use Rattle.case_parts.specs.Code.{with_word, with_number};
+ghost use Rattle.std.specs.Prelude.{◌≡◌, ◌+◌, ◌*◌, ◌<◌, ◌≤◌, ◌↔◌, IsTrue, All, pos, length, take, get_or};
+ghost use Rattle.records.specs.Limits.{file_width, memory_width};
+ghost use Rattle.case_parts.specs.Code.{with_word, with_number, stair_x, stair_y, with_stairs, with_pairs, square, Squares};
 
 use std::io;
 
@@ -99,27 +100,26 @@ pub fn put_number(file: &mut [u8], i: usize, n: usize)
 // left, vertices 16 to 31; both have a step at 2, 4, .., 14. So the events are 0, 2, .., 16, with eight columns of one trapezoid.
 fn stair_x(j: usize) -> usize
     requires { j ≤ 31 }
-    ensures { result ≤ 16 }
+    ensures { result ≡ stair_x j }
 {
     if j < 16 {
-        return 2 * ((j + 1) / 2);
+        2 * ((j + 1) / 2)
+    } else {
+        2 * ((32 - j) / 2)
     }
-    2 * ((32 - j) / 2)
 }
 
 fn stair_y(j: usize) -> usize
     requires { j ≤ 31 }
-    ensures { result ≤ 32 }
+    ensures { result ≡ stair_y j }
 {
-    if j < 16 {
-        return 8 - j / 2;
-    }
-    32 - j / 2
+    if j < 16 { 8 - j / 2 } else { 32 - j / 2 }
 }
 
 // Staircases from a word of a file on, 2,112 vertices or as many as fit.
 pub fn stairs(file: &mut [u8], start: usize)
     requires { start ≤ 131 }
+    ensures { file.new ≡ with_stairs 2112 start file.old }
 {
     for i in 0..2112 {
         put_number(file, start + 2 * i, stair_x(i % 32));
@@ -128,7 +128,9 @@ pub fn stairs(file: &mut [u8], start: usize)
 }
 
 // The pairs of 65 polygons with 32 vertices.
-fn pairs(file: &mut [u8]) {
+fn pairs(file: &mut [u8])
+    ensures { file.new ≡ with_pairs 65 file.old }
+{
     for i in 0..65 {
         put_number(file, 2 * i + 1, 32 * i);
         put_number(file, 2 * i + 2, 32);
@@ -138,44 +140,68 @@ fn pairs(file: &mut [u8]) {
 // The file of n staircases.
 pub fn staircases(file: &mut [u8], n: usize)
     requires { n ≤ 65 }
+    ensures { file.new ≡ with_stairs 2112 (2 * n + 1) (with_pairs 65 (with_number file.old 0 n)) }
 {
     put_number(file, 0, n);
     pairs(file);
     stairs(file, 2 * n + 1);
 }
 
-// Word number j of square number k with this set. Its left lower corner is at 4 times column and row, of 32 columns, and its side is 2.
-fn square_word(k: usize, j: usize, sources: i32) -> i32 {
-    let x = 4 * (k % 32);
-    let y = 4 * (k / 32 % 32);
-    match j {
-        4 | 16 | 20 => x as i32,
-        6 => (x + 1) as i32,
-        12 | 18 | 22 => (x + 2) as i32,
-        14 => (x + 3) as i32,
-        17 | 19 => y as i32,
-        21 | 23 => (y + 2) as i32,
-        2 | 7 | 10 | 15 => 1,
-        24 => sources,
-        _ => 0,
-    }
+// Square number k with this set. Its left lower corner is at 4 times column and row, of 32 columns, and its side is 2.
+fn square(k: usize, sources: i32) -> [i32; records::MEMORY_WIDTH]
+    ensures { result ≡ square k sources }
+{
+    let x = (4 * (k % 32)) as i32;
+    let y = (4 * (k / 32 % 32)) as i32;
+    [
+        0,
+        0,
+        1,
+        0,
+        x,
+        0,
+        x + 1,
+        1,
+        0,
+        0,
+        1,
+        0,
+        x + 2,
+        0,
+        x + 3,
+        1,
+        x,
+        y,
+        x + 2,
+        y,
+        x,
+        y + 2,
+        x + 2,
+        y + 2,
+        sources,
+    ]
 }
 
 // Squares of so many words from number 0 on, from a place on to the end.
 fn fill_squares(words: &mut [i32], start: usize, width: usize, sources: i32)
-    requires { 0 < width }
+    requires { (0 < width) × (width ≤ memory_width) }
+    ensures { Squares start width sources words.old words.new }
 {
     for i in start..words.len() {
-        words[i] = square_word((i - start) / width, (i - start) % width, sources);
+        words[i] = square((i - start) / width, sources)[(i - start) % width];
     }
 }
 
 // Squares in memory, all with this set.
-pub fn squares(words: &mut [i32], start: usize, sources: i32) {
+pub fn squares(words: &mut [i32], start: usize, sources: i32)
+    ensures { Squares start memory_width sources words.old words.new }
+{
     fill_squares(words, start, records::MEMORY_WIDTH, sources);
 }
 
 // Squares in a layer file.
-pub fn file_squares(words: &mut [i32], start: usize) {
+pub fn file_squares(words: &mut [i32], start: usize)
+    ensures { Squares start file_width (pos 0) words.old words.new }
+{
     fill_squares(words, start, records::FILE_WIDTH, 0);
 }

@@ -10,15 +10,22 @@ use calls::Fractured;
 use files::{LayersRead, LayersWritten};
 use std::io;
 
+fn show(rt: &impl Print, answer: Fractured) -> io::Result<()> {
+    match answer {
+        Fractured::Refused { number, place } => case_parts::refused(rt, number, place),
+        Fractured::Done { pieces, overlays } => case_parts::done(rt, pieces, overlays),
+    }
+}
+
 // The first bytes as a polygon file.
 fn fracture(rt: &impl Print, file: &[u8], bytes: usize) -> io::Result<()> {
     let mut out = [7i32; records::MAX_WORDS];
     let mut scratch = [7i32; records::MAX_WORDS];
     if bytes <= file.len() {
-        match loxurfa_files::fracture(0, &file[..bytes], &mut out, &mut scratch) {
-            Fractured::Refused { number, place } => case_parts::refused(rt, number, place)?,
-            Fractured::Done { pieces, overlays } => case_parts::done(rt, pieces, overlays)?,
-        }
+        show(
+            rt,
+            loxurfa_files::fracture(0, &file[..bytes], &mut out, &mut scratch),
+        )?;
         case_parts::show_states(rt, &out, &scratch)?;
     }
     Ok(())
@@ -71,10 +78,10 @@ fn source_layer(rt: &impl Print, layer: u32) -> io::Result<()> {
     case_parts::stairs(&mut file, 3);
     let mut out = [7i32; records::MEMORY_WIDTH];
     let mut scratch = [7i32; records::MEMORY_WIDTH];
-    match loxurfa_files::fracture(layer, &file, &mut out, &mut scratch) {
-        Fractured::Refused { number, place } => case_parts::refused(rt, number, place)?,
-        Fractured::Done { pieces, overlays } => case_parts::done(rt, pieces, overlays)?,
-    }
+    show(
+        rt,
+        loxurfa_files::fracture(layer, &file, &mut out, &mut scratch),
+    )?;
     case_parts::show_sources(rt, out[records::FILE_WIDTH])
 }
 

@@ -1,5 +1,5 @@
 -- The order of side numbers: a strict order in which no two numbers are level, so that a rising list of the four numbers is `order_at`.
-use mathlib.Core.Path.{◌≡◌, refl, sym, ◌∙◌, subst}
+use mathlib.Core.Path.{◌≡◌, refl, sym, subst}
 use mathlib.Core.Bool.{Bool, true, false, not, cond}
 use mathlib.Core.List.{List, [], ◌∷◌}
 use mathlib.Core.Logic.{◌⊎◌, inl, inr}
@@ -12,8 +12,8 @@ use Rattle.lists.specs.Lists.{All, Member}
 use Rattle.lists.proofs.Tests.{true_is, false_is, yes_or_no, cond_cases}
 use Rattle.lists.proofs.Lists.{all_map, any_map}
 use Rattle.lists.proofs.Members.{all_member, members}
-use Rattle.integer.specs.declared.Ordering.{Ordering}
-use Rattle.integer.specs.declared.Ordering.TheVariants.{Less, Equal, Greater}
+use Rattle.std.specs.declared.cmp.Ordering.{Ordering}
+use Rattle.std.specs.declared.cmp.Ordering.TheVariants.{Less, Equal, Greater}
 use Rattle.integer.specs.Fraction.{Fraction, Proper, before, mediant}
 use Rattle.integer.proofs.Linear.{zarith}
 use Rattle.integer.proofs.Fraction.{at_most_before_trans, mediant_proper, mediant_after, mediant-before}

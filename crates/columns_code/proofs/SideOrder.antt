@@ -12,8 +12,9 @@ use borrow.Author.Tests.{lt-ltb, le-ltb, eq-eqb, ne_eqb, eqb-true, eqb-false}
 use Rattle.lists.specs.Lists.{All}
 use Rattle.lists.proofs.Tests.{yes_or_no}
 use Rattle.lists.proofs.Lists.{all_at}
-use Rattle.integer.specs.declared.Ordering.{Ordering}
-use Rattle.integer.specs.declared.Ordering.TheVariants.{Less, Equal, Greater}
+use Rattle.std.specs.Ordering.{ordering_reverse, ordering_then, is_lt, nat_cmp}
+use Rattle.std.specs.declared.cmp.Ordering.{Ordering}
+use Rattle.std.specs.declared.cmp.Ordering.TheVariants.{Less, Equal, Greater}
 use Rattle.integer.specs.Fraction.{Fraction, Proper, before}
 use Rattle.geometry.specs.declared.Line.{Line}
 use Rattle.geometry.specs.declared.Trapezoid.{Trapezoid}
@@ -31,7 +32,7 @@ use Rattle.geometry_code.specs.Code.{fraction_of}
 use Rattle.geometry_code.proofs.Branches.{right_meeting}
 use Rattle.trapezoids_code.specs.Placed.{PlacedAs}
 use Rattle.overlaps_code.specs.Code.{MeetingsOf}
-use Rattle.columns_code.specs.Order.{HasSides, line_of_side, present_by, less_by, reverse, number_less, order_at, passing}
+use Rattle.columns_code.specs.Order.{HasSides, line_of_side, present_by, less_by, number_less, order_at, passing}
 use Rattle.columns_code.specs.Code.{SmallMeetings, OrdersBy, OrdersAt, ColumnAt, FourNumbers, FourSides, exchanged, Exchanged}
 use Rattle.columns_code.proofs.NumberOrder.{own_below}
 use Rattle.columns_code.proofs.Exchanges.{Four, four_list, exchange01, exchange23, exchange02, exchange13, exchange12, sort01, sort23, sort02, sort13, sort12, network}
@@ -80,7 +81,7 @@ orders_exact ha hb h k hx ea eb = record {
   second = own_order hb _ hx eb;
 }
 
-right_reverse : (x : Fraction) (l m : Line) → reverse (right_of x l m) ≡ right_of x m l
+right_reverse : (x : Fraction) (l m : Line) → ordering_reverse (right_of x l m) ≡ right_of x m l
 right_reverse x l m = elim (yes_or_no (below x l m)) [
   | inl h ↦ rw (right_less x l m h) (sym (right_greater x m l h))
   | inr h ↦ elim (yes_or_no (below x m l)) [
@@ -102,8 +103,8 @@ module _ (A B : Trapezoid) (x : Fraction) (i j : ℕ) where
   pub order_last : 3 ≤ i → i < j → Equal ≡ right_of x (line_of_side A B i) (line_of_side A B j)
   order_last h l = right_itself x (line_of_side A B 3) ∙ ap₂ (right_of x) (side_last A B i h) (side_last A B j (omega arith))
 
-  pub order_turned : {o r : Ordering} → r ≡ reverse o → o ≡ right_of x (line_of_side A B j) (line_of_side A B i) → r ≡ right_of x (line_of_side A B i) (line_of_side A B j)
-  order_turned e f = e ∙ ap reverse f ∙ right_reverse x (line_of_side A B j) (line_of_side A B i)
+  pub order_turned : {o r : Ordering} → r ≡ ordering_reverse o → o ≡ right_of x (line_of_side A B j) (line_of_side A B i) → r ≡ right_of x (line_of_side A B i) (line_of_side A B j)
+  order_turned e f = e ∙ ap ordering_reverse f ∙ right_reverse x (line_of_side A B j) (line_of_side A B i)
 
   pub order_same : i ≡ j → Equal ≡ right_of x (line_of_side A B i) (line_of_side A B j)
   order_same e = right_itself x (line_of_side A B i) ∙ ap (λ (k : ℕ). right_of x (line_of_side A B i) (line_of_side A B k)) e
@@ -133,14 +134,28 @@ module _ (A B : Trapezoid) (p : Fraction) (fa fb : Bool) (i j : ℕ) where
   unfolding number_less
   less_both o r e f oe re = re ∙ ap (λ (o : Ordering). less_by o (ltb i j)) oe ∙ rw (e, f)
 
+  -- by their order, then by number
+  pub less_then : (o : Ordering) → present_by fa fb i ≡ true → present_by fa fb j ≡ true → o ≡ right_of p (line_of_side A B i) (line_of_side A B j) → is_lt (ordering_then o (nat_cmp i j)) ≡ number_less A B p fa fb i j
+  less_then o e f oe = less_both o (is_lt (ordering_then o (nat_cmp i j))) e f oe (by_number o)
+    where
+      tested : (s t : Bool) → is_lt (cond s Less (cond t Equal Greater)) ≡ s
+      tested true t = refl
+      tested false true = refl
+      tested false false = refl
+
+      by_number : (o : Ordering) → is_lt (ordering_then o (nat_cmp i j)) ≡ less_by o (ltb i j)
+      by_number Less = refl
+      by_number Equal = tested (ltb i j) (eqb i j)
+      by_number Greater = refl
+
   -- by the order of the side with the lower number and the other
   pub less_up : (o : Ordering) (r : Bool) → i < j → present_by fa fb i ≡ true → present_by fa fb j ≡ true → o ≡ right_of p (line_of_side A B i) (line_of_side A B j) → r ≡ less_by o true → r ≡ number_less A B p fa fb i j
   less_up o r l e f oe re = less_both o r e f oe (re ∙ ap (less_by o) (sym (lt-ltb i j l)))
 
   pub less_down : (o : Ordering) (r : Bool) → j < i → present_by fa fb i ≡ true → present_by fa fb j ≡ true → o ≡ right_of p (line_of_side A B j) (line_of_side A B i) → r ≡ less_by o true → not r ≡ number_less A B p fa fb i j
-  less_down o r l e f oe re = less_both (reverse o) (not r) e f (order_turned A B p i j refl oe) (ap not re ∙ turned o ∙ ap (less_by (reverse o)) (sym (le-ltb i j (omega (arith, l)))))
+  less_down o r l e f oe re = less_both (ordering_reverse o) (not r) e f (order_turned A B p i j refl oe) (ap not re ∙ turned o ∙ ap (less_by (ordering_reverse o)) (sym (le-ltb i j (omega (arith, l)))))
     where
-      turned : (o : Ordering) → not (less_by o true) ≡ less_by (reverse o) false
+      turned : (o : Ordering) → not (less_by o true) ≡ less_by (ordering_reverse o) false
       turned Less = refl
       turned Equal = refl
       turned Greater = refl

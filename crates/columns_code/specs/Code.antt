@@ -1,8 +1,8 @@
 -- The meetings and the orders of four sides, which of them is in front, the state of a column, and exchanges in its order.
 use Rattle.std.specs.Prelude.{◌≡◌, List, ◌⊎◌, Bool, true, cond, ℕ, ◌<◌, length, get_or, set}
 use Rattle.lists.specs.Lists.{All}
-use Rattle.integer.specs.declared.Ordering.{Ordering}
-use Rattle.integer.specs.declared.Ordering.TheVariants.{Less}
+use Rattle.std.specs.declared.cmp.Ordering.{Ordering}
+use Rattle.std.specs.declared.cmp.Ordering.TheVariants.{Less}
 use Rattle.integer.specs.Fraction.{Fraction}
 use Rattle.geometry.specs.declared.Trapezoid.{Trapezoid}
 use Rattle.geometry.specs.Limit.{coordinate_limit}

@@ -2,8 +2,8 @@
 -- position, and by that order the trapezoids of a column that have one tag.
 use Rattle.std.specs.Prelude.{◌≡◌, Bool, true, false, cond, List, [], ◌∷◌, ℕ, eqb, ltb}
 use Rattle.lists.specs.Lists.{All, Any}
-use Rattle.integer.specs.declared.Ordering.{Ordering}
-use Rattle.integer.specs.declared.Ordering.TheVariants.{Less, Equal, Greater}
+use Rattle.std.specs.declared.cmp.Ordering.{Ordering}
+use Rattle.std.specs.declared.cmp.Ordering.TheVariants.{Less, Equal, Greater}
 use Rattle.integer.specs.Fraction.{Fraction}
 use Rattle.levels.specs.Levels.{levels}
 use Rattle.geometry.specs.declared.Line.{Line}
@@ -33,12 +33,6 @@ abbrev pub less_by : Ordering → Bool → Bool
 less_by Less t = true
 less_by Equal t = t
 less_by Greater t = false
-
--- of the lines taken the other way round
-abbrev pub reverse : Ordering → Ordering
-reverse Less = Greater
-reverse Equal = Equal
-reverse Greater = Less
 
 -- of sides that are present or not: present ones come first; s if both are, and t if neither is
 abbrev pub present_first : Bool → Bool → Bool → Bool → Bool

@@ -6,8 +6,8 @@ use lib.Dec.{T, T_not}
 use lib.IntN.{ℤ, pos}
 use lib.Signed.{◌≤ℤ◌, ◌<ℤ◌, clash_ℤ}
 use Rattle.lists.proofs.Tests.{yes_or_no}
-use Rattle.integer.specs.declared.Ordering.{Ordering}
-use Rattle.integer.specs.declared.Ordering.TheVariants.{Less, Equal, Greater}
+use Rattle.std.specs.declared.cmp.Ordering.{Ordering}
+use Rattle.std.specs.declared.cmp.Ordering.TheVariants.{Less, Equal, Greater}
 use Rattle.integer.specs.Integer.{◌⊕◌, ◌⊖◌, ◌⊗◌}
 use Rattle.integer.specs.Fraction.{Fraction, Proper, before, mediant}
 use Rattle.integer.proofs.Ring.{ring, ◌⊞◌, ◌⊟◌, ◌⊠◌, con, ◌≗◌}

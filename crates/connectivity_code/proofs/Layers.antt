@@ -1,5 +1,5 @@
 -- Trapezoids of a layer's words, by their numbers.
-use mathlib.Core.Path.{◌≡◌, refl, sym, ◌∙◌, ap, ap₂, subst}
+use mathlib.Core.Path.{◌≡◌, sym, ◌∙◌, ap, ap₂, subst}
 use mathlib.Core.Bool.{Bool, true, false}
 use mathlib.Core.List.{List}
 use Prim.Native.Nat.{ℕ, zero, suc, ◌+◌, ◌<◌}
@@ -19,12 +19,10 @@ use Rattle.geometry.specs.Trapezoids.{trapezoid_codec, layer_of}
 use Rattle.geometry.proofs.Layers.{all_record}
 use Rattle.connectivity.specs.Touching.{touches}
 use Rattle.connectivity.specs.Components.{own_numbers, joined_all, owners, touching_at, component_numbers, component_count}
-use Rattle.connectivity.proofs.Joining.{length_own}
 use Rattle.boxes.specs.declared.Box.{Box}
 use Rattle.boxes.specs.Boxes.{box_of, boxes_apart}
 use Rattle.boxes.proofs.Rejecting.{no_touch}
 use Rattle.boxes_code.specs.Code.{box_at, BoxesOf}
-use Rattle.connectivity_code.proofs.Loops.{length_all}
 
 test_from : (f : Trapezoid → Bool) (n : ℕ) (s : List ℤ) (k i : ℕ) → i < n → test_at f (records_from trapezoid_codec n s k) i ≡ f (record_at trapezoid_codec s (k + i))
 unfolding records_from
@@ -59,9 +57,6 @@ module _ (s : List ℤ) (d₀ : List ℕ) {d₁ d₂ : List ℕ} (one : length d
   unfolding component_numbers
   numbers_are = all ∙ ap (joined_all (touching_at (layer_of s)) (count trapezoid_codec s)) (own ∙ ap own_numbers one) ∙ sym (ap (λ (n : ℕ). joined_all (touching_at (layer_of s)) n (own_numbers n)) (length-layer s))
 
-  pub numbers_length : length d₂ ≡ count trapezoid_codec s
-  numbers_length = ap length all ∙ length_all (touching_at (layer_of s)) (count trapezoid_codec s) d₁ ∙ ap length own ∙ length_own (length d₀) ∙ one
-
-  pub count_is : {r : ℕ} → r ≡ length (owners d₂ (length d₂)) → r ≡ component_count (layer_of s)
+  pub count_is : length d₂ ≡ count trapezoid_codec s → {r : ℕ} → r ≡ length (owners d₂ (length d₂)) → r ≡ component_count (layer_of s)
   unfolding component_count
-  count_is e = e ∙ ap (λ (n : ℕ). length (owners d₂ n)) (numbers_length ∙ sym (length-layer s)) ∙ ap (λ (d : List ℕ). length (owners d (length (layer_of s)))) numbers_are
+  count_is l e = e ∙ ap (λ (n : ℕ). length (owners d₂ n)) (l ∙ sym (length-layer s)) ∙ ap (λ (d : List ℕ). length (owners d (length (layer_of s)))) numbers_are

@@ -1,69 +1,47 @@
 -- The loops over component numbers: what holds before each turn, that a turn keeps it, and what it says at the end.
 use mathlib.Core.Path.{◌≡◌, refl, sym, ◌∙◌, ap}
 use mathlib.Core.Bool.{Bool, true, false, cond}
-use mathlib.Core.List.{List, [], ◌∷◌, ◌++◌, append_assoc, append-nil}
+use mathlib.Core.List.{List, [], ◌∷◌, ◌++◌, append_assoc}
 use Prim.Native.Nat.{ℕ, zero, suc, ◌+◌, ◌-◌, ◌<◌, ◌≤◌, max, min}
 use native.Mathlib.Numerals.{add-one}
 use native.Mathlib.Omega.{arith}
 use lib.Dec.{T, eqb, eqb→eq}
-use lib.ListN.{length, set, take, drop, length-set}
-use lib.Seq.{take-length, drop-length, drop-cons, set_at}
+use Rattle.std.specs.List.{filter, enumerate_from}
+use Rattle.std.proofs.lemmas.List.Filters.{length-filter_more}
+use Rattle.std.proofs.lemmas.List.FromFn.{length-enumerate_from, get_or-enumerate_from}
+use native.Mathlib.Nat.{add-zero, zero-add}
+use lib.ListN.{length, set, take, drop}
+use lib.Seq.{drop-cons, set_at, take-length}
+use borrow.Author.Tests.{eq-eqb, ne_eqb}
 use Rattle.connectivity.specs.Components.{number_at, own_numbers, relabelled, joined_numbers, joined_if, joined_first, joined_all, cons_if, owners}
-use Rattle.connectivity.proofs.Joining.{length_own, length-joined}
+use Rattle.connectivity.proofs.Joining.{length_own}
 
 -- ---- each its own number
-pub record Owned (d₀ d : List ℕ) (i : ℕ) : Type 0 where
-  pub upto : i ≤ length d₀
-  pub is : d ≡ own_numbers i ++ drop i d₀
-  pub long : length d ≡ length d₀
-
-pub number_start : (d₀ : List ℕ) → Owned d₀ d₀ 0
+pub number_turn : (d₀ d : List ℕ) (i : ℕ) → d ≡ own_numbers i ++ drop i d₀ → i < length d₀ → set d i i ≡ own_numbers (i + 1) ++ drop (i + 1) d₀
 unfolding own_numbers
-number_start d₀ = record { upto = omega arith; is = refl; long = refl }
-
-own_suc : (d₀ : List ℕ) (i : ℕ) → i < length d₀ → set (own_numbers i ++ drop i d₀) i i ≡ own_numbers (suc i) ++ drop (suc i) d₀
-unfolding own_numbers
-own_suc d₀ i l =
-    ap (λ (t : List ℕ). set (own_numbers i ++ t) i i) (drop-cons d₀ i 0 l)
+number_turn d₀ d i h l =
+    ap (λ (e : List ℕ). set e i i) (h ∙ ap (λ (t : List ℕ). own_numbers i ++ t) (drop-cons d₀ i 0 l))
     ∙ set_at (own_numbers i) (number_at d₀ i) (drop (suc i) d₀) i i (length_own i)
     ∙ sym (append_assoc (own_numbers i) (i ∷ []) (drop (suc i) d₀))
-
-pub number_turn : {d₀ d : List ℕ} {i : ℕ} → Owned d₀ d i → i < length d → Owned d₀ (set d i i) (i + 1)
-number_turn {d₀} {d} {i} h l =
-    let k : i < length d₀ = omega (arith, h.long) in
-    record { upto = omega arith; is = rw (h.is, add-one) (own_suc d₀ i k); long = length-set d i i ∙ h.long }
-
-pub number_stop : {d₀ d : List ℕ} {i : ℕ} → Owned d₀ d i → length d ≤ i → d ≡ own_numbers (length d₀)
-number_stop {d₀} {d} {i} h l = let e : i ≡ length d₀ = omega (arith, h.long, h.upto) in h.is ∙ rw (e, drop-length, append-nil)
+    ∙ ap (λ (k : ℕ). own_numbers k ++ drop k d₀) (sym (add-one i))
 
 -- ---- each `from` becomes `to`
-pub record Relabelled (from to : ℕ) (d₀ d : List ℕ) (i : ℕ) : Type 0 where
-  pub upto : i ≤ length d₀
-  pub is : d ≡ relabelled from to (take i d₀) ++ drop i d₀
-  pub long : length d ≡ length d₀
-
-pub relabel_start : (from to : ℕ) (d₀ : List ℕ) → Relabelled from to d₀ d₀ 0
-unfolding relabelled
-relabel_start from to d₀ = record { upto = omega arith; is = refl; long = refl }
-
--- an entry renamed
-abbrev pub renamed_at : ℕ → ℕ → List ℕ → ℕ → ℕ
-renamed_at from to d i = cond (eqb (number_at d i) from) to (number_at d i)
-
 relabel_suc : (from to : ℕ) (d : List ℕ) (i : ℕ) → i < length d
-    → set (relabelled from to (take i d) ++ drop i d) i (renamed_at from to (relabelled from to (take i d) ++ drop i d) i) ≡ relabelled from to (take (suc i) d) ++ drop (suc i) d
+    → let e = relabelled from to (take i d) ++ drop i d in set e i (cond (eqb (number_at e i) from) to (number_at e i)) ≡ relabelled from to (take (suc i) d) ++ drop (suc i) d
 unfolding relabelled
 relabel_suc from to [] i l = absurd (omega arith)
 relabel_suc from to (x ∷ d) zero l = refl
 relabel_suc from to (x ∷ d) (suc i) l = ap (λ (t : List ℕ). cond (eqb x from) to x ∷ t) (relabel_suc from to d i (omega arith))
 
-pub relabel_turn : {from to : ℕ} {d₀ d : List ℕ} {i x : ℕ} → Relabelled from to d₀ d i → i < length d → x ≡ renamed_at from to d i → Relabelled from to d₀ (set d i x) (i + 1)
-relabel_turn {from} {to} {d₀} {d} {i} {x} h l e =
-    let k : i < length d₀ = omega (arith, h.long) in
-    record { upto = omega arith; is = ap (set d i) e ∙ rw (h.is, add-one) (relabel_suc from to d₀ i k); long = length-set d i x ∙ h.long }
+module _ (from to : ℕ) (d₀ d : List ℕ) (i : ℕ) (h : d ≡ relabelled from to (take i d₀) ++ drop i d₀) (l : i < length d₀) where
+  relabel_turn : {x : ℕ} → x ≡ cond (eqb (number_at d i) from) to (number_at d i) → set d i x ≡ relabelled from to (take (i + 1) d₀) ++ drop (i + 1) d₀
+  relabel_turn e = ap (set d i) e ∙ rw (h, add-one) (relabel_suc from to d₀ i l)
 
-pub relabel_stop : {from to : ℕ} {d₀ d : List ℕ} {i : ℕ} → Relabelled from to d₀ d i → length d ≤ i → d ≡ relabelled from to d₀
-relabel_stop {from} {to} {d₀} {d} {i} h l = let e : i ≡ length d₀ = omega (arith, h.long, h.upto) in h.is ∙ rw (e, take-length, drop-length, append-nil)
+  pub relabel_from : number_at d i ≡ from → set d i to ≡ relabelled from to (take (i + 1) d₀) ++ drop (i + 1) d₀
+  relabel_from e = relabel_turn (sym (rw (eq-eqb (number_at d i) from e)))
+
+  pub relabel_other : (number_at d i ≡ from → ⊥) → set d i (number_at d i) ≡ relabelled from to (take (i + 1) d₀) ++ drop (i + 1) d₀
+  relabel_other n = relabel_turn (sym (rw (ne_eqb (number_at d i) from n)))
 
 -- ---- two numbers become one
 same_label : (b : Bool) (n a : ℕ) → (T b → n ≡ a) → cond b a n ≡ n
@@ -75,57 +53,24 @@ unfolding relabelled
 relabelled_same a [] = refl
 relabelled_same a (n ∷ ns) = rw (same_label (eqb n a) n a (eqb→eq n a), relabelled_same a ns)
 
-module _ (i j : ℕ) (ns : List ℕ) where
-  pub join_less : number_at ns i < number_at ns j → {d : List ℕ} → d ≡ relabelled (number_at ns j) (number_at ns i) ns → d ≡ joined_numbers i j ns
-  unfolding joined_numbers
-  join_less l e =
-      let m : max (number_at ns i) (number_at ns j) ≡ number_at ns j = omega arith in
-      let o : min (number_at ns i) (number_at ns j) ≡ number_at ns i = omega arith in
-      e ∙ sym (rw (m, o))
-
-  pub join_more : number_at ns j < number_at ns i → {d : List ℕ} → d ≡ relabelled (number_at ns i) (number_at ns j) ns → d ≡ joined_numbers i j ns
-  unfolding joined_numbers
-  join_more l e =
-      let m : max (number_at ns i) (number_at ns j) ≡ number_at ns i = omega arith in
-      let o : min (number_at ns i) (number_at ns j) ≡ number_at ns j = omega arith in
-      e ∙ sym (rw (m, o))
-
-  pub join_same : number_at ns j ≤ number_at ns i → number_at ns i ≤ number_at ns j → ns ≡ joined_numbers i j ns
-  unfolding joined_numbers
-  join_same k l =
-      let m : max (number_at ns i) (number_at ns j) ≡ number_at ns i = omega arith in
-      let o : min (number_at ns i) (number_at ns j) ≡ number_at ns i = omega arith in
-      sym (rw (m, o) (relabelled_same (number_at ns i) ns))
-
 -- nothing is to be done where the numbers agree
 agree_if : (b : Bool) (i j : ℕ) (ns : List ℕ) → number_at ns i ≡ number_at ns j → ns ≡ joined_if b i j ns
-agree_if true i j ns e = join_same i j ns (omega (arith, e)) (omega (arith, e))
+unfolding joined_numbers
+agree_if true i j ns e =
+    let m : max (number_at ns i) (number_at ns j) ≡ number_at ns i = omega arith in
+    let o : min (number_at ns i) (number_at ns j) ≡ number_at ns i = omega arith in
+    sym (rw (m, o) (relabelled_same (number_at ns i) ns))
 agree_if false i j ns e = refl
 
 -- ---- one with those before it
-length_if : (b : Bool) (i j : ℕ) (ns : List ℕ) → length (joined_if b i j ns) ≡ length ns
-length_if true i j ns = length-joined i j ns
-length_if false i j ns = refl
-
 module _ (test : ℕ → ℕ → Bool) where
-  length_first : (i j : ℕ) (ns : List ℕ) → length (joined_first test i j ns) ≡ length ns
-  unfolding joined_first
-  length_first i zero ns = refl
-  length_first i (suc j) ns = length_if (test i j) i j (joined_first test i j ns) ∙ length_first i j ns
-
-  pub length_all : (i : ℕ) (ns : List ℕ) → length (joined_all test i ns) ≡ length ns
-  unfolding joined_all
-  length_all zero ns = refl
-  length_all (suc i) ns = length_first i i (joined_all test i ns) ∙ length_all i ns
-
   pub record Earlier (i : ℕ) (d₀ d : List ℕ) (j : ℕ) : Type 0 where
     pub upto : j ≤ i
     pub is : d ≡ joined_first test i j d₀
-    pub long : length d ≡ length d₀
 
   pub earlier_start : (i : ℕ) (d₀ : List ℕ) → Earlier i d₀ d₀ 0
   unfolding joined_first
-  earlier_start i d₀ = record { upto = omega arith; is = refl; long = refl }
+  earlier_start i d₀ = record { upto = omega arith; is = refl }
 
   first_suc : (i j : ℕ) (d₀ : List ℕ) → joined_first test i (j + 1) d₀ ≡ joined_if (test i j) i j (joined_first test i j d₀)
   unfolding joined_first
@@ -136,7 +81,6 @@ module _ (test : ℕ → ℕ → Bool) where
       record {
         upto = omega arith;
         is = g ∙ ap (λ (t : Bool). joined_if t i j d) f ∙ ap (joined_if (test i j) i j) h.is ∙ sym (first_suc i j d₀);
-        long = ap length g ∙ length_if b i j d ∙ h.long;
       }
 
   pub earlier_agree : {i j : ℕ} {d₀ d e : List ℕ} → Earlier i d₀ d j → j < i → number_at d i ≡ number_at d j → e ≡ d → Earlier i d₀ e (j + 1)
@@ -158,66 +102,33 @@ module _ (test : ℕ → ℕ → Bool) where
       record {
         upto = m;
         is = h.is ∙ sym (ap (λ (k : ℕ). joined_first test i k d₀) (sym e) ∙ first_skip i j (r - j) d₀ (λ k u v. f k u (omega (arith, v, e))));
-        long = h.long;
       }
 
-  pub earlier_stop : {i j : ℕ} {d₀ d : List ℕ} → Earlier i d₀ d j → i ≤ j → d ≡ joined_first test i i d₀
-  earlier_stop {i} {j} {d₀} {d} h l = let e : j ≡ i = omega (arith, h.upto) in h.is ∙ ap (λ (k : ℕ). joined_first test i k d₀) e
-
   -- ---- each in turn
-  pub record Turned (n : ℕ) (d₀ d : List ℕ) (i : ℕ) : Type 0 where
-    pub upto : i ≤ n
-    pub is : d ≡ joined_all test i d₀
-    pub long : length d ≡ length d₀
-
-  pub turned_start : (n : ℕ) (d₀ : List ℕ) → Turned n d₀ d₀ 0
-  unfolding joined_all
-  turned_start n d₀ = record { upto = omega arith; is = refl; long = refl }
-
-  all_suc : (i : ℕ) (d₀ : List ℕ) → joined_all test (i + 1) d₀ ≡ joined_first test i i (joined_all test i d₀)
+  pub all_suc : (i : ℕ) (d₀ : List ℕ) → joined_all test (i + 1) d₀ ≡ joined_first test i i (joined_all test i d₀)
   unfolding joined_all
   all_suc i d₀ = rw add-one
 
-  pub turned_turn : {n i : ℕ} {d₀ d e : List ℕ} → Turned n d₀ d i → i < n → e ≡ joined_first test i i d → Turned n d₀ e (i + 1)
-  turned_turn {n} {i} {d₀} {d} {e} h l g =
-      record {
-        upto = omega arith;
-        is = g ∙ ap (joined_first test i i) h.is ∙ sym (all_suc i d₀);
-        long = ap length g ∙ length_first i i d ∙ h.long;
-      }
-
-  pub turned_stop : {n i : ℕ} {d₀ d : List ℕ} → Turned n d₀ d i → n ≤ i → d ≡ joined_all test n d₀
-  turned_stop {n} {i} {d₀} {d} h l = let e : i ≡ n = omega (arith, h.upto) in h.is ∙ ap (λ (k : ℕ). joined_all test k d₀) e
-
 -- ---- how many have their own number
-pub record Counted (ns : List ℕ) (n i : ℕ) : Type 0 where
-  pub upto : i ≤ length ns
-  pub is : n ≡ length (owners ns i)
-  pub most : n ≤ i
+-- a place with the number there
+abbrev pub is_own : ℕ × ℕ → Bool
+is_own p = eqb p.1 p.0
 
-pub count_start : (ns : List ℕ) → Counted ns 0 0
-unfolding owners
-count_start ns = record { upto = omega arith; is = refl; most = omega arith }
-
-length_cons : (b : Bool) (i : ℕ) (ns : List ℕ) → cond b (length ns + 1) (length ns) ≡ length (cons_if b i ns)
+length_cons : (b : Bool) (i : ℕ) (ns : List ℕ) → length ns + cond b 1 0 ≡ length (cons_if b i ns)
 length_cons true i ns = add-one (length ns)
-length_cons false i ns = refl
+length_cons false i ns = add-zero (length ns)
 
-owners_suc : (ns : List ℕ) (i : ℕ) → length (owners ns (i + 1)) ≡ cond (eqb (number_at ns i) i) (length (owners ns i) + 1) (length (owners ns i))
+own_upto : (ns : List ℕ) (i : ℕ) → i ≤ length ns → length (filter is_own (take i (enumerate_from 0 ns))) ≡ length (owners ns i)
 unfolding owners
-owners_suc ns i = rw add-one (sym (length_cons (eqb (number_at ns i) i) i (owners ns i)))
+own_upto ns zero l = refl
+own_upto ns (suc i) l =
+    rw add-one at (length-filter_more is_own (enumerate_from 0 ns) i (0, 0) (omega (arith, l, length-enumerate_from 0 ns)))
+    ∙ ap (λ (p : ℕ × ℕ). length (filter is_own (take i (enumerate_from 0 ns))) + cond (is_own p) 1 0) (get_or-enumerate_from 0 ns i (0, 0) l ∙ ap (λ (k : ℕ). (k, number_at ns i)) (zero-add i))
+    ∙ ap (λ (n : ℕ). n + cond (eqb (number_at ns i) i) 1 0) (own_upto ns i (omega arith))
+    ∙ length_cons (eqb (number_at ns i) i) i (owners ns i)
 
-more_most : (b : Bool) (n i : ℕ) → n ≤ i → cond b (n + 1) n ≤ i + 1
-more_most true n i l = omega arith
-more_most false n i l = omega arith
-
-pub count_turn : {ns : List ℕ} {n i m : ℕ} → Counted ns n i → i < length ns → m ≡ cond (eqb (number_at ns i) i) (n + 1) n → Counted ns m (i + 1)
-count_turn {ns} {n} {i} {m} h l e =
-    record {
-      upto = omega arith;
-      is = e ∙ ap (λ (k : ℕ). cond (eqb (number_at ns i) i) (k + 1) k) h.is ∙ sym (owners_suc ns i);
-      most = omega (arith, e, more_most (eqb (number_at ns i) i) n i h.most);
-    }
-
-pub count_stop : {ns : List ℕ} {n i : ℕ} → Counted ns n i → length ns ≤ i → (n ≡ length (owners ns (length ns))) × (n ≤ length ns)
-count_stop {ns} {n} {i} h l = let e : i ≡ length ns = omega (arith, h.upto) in (h.is ∙ ap (λ (k : ℕ). length (owners ns k)) e, omega (arith, h.most, e))
+pub own_all : (ns : List ℕ) → length (filter is_own (enumerate_from 0 ns)) ≡ length (owners ns (length ns))
+own_all ns = ap (λ (ps : List (ℕ × ℕ)). length (filter is_own ps)) (sym (take-all-of ns)) ∙ own_upto ns (length ns) (omega arith)
+  where
+    take-all-of : (ns : List ℕ) → take (length ns) (enumerate_from 0 ns) ≡ enumerate_from 0 ns
+    take-all-of ns = ap (λ (n : ℕ). take n (enumerate_from 0 ns)) (sym (length-enumerate_from 0 ns)) ∙ take-length (enumerate_from 0 ns)

@@ -1,4 +1,5 @@
 -- A difference in a blank buffer: what its answer counts, and its trapezoids cleared again.
+use Rattle.std.specs.Prelude.{Result, Ok, Err}
 use mathlib.Core.Path.{◌≡◌, refl, sym, ◌∙◌, ap, subst}
 use mathlib.Core.List.{List, [], ◌∷◌, ◌++◌}
 use Prim.Native.Nat.{ℕ, ◌+◌, ◌*◌, ◌-◌, ◌≤◌}
@@ -14,28 +15,25 @@ use Rattle.geometry.specs.Trapezoids.{layer_of}
 use Rattle.sources.specs.Sourced.{Sourced, sourced_codec, sourced_of}
 use Rattle.sources.proofs.Sourced.{sourced_faithful}
 use Rattle.boolean.specs.declared.Folded.{Folded}
-use Rattle.boolean.specs.declared.Folded.TheVariants.{NoRoom, Done}
 use Rattle.boolean.specs.Space.{Stage, difference_stages}
 use Rattle.boolean.specs.Sources.{sourced_difference}
+use Rattle.boolean.specs.declared.NoRoom.{NoRoom}
+use Rattle.boolean.specs.Folds.{folded}
 use Rattle.bearing_code.specs.Code.{SourcedAs}
 use Rattle.difference_code.proofs.Folds.{difference-count}
 use Rattle.counted_difference_code.specs.Code.{DifferenceCounted}
 
 -- ---- what it counts
-pub folded_counted : (n room : ℕ) (s : List ℤ) (B : List Trapezoid) (r : Folded) (t : List ℤ) → SourcedAs n room (sourced_difference (sourced_of s) B) (difference_stages 0 (layer_of s) B) r t → DifferenceCounted room (layer_of s) B r
-folded_counted n room s B (NoRoom c) t g = g.0
-folded_counted n room s B (Done p c) t g = (g.0, g.1.0 ∙ difference-count s B)
-
--- by which case the answer is
-pub counted_known : (room : ℕ) (A B : List Trapezoid) (f r : Folded) → f ≡ r → DifferenceCounted room A B f → DifferenceCounted room A B r
-counted_known room A B f r e g = subst (DifferenceCounted room A B) e g
+pub folded_counted : (n room : ℕ) (s : List ℤ) (B : List Trapezoid) (r : Result Folded NoRoom) (t : List ℤ) → SourcedAs n room (sourced_difference (sourced_of s) B) (difference_stages 0 (layer_of s) B) r t → DifferenceCounted room (layer_of s) B r
+folded_counted n room s B (Err r) t g = g.0
+folded_counted n room s B (Ok p) t g = (g.0, g.1.0 ∙ difference-count s B)
 
 pub none_left : (ts : List Trapezoid) → length ts ≡ 0 → ts ≡ []
 none_left [] e = refl
 none_left (t ∷ ts) e = absurd (omega (arith, e))
 
 -- ---- cleared again
-module _ (n room : ℕ) (ts : List Sourced) (ms : List Stage) (p c : ℕ) (t : List ℤ) (g : SourcedAs n room ts ms (Done p c) t) (long : length t ≡ n) (wide : memory_width * room ≤ n) where
+module _ (n room : ℕ) (ts : List Sourced) (ms : List Stage) (p c : ℕ) (t : List ℤ) (g : SourcedAs n room ts ms (folded p c) t) (long : length t ≡ n) (wide : memory_width * room ≤ n) where
   pub left_words : memory_width * p ≤ length t
   left_words = omega (arith, g.1.0, g.1.1, long, wide)
 

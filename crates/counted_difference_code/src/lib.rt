@@ -10,7 +10,7 @@ ghost use Rattle.boxes_code.specs.Code.{BoxedLayer};
 ghost use Rattle.remainder_code.specs.Code.{overlays_of_layer, OverlaysWithin, ScratchFor};
 ghost use Rattle.counted_difference_code.specs.Code.{DifferenceCounted};
 
-use boolean::Folded;
+use boolean::{Folded, NoRoom};
 
 // How many trapezoids the first layer minus the second has, and the overlays it takes. `out` and `scratch` are left blank.
 pub fn difference_counted(
@@ -21,7 +21,7 @@ pub fn difference_counted(
     out: &mut [i32],
     scratch: &mut [i32],
     room: usize,
-) -> Folded
+) -> Result<Folded, NoRoom>
     requires boxed_layer { BoxedLayer first.now first_boxes.now × BoxedLayer second.now second_boxes.now }
     requires borrowed { Borrowed out.old room × (room ≤ max_records) }
     requires scratch_for { ScratchFor out.old scratch.old }
@@ -38,14 +38,7 @@ pub fn difference_counted(
         out,
         scratch,
         room,
-    );
-    let Folded::Done {
-        trapezoids,
-        overlays: _,
-    } = f
-    else {
-        return f;
-    };
-    records_code::clear(&mut out[..records::MEMORY_WIDTH * trapezoids]);
-    f
+    )?;
+    out[..records::MEMORY_WIDTH * f.trapezoids].fill(0);
+    Ok(f)
 }

@@ -1,4 +1,5 @@
 -- A layer deoverlapped: a fold that adds each trapezoid minus what stands, with its set.
+use Rattle.std.specs.Prelude.{Some, Result}
 use mathlib.Core.Path.{◌≡◌, refl, sym, ◌∙◌, ap, subst}
 use mathlib.Core.List.{List, [], ◌∷◌, ◌++◌}
 use Prim.Native.Nat.{ℕ, ◌+◌, ◌*◌, ◌-◌, ◌<◌, ◌≤◌}
@@ -15,16 +16,16 @@ use Rattle.geometry.specs.declared.Trapezoid.{Trapezoid}
 use Rattle.geometry.specs.Limit.{coordinate_limit}
 use Rattle.geometry.specs.Fitness.{FitFor}
 use Rattle.geometry.specs.Trapezoids.{trapezoid_codec, layer_of}
-use Rattle.geometry.specs.declared.Fill.TheVariants.{Written}
-use Rattle.sources.specs.Sourced.{Sourced, sourced_codec, sourced_of, shapes, bearing}
+use Rattle.sources.specs.Sourced.{Sourced, sourced_codec, sourced_of, sources_at, shapes, bearing}
 use Rattle.sources.proofs.Sourced.{sourced_at, shapes-from, shapes_of, shapes_append, shapes-length, shapes-bearing}
 use Rattle.boolean.specs.declared.Folded.{Folded}
-use Rattle.boolean.specs.declared.Folded.TheVariants.{NoRoom, Done}
 use Rattle.boolean.specs.Operations.{minus_all}
 use Rattle.boolean.specs.Sources.{sourced_deoverlapped, sourced_deoverlapped_from}
 use Rattle.boolean.specs.Space.{enough, no_room, space, one_stages, deoverlapped_stages}
 use Rattle.boolean.proofs.Kept.{minus_all_fit}
 use Rattle.boolean.proofs.Shifting.{one_shift}
+use Rattle.boolean.specs.declared.NoRoom.{NoRoom}
+use Rattle.boolean.specs.Folds.{folded, no_room_after}
 use Rattle.boxes.specs.Boxes.{box_of}
 use Rattle.trapezoids_code.specs.Tails.{Borrowed, FilledBy}
 use Rattle.trapezoids_code.proofs.Writing.{tail}
@@ -35,8 +36,8 @@ use Rattle.remainder_code.proofs.Leading.{rest_is, back_whole, front_length, fro
 use Rattle.remainder_code.proofs.Folding.{Fold, Steps, Folding, blank_start, fold_leading, fold_words, fold_borrowed, fold_added, fold_fit, fold_no_room, fold_next}
 use Rattle.bearing_code.specs.Code.{SourcedAs, standing, OneBearing}
 use Rattle.bearing_code.proofs.Bearing.{sourced, filled_standing}
-use Rattle.front_code.specs.Code.{BlankPast}
-use Rattle.front_code.proofs.Past.{record_take, front-layer_is, front_fits}
+use Rattle.deoverlap_code.specs.Code.{BlankPast}
+use Rattle.deoverlap_code.proofs.Past.{record_take, front-layer_is, front_fits}
 
 -- ---- the definitions, step by step
 -- what one adds to those that stand
@@ -113,22 +114,28 @@ module _ {W room : ℕ} {layer out scratch : List ℤ} {k sum i : ℕ} (h : Deov
       }
 
   -- what an answer says of the loop, when the buffer comes back as t and the scratch area as w
-  pub record Deoverlapped (f : Folded) (t w : List ℤ) : Type 0 where
-    pub full : (c : ℕ) → f ≡ NoRoom c → space room (deoverlapped_stages [] (layer_of layer)) ≡ no_room (sum + c)
-    pub full_few : (c : ℕ) → f ≡ NoRoom c → sum + c ≤ overlays_of_one * (i + 1)
-    pub fits : (m c : ℕ) → f ≡ Done m c → k + m ≤ room
-    pub keeps : (m c : ℕ) → f ≡ Done m c → Deoverlapping W room layer t w (k + m) (sum + c) (i + 1)
+  pub record Deoverlapped (f : Result Folded NoRoom) (t w : List ℤ) : Type 0 where
+    pub full : (c : ℕ) → f ≡ no_room_after c → space room (deoverlapped_stages [] (layer_of layer)) ≡ no_room (sum + c)
+    pub full_few : (c : ℕ) → f ≡ no_room_after c → sum + c ≤ overlays_of_one * (i + 1)
+    pub fits : (m c : ℕ) → f ≡ folded m c → k + m ≤ room
+    pub keeps : (m c : ℕ) → f ≡ folded m c → Deoverlapping W room layer t w (k + m) (sum + c) (i + 1)
 
-  -- a is number i of the layer, with its set, and f answers it minus what the result holds, past k records of t that stand
-  pub deoverlap_turn : (l : i < count trapezoid_codec layer) (a : Sourced) → a ≡ record_at sourced_codec layer i → (f : Folded) (t w : List ℤ)
-      → OneBearing (rest out k) (room - k) a.sources a.shape (leading out k) f (rest t k) → OverlaysWithin overlays_of_one f → front t k ≡ front out k
+  -- `shape` with the set y is number i of the layer, and f answers it minus what the result holds, past k records of t that stand
+  pub deoverlap_turn : (l : i < count trapezoid_codec layer) (shape : Trapezoid) → shape ≡ record_at trapezoid_codec layer i → (y : ℤ) → y ≡ sources_at layer i → (f : Result Folded NoRoom) (t w : List ℤ)
+      → OneBearing (rest out k) (room - k) y shape (leading out k) f (rest t k) → OverlaysWithin overlays_of_one f → front t k ≡ front out k
       → Blank (pos 0) w → length w ≡ length scratch → Deoverlapped f t w
-  deoverlap_turn l a is f t w g u stands z n = record { full = full; full_few = full_few; fits = fits; keeps = keeps }
+  deoverlap_turn l shape e y q f t w g u stands z n = record { full = full; full_few = full_few; fits = fits; keeps = keeps }
     where
+      a : Sourced
+      a = record { shape = shape; sources = y }
+
+      is : a ≡ record_at sourced_codec layer i
+      is = (λ j. record { shape = e j; sources = q j }) ∙ sym (sourced_at layer i)
+
       before : leading out k ≡ shapes F.done
       before = standing-shapes out k F.done (fold_leading F)
 
-      known : (r : Folded) → f ≡ r → SourcedAs (length (tail out k)) (room - k) (added F.done a) (one_stages 0 a.shape (shapes F.done)) r (rest t k)
+      known : (r : Result Folded NoRoom) → f ≡ r → SourcedAs (length (tail out k)) (room - k) (added F.done a) (one_stages 0 a.shape (shapes F.done)) r (rest t k)
       known r e = rw (rest_is out k) (rw (before, e) at g)
 
       same : space room (one_stages (length (shapes F.done)) a.shape (shapes F.done)) ≡ space (room - k) (one_stages 0 a.shape (shapes F.done))
@@ -136,27 +143,27 @@ module _ {W room : ℕ} {layer out scratch : List ℤ} {k sum i : ℕ} (h : Deov
           ap (λ (y : ℕ). space room (one_stages y a.shape (shapes F.done))) (shapes-length F.done ∙ sym F.size)
           ∙ one_shift room k (room - k) a.shape (shapes F.done) (omega (arith, F.within))
 
-      laid : (m c : ℕ) → f ≡ Done m c → FilledBy sourced_codec W room (F.done ++ added F.done a) (Written (k + m)) t
+      laid : (m c : ℕ) → f ≡ folded m c → FilledBy sourced_codec W room (F.done ++ added F.done a) (Some (k + m)) t
       laid m c e =
-          subst (FilledBy sourced_codec W room (F.done ++ added F.done a) (Written (k + m))) (back_whole out k (fold_words F) t stands)
-          (fold_added F (room - k) (added F.done a) m (rest t k) (omega (arith, F.within)) (known (Done m c) e).1)
+          subst (FilledBy sourced_codec W room (F.done ++ added F.done a) (Some (k + m))) (back_whole out k (fold_words F) t stands)
+          (fold_added F (room - k) (added F.done a) m (rest t k) (omega (arith, F.within)) (known (folded m c) e).1)
 
-      full : (c : ℕ) → f ≡ NoRoom c → space room (deoverlapped_stages [] (layer_of layer)) ≡ no_room (sum + c)
-      full c e = fold_no_room F l a is c (same ∙ (known (NoRoom c) e).0)
+      full : (c : ℕ) → f ≡ no_room_after c → space room (deoverlapped_stages [] (layer_of layer)) ≡ no_room (sum + c)
+      full c e = fold_no_room F l a is c (same ∙ (known (no_room_after c) e).0)
 
-      full_few : (c : ℕ) → f ≡ NoRoom c → sum + c ≤ overlays_of_one * (i + 1)
+      full_few : (c : ℕ) → f ≡ no_room_after c → sum + c ≤ overlays_of_one * (i + 1)
       full_few c e = omega (arith, h.few, within_no_room overlays_of_one c f e u)
 
-      fits : (m c : ℕ) → f ≡ Done m c → k + m ≤ room
+      fits : (m c : ℕ) → f ≡ folded m c → k + m ≤ room
       fits m c e = let b = laid m c e in omega (arith, b.0, b.1)
 
       hand_fit : FitFor coordinate_limit a.shape
       hand_fit = fold_fit F l a.shape (ap (λ (r : Sourced). r.shape) (is ∙ sourced_at layer i))
 
-      keeps : (m c : ℕ) → f ≡ Done m c → Deoverlapping W room layer t w (k + m) (sum + c) (i + 1)
+      keeps : (m c : ℕ) → f ≡ folded m c → Deoverlapping W room layer t w (k + m) (sum + c) (i + 1)
       keeps m c e =
           let b = laid m c e in
-          let s = fold_next F l a is (k + m) c t (same ∙ (known (Done m c) e).0) b in
+          let s = fold_next F l a is (k + m) c t (same ∙ (known (folded m c) e).0) b in
           let y = subst (All (FitFor coordinate_limit)) before h.fit in
           let us = minus_all (a.shape ∷ []) (shapes F.done) in
           let after = standing-shapes t (k + m) (F.done ++ added F.done a) (filled_standing W room (F.done ++ added F.done a) (k + m) t b) ∙ shapes-added F.done a in

@@ -1,1 +1,2 @@
+pub mod Past
 pub mod DeoverlapLoop

@@ -12,7 +12,7 @@ ghost use Rattle.bearing_code.specs.Code.{Holding, OneBearing};
 ghost use Rattle.remainder_code.specs.Code.{from, overlays_of_one, overlays_of_layer, OverlaysWithin, leading, Remaining, MinusWritten, MinusAllWritten, OneWritten, ScratchFor};
 ghost use Rattle.difference_code.specs.Code.{DifferenceAdded};
 
-use boolean::Folded;
+use boolean::{Folded, NoRoom};
 use boxes::Box;
 use geometry::Placed;
 
@@ -27,7 +27,7 @@ fn reduce_at(
     out: &mut [i32],
     scratch: &mut [i32],
     room: usize,
-) -> Folded
+) -> Result<Folded, NoRoom>
     requires boxed_layer { BoxedLayer layer.now boxes.now × (i < count trapezoid_codec layer.now) }
     requires remaining { Remaining out.old n room × Encloses e (leading out.old n) }
     requires scratch_for { ScratchFor out.old scratch.old }
@@ -35,10 +35,10 @@ fn reduce_at(
     ensures blank { Blank (pos 0) scratch.new }
 {
     if boxes_code::boxes_disjoint(e, boxes, i) {
-        return Folded::Done {
+        return Ok(Folded {
             trapezoids: n,
             overlays: n,
-        };
+        });
     }
     let b = trapezoids_code::placed_at(layer, i);
     remainder_code::reduce(b, n, out, scratch, room)
@@ -54,7 +54,7 @@ fn reduce_by_rest(
     out: &mut [i32],
     scratch: &mut [i32],
     room: usize,
-) -> Folded
+) -> Result<Folded, NoRoom>
     requires boxed_layer { BoxedLayer layer.now boxes.now × (start ≤ count trapezoid_codec layer.now) × (room ≤ max_records) }
     requires remaining { Remaining out.old n room × Encloses e (leading out.old n) }
     requires scratch_for { ScratchFor out.old scratch.old }
@@ -63,49 +63,32 @@ fn reduce_by_rest(
     ensures blank { Blank (pos 0) scratch.new }
 {
     let count = layer.len() / records::MEMORY_WIDTH;
-    let mut k = n;
-    let mut made = 0;
-    let mut i = start;
-    while i < count {
-        if k == 0 {
-            return Folded::Done {
-                trapezoids: k,
-                overlays: made,
-            };
+    let mut left = Folded {
+        trapezoids: n,
+        overlays: 0,
+    };
+    for i in start..count {
+        if left.trapezoids == 0 {
+            break;
         }
-        let f = reduce_at(e, layer, boxes, i, k, out, scratch, room);
-        match f {
-            Folded::NoRoom(overlays) => {
-                return Folded::NoRoom(made + overlays);
-            }
-            Folded::Done {
-                trapezoids,
-                overlays,
-            } => {
-                k = trapezoids;
-                made += overlays;
-            }
-        }
-        i += 1;
+        let f = reduce_at(e, layer, boxes, i, left.trapezoids, out, scratch, room);
+        left = remainder_code::more_overlays(left.overlays, f)?;
     }
-    Folded::Done {
-        trapezoids: k,
-        overlays: made,
-    }
+    Ok(left)
 }
 
-// The rest of `one_from`: `out` is as the overlay with number j of the layer left it, with the answer f.
+// The rest of `one_into`: `out` is as the overlay with number j of the layer left it, with the answer f.
 fn one_rest(
     a: Placed,
     e: Box,
     j: usize,
-    f: Folded,
+    f: Result<Folded, NoRoom>,
     layer: &[i32],
     boxes: &[i64],
     out: &mut [i32],
     scratch: &mut [i32],
     room: usize,
-) -> Folded
+) -> Result<Folded, NoRoom>
     requires boxed_as { BoxedAs a e × BoxedLayer layer.now boxes.now × (j < count trapezoid_codec layer.now) × (room ≤ max_records) }
     requires minus_written { MinusWritten out.old room (a.shape ∷ []) (record_at trapezoid_codec layer.now j) f out.old × (memory_width * room ≤ length out.old) }
     requires scratch_for { ScratchFor out.old scratch.old }
@@ -113,41 +96,34 @@ fn one_rest(
     ensures overlays_within { OverlaysWithin (max_records * (max_records - j) + 1) result }
     ensures blank { Blank (pos 0) scratch.new }
 {
-    let Folded::Done {
-        trapezoids: n,
-        overlays: made,
-    } = f
-    else {
-        return f;
-    };
-    let g = reduce_by_rest(e, layer, boxes, j + 1, n, out, scratch, room);
-    remainder_code::more_overlays(made, g)
+    let first = f?;
+    let g = reduce_by_rest(e, layer, boxes, j + 1, first.trapezoids, out, scratch, room);
+    remainder_code::more_overlays(first.overlays, g)
 }
 
-// One trapezoid minus the trapezoids of a layer from number j on, and what remains of it added.
-fn one_from(
+// One trapezoid minus each trapezoid of a layer in turn, and what remains of it added.
+fn one_in_turn(
     a: Placed,
     e: Box,
-    j: usize,
     layer: &[i32],
     boxes: &[i64],
     out: &mut [i32],
     scratch: &mut [i32],
     room: usize,
-) -> Folded
+) -> Result<Folded, NoRoom>
     requires boxed_as { BoxedAs a e × BoxedLayer layer.now boxes.now × Borrowed out.old room × (room ≤ max_records) }
     requires scratch_for { ScratchFor out.old scratch.old }
-    ensures one_written { OneWritten out.old room a.shape (from layer.now j) result out.new }
-    ensures overlays_within { OverlaysWithin (max_records * (max_records - j) + 1) result }
+    ensures one_written { OneWritten out.old room a.shape (layer_of layer.now) result out.new }
+    ensures overlays_within { OverlaysWithin overlays_of_one result }
     ensures blank { Blank (pos 0) scratch.new }
 {
     let count = layer.len() / records::MEMORY_WIDTH;
-    if count <= j {
+    if count == 0 {
         return remainder_code::add_whole(a, out, room);
     }
-    let b = trapezoids_code::placed_at(layer, j);
+    let b = trapezoids_code::placed_at(layer, 0);
     let f = remainder_code::first_into(a, b, out, room);
-    one_rest(a, e, j, f, layer, boxes, out, scratch, room)
+    one_rest(a, e, 0, f, layer, boxes, out, scratch, room)
 }
 
 // One trapezoid minus a layer, and what remains of it added. Trapezoids that do not overlap it leave
@@ -160,7 +136,7 @@ fn one_into(
     out: &mut [i32],
     scratch: &mut [i32],
     room: usize,
-) -> Folded
+) -> Result<Folded, NoRoom>
     requires boxed_as { BoxedAs a e × BoxedLayer layer.now boxes.now × Borrowed out.old room × (room ≤ max_records) }
     requires scratch_for { ScratchFor out.old scratch.old }
     ensures one_written { OneWritten out.old room a.shape (layer_of layer.now) result out.new }
@@ -168,21 +144,19 @@ fn one_into(
     ensures blank { Blank (pos 0) scratch.new }
 {
     if room == 0 {
-        return one_from(a, e, 0, layer, boxes, out, scratch, room);
+        return one_in_turn(a, e, layer, boxes, out, scratch, room);
     }
-    let v = remainder_code::first_overlapping(a, e, layer, boxes);
-    let count = layer.len() / records::MEMORY_WIDTH;
-    if count <= v.before {
+    let Some(v) = remainder_code::first_overlapping(a, e, layer, boxes) else {
         let f = remainder_code::add_whole(a, out, room);
-        return remainder_code::more_overlays(v.before, f);
-    }
+        return remainder_code::more_overlays(layer.len() / records::MEMORY_WIDTH, f);
+    };
     let f = remainder_code::cut_into(a, v.placed, out, room);
     let g = one_rest(a, e, v.before, f, layer, boxes, out, scratch, room);
     remainder_code::more_overlays(v.before, g)
 }
 
 // The same of a trapezoid with this set of source layers, which what remains of it keeps.
-fn one_bearing(
+pub fn one_bearing(
     a: Placed,
     e: Box,
     layer: &[i32],
@@ -191,7 +165,7 @@ fn one_bearing(
     scratch: &mut [i32],
     room: usize,
     sources: i32,
-) -> Folded
+) -> Result<Folded, NoRoom>
     requires boxed_as { BoxedAs a e × BoxedLayer layer.now boxes.now × Borrowed out.old room × (room ≤ max_records) }
     requires scratch_for { ScratchFor out.old scratch.old }
     ensures one_bearing { OneBearing out.old room sources a.shape (layer_of layer.now) result out.new }
@@ -213,7 +187,7 @@ pub fn difference_into(
     out: &mut [i32],
     scratch: &mut [i32],
     room: usize,
-) -> Folded
+) -> Result<Folded, NoRoom>
     requires boxed_layer { BoxedLayer first.now first_boxes.now × BoxedLayer second.now second_boxes.now }
     requires holding { Holding out.old start room × (room ≤ max_records) }
     requires scratch_for { ScratchFor out.old scratch.old }
@@ -224,8 +198,7 @@ pub fn difference_into(
     let n = first.len() / records::MEMORY_WIDTH;
     let mut k = start;
     let mut made = 0;
-    let mut i = 0;
-    while i < n {
+    for i in 0..n {
         let a = trapezoids_code::placed_at(first, i);
         let e = boxes_code::load_box(first_boxes, i);
         let sources = sources_code::sources_at(first, i);
@@ -241,22 +214,20 @@ pub fn difference_into(
             sources,
         );
         match f {
-            Folded::NoRoom(overlays) => {
-                records_code::clear(out);
-                return Folded::NoRoom(made + overlays);
+            Ok(f) => {
+                k += f.trapezoids;
+                made += f.overlays;
             }
-            Folded::Done {
-                trapezoids,
-                overlays,
-            } => {
-                k += trapezoids;
-                made += overlays;
+            Err(r) => {
+                out.fill(0);
+                return Err(NoRoom {
+                    overlays: made + r.overlays,
+                });
             }
         }
-        i += 1;
     }
-    Folded::Done {
+    Ok(Folded {
         trapezoids: k,
         overlays: made,
-    }
+    })
 }

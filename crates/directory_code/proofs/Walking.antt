@@ -1,4 +1,5 @@
 -- The loop over the pairs of a directory: what holds before each pair, that a turn keeps it, and what it says at each way out.
+use Rattle.std.specs.Prelude.{Some, None}
 use mathlib.Core.Path.{◌≡◌, sym, ap, ◌∙◌}
 use mathlib.Core.List.{List}
 use Prim.Native.Nat.{ℕ, suc, ◌+◌, ◌*◌, ◌-◌, ◌<◌, ◌≤◌}
@@ -6,11 +7,9 @@ use native.Mathlib.Omega.{arith}
 use lib.ListN.{length}
 use lib.IntN.{ℤ}
 use Rattle.files.specs.declared.Format.{Format}
-use Rattle.files.specs.declared.Number.TheVariants.{Of, Outside}
-use Rattle.files.specs.declared.Directory.TheVariants.{Wrong}
 use Rattle.files.specs.Formats.{word_at}
 use Rattle.files.specs.Pairs.{length_read}
-use Rattle.files.specs.Directory.{pair_length, end_of, pairs_from}
+use Rattle.files.specs.Directory.{pair_length, end_of, pairs_from, wrong_by}
 use Rattle.files.proofs.Walk.{pair}
 
 -- ---- the loop: the first i pairs are right, and the rest decides
@@ -31,11 +30,11 @@ module _ {f : Format} {ws : List ℤ} {n i total : ℕ} (h : Walking f ws n i to
     pub pair_read : pair_length f total (word_at ws (2 * i + 1)) (length_read f ws i) ≡ pair_length f total offset len
     pair_read = λ j. pair_length f total (sym p j) (sym q j)
 
-    pub walk_turn : {k : ℕ} → pair_length f total offset len ≡ Of k → Walking f ws n (i + 1) (total + k)
+    pub walk_turn : {k : ℕ} → pair_length f total offset len ≡ Some k → Walking f ws n (i + 1) (total + k)
     unfolding pairs_from
     walk_turn {k} e = record { same = opened l ∙ rw (pair_read, e); upto = omega arith; units = (pair f total offset len e).total }
 
-    pub walk_wrong : pair_length f total offset len ≡ Outside → Wrong 6 i ≡ pairs_from f ws n 0 0
+    pub walk_wrong : pair_length f total offset len ≡ None → wrong_by 6 i ≡ pairs_from f ws n 0 0
     unfolding pairs_from
     walk_wrong e = sym (opened l ∙ rw (pair_read, e))
 

@@ -1,5 +1,5 @@
 -- The search over the later trapezoid, and for each over the earlier one.
-use mathlib.Core.Path.{◌≡◌, refl, sym, ◌∙◌, ap, ap₂, subst}
+use mathlib.Core.Path.{◌≡◌, refl, sym, ◌∙◌, ap, ap₂}
 use mathlib.Core.Bool.{Bool, true, false, ◌||◌}
 use mathlib.Core.List.{List, ◌∷◌, ◌++◌, []}
 use Prim.Native.Nat.{ℕ, zero, suc, ◌+◌, ◌<◌, ◌≤◌}
@@ -12,8 +12,6 @@ use Rattle.lists.proofs.Tests.{is_true, is_false}
 use Rattle.records.specs.Records.{record_at, records_from, count}
 use Rattle.records.proofs.Records.{from_append}
 use Rattle.geometry.specs.declared.Trapezoid.{Trapezoid}
-use Rattle.geometry.specs.declared.Checked.{Checked}
-use Rattle.geometry.specs.declared.Checked.TheVariants.{Passed, Refused}
 use Rattle.geometry.specs.Limit.{coordinate_limit}
 use Rattle.geometry.specs.Fitness.{FitFor}
 use Rattle.geometry.specs.Trapezoids.{trapezoid_codec, layer_of}
@@ -26,6 +24,9 @@ use Rattle.boxes.proofs.Rejecting.{no_overlap}
 use Rattle.boxes_code.specs.Code.{box_at, BoxedLayer, Skipped}
 use Rattle.remainder_code.specs.Code.{from}
 use Rattle.remainder_code.proofs.Walking.{Walking, walk_start, walk_stop, walk_here, walk_turn}
+use Rattle.std.specs.Prelude.{Result, Ok}
+use Rattle.geometry.specs.declared.Refusal.{Refusal}
+use Rattle.geometry.specs.Refusals.{refused_by}
 
 -- number i of a layer, and those before it
 abbrev pub at : List ℤ → ℕ → Trapezoid
@@ -59,7 +60,7 @@ module _ (f : Trapezoid → Bool) (s : List ℤ) where
       go false z later = let w = nltb→le i k (is_false z) in let x : i ≡ k = omega (arith, l, w) in let y : f (at s i) ≡ true = ap (λ (j : ℕ). f (at s j)) x ∙ e in rw y
 
 -- ---- the later trapezoid: none of the first i overlaps one before it, and the rest decides
-abbrev value : ℕ → List ℤ → ℕ → List Trapezoid → Checked
+abbrev value : ℕ → List ℤ → ℕ → List Trapezoid → Result (Unit {0}) Refusal
 value start layer i ts = overlap_past (earlier layer i) (start + i) ts
 
 abbrev pub Searching : ℕ → List ℤ → ℕ → Type 0
@@ -73,12 +74,12 @@ unfolding records_from
 whole start layer = ap (λ (k : ℕ). overlap_past [] k (layer_of layer)) (add-zero start)
 
 module _ (start : ℕ) {layer : List ℤ} {i : ℕ} (h : Searching start layer i) where
-  pub search_stop : count trapezoid_codec layer ≤ i → Passed ≡ first_overlap start (layer_of layer)
+  pub search_stop : count trapezoid_codec layer ≤ i → (Ok tt) ≡ first_overlap start (layer_of layer)
   search_stop l = sym (walk_stop h l ∙ past_end (earlier layer i) (start + i)) ∙ whole start layer
 
   module _ (l : i < count trapezoid_codec layer) where
     -- number j before it overlaps it
-    pub search_found : (j : ℕ) → j < i → overlaps (at layer i) (at layer j) ≡ true → Refused 13 (start + i) ≡ first_overlap start (layer_of layer)
+    pub search_found : (j : ℕ) → j < i → overlaps (at layer i) (at layer j) ≡ true → refused_by 13 (start + i) ≡ first_overlap start (layer_of layer)
     search_found j m o =
         sym (walk_here h l (at layer i) refl ∙ past_yes (earlier layer i) (start + i) (at layer i) (from layer (i + 1)) (one_passes (overlaps (at layer i)) layer i 0 j (omega arith) (omega (arith, m)) o))
         ∙ whole start layer

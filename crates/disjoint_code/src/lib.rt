@@ -13,76 +13,56 @@ ghost use Rattle.calls.specs.Rows.{both_disjoint};
 ghost use Rattle.calls.specs.Transistors.{three_disjoint};
 ghost use Rattle.boxes_code.specs.Code.{BoxedLayer};
 
-use geometry::Checked;
+use boxes_code::Layer;
+use geometry::Refusal;
 
 // Whether trapezoids number i and j of a layer overlap.
-fn overlapping_at(layer: &[i32], i: usize, j: usize) -> bool
-    requires { All (FitFor coordinate_limit) (layer_of layer.now) × (i < count trapezoid_codec layer.now) × (j < count trapezoid_codec layer.now) }
-    ensures { result ≡ overlaps (record_at trapezoid_codec layer.now i) (record_at trapezoid_codec layer.now j) }
+fn overlapping_at(layer: Layer, i: usize, j: usize) -> bool
+    requires { (i < count trapezoid_codec layer.words.now) × (j < count trapezoid_codec layer.words.now) }
+    ensures { result ≡ overlaps (record_at trapezoid_codec layer.entry.words.now i) (record_at trapezoid_codec layer.entry.words.now j) }
 {
-    let a = trapezoids_code::placed_at(layer, i);
-    let b = trapezoids_code::placed_at(layer, j);
-    overlaps_code::overlapping(a, b)
+    overlaps_code::overlapping(layer.placed(i), layer.placed(j))
 }
 
 // The first overlapping pair of a layer, by its later trapezoid and then its earlier, is refused at the later one; places are numbered
 // on from `start`. Where the boxes are disjoint the trapezoids do not overlap.
-pub fn first_overlap(layer: &[i32], boxes: &[i64], start: usize) -> Checked
-    requires { BoxedLayer layer.now boxes.now × (start ≤ max_records + max_records) }
-    ensures { result ≡ first_overlap start (layer_of layer.now) }
+pub fn first_overlap(layer: Layer, start: usize) -> Result<(), Refusal>
+    requires { start ≤ max_records + max_records }
+    ensures { result ≡ first_overlap start (layer_of layer.entry.words.now) }
 {
-    let n = layer.len() / records::MEMORY_WIDTH;
-    let mut later = 0;
-    'search: while later < n {
-        let e = boxes_code::load_box(boxes, later);
-        let mut earlier = boxes_code::next_overlapping(e, boxes, 0, later);
+    let mut overlapping = None;
+    'search: for later in 0..layer.count() {
+        let e = layer.box_at(later);
+        let mut earlier = boxes_code::next_overlapping(e, layer.boxes, 0, later);
         while earlier < later {
             if overlapping_at(layer, later, earlier) {
+                overlapping = Some(later);
                 break 'search;
             }
-            earlier = boxes_code::next_overlapping(e, boxes, earlier + 1, later);
+            earlier = boxes_code::next_overlapping(e, layer.boxes, earlier + 1, later);
         }
-        later += 1;
     }
-    if later < n {
-        return Checked::Refused {
+    match overlapping {
+        None => Ok(()),
+        Some(later) => Err(Refusal {
             number: 13,
             place: start + later,
-        };
+        }),
     }
-    Checked::Passed
 }
 
 // Of two layers, the trapezoids of the second numbered on.
-pub fn both_disjoint(a: &[i32], a_boxes: &[i64], b: &[i32], b_boxes: &[i64]) -> Checked
-    requires { BoxedLayer a.now a_boxes.now × BoxedLayer b.now b_boxes.now }
-    ensures { result ≡ both_disjoint a.now b.now }
+pub fn both_disjoint(a: Layer, b: Layer) -> Result<(), Refusal>
+    ensures { result ≡ both_disjoint a.entry.words.now b.entry.words.now }
 {
-    let first = first_overlap(a, a_boxes, 0);
-    match first {
-        Checked::Passed => first_overlap(b, b_boxes, a.len() / records::MEMORY_WIDTH),
-        Checked::Refused { number, place } => Checked::Refused { number, place },
-    }
+    first_overlap(a, 0)?;
+    first_overlap(b, a.count())
 }
 
 // Of three layers.
-pub fn three_disjoint(
-    a: &[i32],
-    a_boxes: &[i64],
-    b: &[i32],
-    b_boxes: &[i64],
-    c: &[i32],
-    c_boxes: &[i64],
-) -> Checked
-    requires { BoxedLayer a.now a_boxes.now × BoxedLayer b.now b_boxes.now × BoxedLayer c.now c_boxes.now }
-    ensures { result ≡ three_disjoint a.now b.now c.now }
+pub fn three_disjoint(a: Layer, b: Layer, c: Layer) -> Result<(), Refusal>
+    ensures { result ≡ three_disjoint a.entry.words.now b.entry.words.now c.entry.words.now }
 {
-    let first = both_disjoint(a, a_boxes, b, b_boxes);
-    match first {
-        Checked::Passed => {
-            let start = a.len() / records::MEMORY_WIDTH + b.len() / records::MEMORY_WIDTH;
-            first_overlap(c, c_boxes, start)
-        }
-        Checked::Refused { number, place } => Checked::Refused { number, place },
-    }
+    both_disjoint(a, b)?;
+    first_overlap(c, a.count() + b.count())
 }

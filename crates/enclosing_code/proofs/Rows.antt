@@ -1,7 +1,7 @@
 -- The loops over shapes: what holds before each turn, that a turn keeps it, and what it says at the end.
 use mathlib.Core.Path.{◌≡◌, refl, sym, ◌∙◌, ap, subst}
 use mathlib.Core.Bool.{Bool, true, false, cond, ◌&&◌}
-use mathlib.Core.List.{List, [], ◌∷◌}
+use mathlib.Core.List.{List}
 use mathlib.Core.Logic.{⊎_elim}
 use Prim.Native.Nat.{ℕ, ◌+◌, ◌*◌, ◌<◌, ◌≤◌}
 use native.Mathlib.Numerals.{add-one}
@@ -9,42 +9,17 @@ use native.Mathlib.Omega.{arith}
 use lib.Dec.{T}
 use lib.ListN.{length, get_or, replicate, length-set, length-replicate, get_or-replicate}
 use lib.Seq.{get_or-set_same, get_or-set_other}
-use lib.IntN.{ℤ, pos}
 use Rattle.records.specs.Limits.{max_records}
-use Rattle.records.specs.Records.{Blank}
 use Rattle.geometry.specs.declared.Trapezoid.{Trapezoid}
 use Rattle.boolean.specs.Space.{enough, space, difference_stages}
 use Rattle.boolean.specs.Counts.{is_no_room}
 use Rattle.connectivity.proofs.Joining.{less_than, same_or_not}
-use Rattle.extraction.specs.declared.Enclosure.TheVariants as enclosure
 use Rattle.extraction.specs.Shapes.{is_some}
-use Rattle.trapezoids_code.specs.Tails.{Borrowed}
-use Rattle.remainder_code.specs.Code.{overlays_of_layer, ScratchFor}
+use Rattle.remainder_code.specs.Code.{overlays_of_layer}
 use Rattle.shapes_code.specs.Code.{start_of, trapezoids_between, group_at}
 use Rattle.enclosure_code.specs.Code.{stages_of, some_encloses, marked_if}
-use Rattle.enclosure_code.proofs.Ones.{none_enough}
 use Rattle.enclosing_code.specs.Code.{row_stages, row_of, family_stages, unmarked, RowMarked, last_mark, FamilyMarked}
 use Rattle.enclosing_code.proofs.Stages.{stages_none, stages_enough, stages_no_room}
-
--- ---- the output and the scratch area, left blank by each call
-pub record Clean (out₀ scratch₀ out scratch : List ℤ) : Type 0 where
-  pub out_blank : Blank (pos 0) out
-  pub out_long : length out ≡ length out₀
-  pub scratch_blank : Blank (pos 0) scratch
-  pub scratch_long : length scratch ≡ length scratch₀
-
-pub clean_start : {room : ℕ} {out scratch : List ℤ} → Borrowed out room → ScratchFor out scratch → Clean out scratch out scratch
-clean_start h k = record { out_blank = h.blank; out_long = refl; scratch_blank = k.0; scratch_long = refl }
-
-module _ {out₀ scratch₀ out scratch : List ℤ} (h : Clean out₀ scratch₀ out scratch) where
-  pub clean_borrowed : {room : ℕ} → Borrowed out₀ room → Borrowed out room
-  clean_borrowed k = record { blank = h.out_blank; wide = omega (arith, k.wide, h.out_long) }
-
-  pub clean_scratch : ScratchFor out₀ scratch₀ → ScratchFor out scratch
-  clean_scratch k = (h.scratch_blank, h.scratch_long ∙ k.1 ∙ sym h.out_long)
-
-  pub clean_turn : (o s : List ℤ) → Blank (pos 0) o × Blank (pos 0) s → length o ≡ length out → length s ≡ length scratch → Clean out₀ scratch₀ o s
-  clean_turn o s k e f = record { out_blank = k.0; out_long = e ∙ h.out_long; scratch_blank = k.1; scratch_long = f ∙ h.scratch_long }
 
 -- ---- the group with number k
 pub group_at_lem : (ends : List ℕ) (ts : List Trapezoid) (k start : ℕ) → start ≡ start_of ends k → group_at ends ts k ≡ trapezoids_between start (get_or ends k 0) ts
@@ -132,25 +107,6 @@ module _ {room i made j : ℕ} {A : List Trapezoid} {G : ℕ → List Trapezoid}
     try_full n m k =
         stages_no_room (λ k. is_some (G k)) (λ k. difference_stages 0 (G k) A) room n j h.had (subst (λ (ts : List Trapezoid). T (is_no_room (space room (stages_of A ts)))) (sym is) k) m
 
-  module _ (n : ℕ) (e : length d₀ ≡ n) (l : n ≤ j) where
-    last_turn : j ≡ n
-    last_turn = omega (arith, h.upto, e, l)
-
-    pub try_stop : space room (row_stages G A n) ≡ enough made
-    try_stop = ap (λ (k : ℕ). space room (row_stages G A k)) (sym last_turn) ∙ h.had
-
-    pub try_marked : RowMarked A i G d₀ d
-    try_marked = record { same = h.same; each = λ k m. h.done k (omega (arith, m, e, l)) }
-
--- ---- a shape with no trapezoids, and one with some
-pub row_none : (room n i : ℕ) (A : List Trapezoid) (G : ℕ → List Trapezoid) (d : List ℕ) → A ≡ [] → (space room (row_of G A n) ≡ enough 0) × RowMarked A i G d d
-row_none room n i A G d e =
-    subst (λ (ts : List Trapezoid). (space room (row_of G ts n) ≡ enough 0) × RowMarked ts i G d d) (sym e) (none_enough room, record { same = refl; each = λ j l. refl })
-
-pub row_some : (G : ℕ → List Trapezoid) (A : List Trapezoid) (n : ℕ) → 0 < length A → row_stages G A n ≡ row_of G A n
-row_some G [] n l = absurd (omega (arith, l))
-row_some G (a ∷ A) n l = refl
-
 -- ---- the shapes of F with numbers below i tried with the n of G
 pub record TryingAll (room : ℕ) (F G : ℕ → List Trapezoid) (m n : ℕ) (d : List ℕ) (made i : ℕ) : Type 0 where
   pub upto : i ≤ m
@@ -194,8 +150,3 @@ module _ {room m n made i : ℕ} {F G : ℕ → List Trapezoid} {d : List ℕ} (
   unfolding family_stages
   all_full k =
       stages_no_room (λ k. is_some (F k)) (λ k. row_stages G (F k) n) room m i h.had (subst (λ (ts : List Trapezoid). T (is_no_room (space room (row_of G ts n)))) (sym is) k) l
-
-pub all_stop : {room m n made i : ℕ} {F G : ℕ → List Trapezoid} {d : List ℕ} → TryingAll room F G m n d made i → m ≤ i → (space room (family_stages F m G n) ≡ enough made) × FamilyMarked F m G n d
-all_stop {room} {m} {n} {made} {i} {F} {G} {d} h l =
-    let e : i ≡ m = omega (arith, h.upto) in
-    (ap (λ (k : ℕ). space room (family_stages F k G n)) (sym e) ∙ h.had, subst (λ (k : ℕ). FamilyMarked F k G n d) e h.marked)

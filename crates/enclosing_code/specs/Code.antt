@@ -1,5 +1,5 @@
 -- What the functions answer and write, by the definitions, of families of shapes: F has the shapes with numbers below n, some of them empty.
-use Rattle.std.specs.Prelude.{◌≡◌, cond, ◌&&◌, List, ℕ, zero, suc, ◌<◌, length, get_or, set}
+use Rattle.std.specs.Prelude.{◌≡◌, cond, ◌&&◌, List, ℕ, zero, suc, ◌<◌, length, get_or}
 use Rattle.lists.specs.Lists.{each}
 use Rattle.lists.specs.Tests.{keep}
 use Rattle.records.specs.Limits.{max_records}

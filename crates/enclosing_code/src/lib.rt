@@ -12,8 +12,6 @@ ghost use Rattle.shapes_code.specs.Code.{trapezoids_between, group_at, Groups};
 ghost use Rattle.enclosure_code.specs.Code.{EnclosedAs, EnclosedWithin, Marking};
 ghost use Rattle.enclosing_code.specs.Code.{row_stages, row_of, family_stages, unmarked, RowMarked, FamilyMarked};
 
-use extraction::Enclosed;
-
 // A shape tried with each group of a layer; those that it encloses get its number.
 fn enclose_each(
     number: usize,
@@ -26,7 +24,7 @@ fn enclose_each(
     out: &mut [i32],
     scratch: &mut [i32],
     room: usize,
-) -> Enclosed
+) -> Option<usize>
     requires boxed_layer { BoxedLayer shape.now shape_boxes.now × (0 < count trapezoid_codec shape.now) × (number < max_records) }
     requires groups { Groups ends.now layer.now boxes.now × (length marks.old ≡ length ends.now) }
     requires borrowed { Borrowed out.old room × (room ≤ max_records) }
@@ -38,10 +36,9 @@ fn enclose_each(
 {
     let mut made = 0;
     let mut start = 0;
-    let mut j = 0;
-    while j < ends.len() {
-        let end = ends[j] as usize;
-        let f = enclosure_code::enclose_one(
+    for (j, end) in ends.iter().enumerate() {
+        let end = *end as usize;
+        made += enclosure_code::enclose_one(
             number,
             shape,
             shape_boxes,
@@ -54,22 +51,14 @@ fn enclose_each(
             out,
             scratch,
             room,
-        );
-        match f {
-            Enclosed::NoRoom => {
-                return Enclosed::NoRoom;
-            }
-            Enclosed::Done(overlays) => {
-                made += overlays;
-            }
-        }
+        )?;
         start = end;
-        j += 1;
     }
-    Enclosed::Done(made)
+    Some(made)
 }
 
 // The group of a layer from `start` to before `end`, if it has trapezoids, tried with each group of another.
+#[tactic(auto, using(enclosure_code::proofs::Ones::parts))]
 fn enclose_row(
     number: usize,
     start: usize,
@@ -83,7 +72,7 @@ fn enclose_row(
     out: &mut [i32],
     scratch: &mut [i32],
     room: usize,
-) -> Enclosed
+) -> Option<usize>
     requires boxed_layer { BoxedLayer first.now first_boxes.now × (end ≤ count trapezoid_codec first.now) × (number < max_records) }
     requires groups { Groups ends.now layer.now boxes.now × (length marks.old ≡ length ends.now) }
     requires borrowed { Borrowed out.old room × (room ≤ max_records) }
@@ -94,7 +83,7 @@ fn enclose_row(
     ensures blank { Blank (pos 0) out.new × Blank (pos 0) scratch.new }
 {
     if end <= start {
-        return Enclosed::Done(0);
+        return Some(0);
     }
     let shape = &first[records::MEMORY_WIDTH * start..records::MEMORY_WIDTH * end];
     let shape_boxes = &first_boxes[boxes_code::WIDTH * start..boxes_code::WIDTH * end];
@@ -112,17 +101,6 @@ fn enclose_row(
     )
 }
 
-// No shape is enclosed.
-fn mark_none(marks: &mut [u32])
-    ensures { marks.new ≡ replicate (length marks.old) unmarked }
-{
-    let mut j = 0;
-    while j < marks.len() {
-        marks[j] = records::MAX_RECORDS as u32;
-        j += 1;
-    }
-}
-
 // Each group of a layer tried with each of another. `marks` gets, for each of those, the number of the last that encloses it.
 pub fn enclose_all(
     first_ends: &[u32],
@@ -135,7 +113,7 @@ pub fn enclose_all(
     out: &mut [i32],
     scratch: &mut [i32],
     room: usize,
-) -> Enclosed
+) -> Option<usize>
     requires groups { Groups first_ends.now first.now first_boxes.now }
     requires second_groups { Groups second_ends.now second.now second_boxes.now × (length marks.old ≡ length second_ends.now) }
     requires borrowed { Borrowed out.old room × (room ≤ max_records) }
@@ -145,13 +123,12 @@ pub fn enclose_all(
     ensures marking { Marking result (FamilyMarked (group_at first_ends.now (layer_of first.now)) (length first_ends.now) (group_at second_ends.now (layer_of second.now)) (length second_ends.now) marks.new) }
     ensures blank { Blank (pos 0) out.new × Blank (pos 0) scratch.new }
 {
-    mark_none(marks);
+    marks.fill(records::MAX_RECORDS as u32);
     let mut made = 0;
     let mut start = 0;
-    let mut i = 0;
-    while i < first_ends.len() {
-        let end = first_ends[i] as usize;
-        let f = enclose_row(
+    for (i, end) in first_ends.iter().enumerate() {
+        let end = *end as usize;
+        made += enclose_row(
             i,
             start,
             end,
@@ -164,17 +141,8 @@ pub fn enclose_all(
             out,
             scratch,
             room,
-        );
-        match f {
-            Enclosed::NoRoom => {
-                return Enclosed::NoRoom;
-            }
-            Enclosed::Done(overlays) => {
-                made += overlays;
-            }
-        }
+        )?;
         start = end;
-        i += 1;
     }
-    Enclosed::Done(made)
+    Some(made)
 }

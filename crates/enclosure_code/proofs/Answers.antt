@@ -1,12 +1,14 @@
 -- One difference: what its answer says of enclosing, and what disjoint boxes say of it.
-use mathlib.Core.Path.{◌≡◌, refl, sym, ◌∙◌, ap, ap₂, subst}
+use Rattle.std.specs.Prelude.{Some, None}
+use mathlib.Core.Path.{◌≡◌, refl, sym, ◌∙◌, ap, ap₂}
 use mathlib.Core.Bool.{true, false, not}
 use mathlib.Core.List.{List, [], ◌∷◌}
 use Prim.Native.Nat.{ℕ, zero, suc, ◌+◌, ◌*◌, ◌<◌, ◌≤◌}
 use native.Mathlib.Omega.{arith}
-use lib.Dec.{T}
+use lib.Dec.{eqb}
 use lib.ListN.{length}
 use lib.IntN.{ℤ}
+use borrow.Author.Tests.{eq-eqb, ne_eqb}
 use Rattle.lists.specs.Lists.{All}
 use Rattle.lists.proofs.Tests.{is_true}
 use Rattle.records.specs.Records.{record_at, records_from, count}
@@ -16,19 +18,14 @@ use Rattle.geometry.specs.Limit.{coordinate_limit}
 use Rattle.geometry.specs.Fitness.{FitFor}
 use Rattle.geometry.specs.Trapezoids.{trapezoid_codec, layer_of}
 use Rattle.geometry.proofs.Layers.{all_record}
-use Rattle.boolean.specs.declared.Folded.TheVariants.{NoRoom, Done}
 use Rattle.boolean.specs.Operations.{difference}
-use Rattle.boolean.specs.Space.{Space, enough}
-use Rattle.boolean.specs.Counts.{is_no_room}
+use Rattle.boolean.specs.Space.{enough}
 use Rattle.boxes.specs.Boxes.{boxes_disjoint}
 use Rattle.boxes.proofs.Rejecting.{no_overlap}
-use Rattle.extraction.specs.declared.Enclosure.TheVariants as enclosure
 use Rattle.extraction.specs.Shapes.{is_some}
 use Rattle.extraction.specs.Extraction.{shape_encloses}
 use Rattle.extraction.proofs.Apart.{NoneOf, apart_difference, apart_enough, apart_no_room}
 use Rattle.boxes_code.specs.Code.{box_at, BoxedLayer}
-use Rattle.counted_difference_code.specs.Code.{DifferenceCounted}
-use Rattle.counted_difference_code.proofs.Counted.{none_left}
 use Rattle.enclosure_code.specs.Code.{disjoint_from, all_disjoint, EnclosureIs}
 use Rattle.enclosure_code.proofs.Numbers.{each_below}
 
@@ -36,25 +33,14 @@ pub some_of : (ts : List Trapezoid) → 0 < length ts → is_some ts ≡ true
 some_of [] l = absurd (omega (arith, l))
 some_of (t ∷ ts) l = refl
 
-module _ (A B : List Trapezoid) where
-  encloses_yes : difference B A ≡ [] → shape_encloses A B ≡ true
-  unfolding shape_encloses
-  encloses_yes e = ap (λ (ts : List Trapezoid). not (is_some ts)) e
-
-  encloses_no : 0 < length (difference B A) → shape_encloses A B ≡ false
-  unfolding shape_encloses
-  encloses_no l = ap not (some_of (difference B A) l)
-
-  -- ---- by the difference
-  module _ (room : ℕ) where
-    pub difference_no_room : (c : ℕ) → DifferenceCounted room B A (NoRoom c) → EnclosureIs room A B enclosure.NoRoom
-    difference_no_room c g = subst (λ (s : Space). T (is_no_room s)) (sym g) tt
-
-    pub difference_yes : (p c : ℕ) → p ≡ 0 → DifferenceCounted room B A (Done p c) → EnclosureIs room A B (enclosure.Yes c)
-    difference_yes p c e g = (g.0, encloses_yes (none_left (difference B A) (sym g.1 ∙ e)))
-
-    pub difference_no : (p c : ℕ) → 0 < p → DifferenceCounted room B A (Done p c) → EnclosureIs room A B (enclosure.No c)
-    difference_no p c l g = (g.0, encloses_no (omega (arith, l, g.1)))
+-- ---- by the difference, which has n trapezoids
+pub encloses_none : (A B : List Trapezoid) (n : ℕ) → n ≡ length (difference B A) → shape_encloses A B ≡ eqb n 0
+unfolding shape_encloses
+encloses_none A B n e = go (difference B A) e
+  where
+    go : (ts : List Trapezoid) → n ≡ length ts → not (is_some ts) ≡ eqb n 0
+    go [] e = sym (eq-eqb n 0 e)
+    go (t ∷ ts) e = sym (ne_eqb n 0 (λ z. omega (arith, e, z)))
 
 -- ---- by boxes
 all-each : (P : Trapezoid → Type 0) (s : List ℤ) (n k : ℕ) → ((i : ℕ) → k ≤ i → i < k + n → P (record_at trapezoid_codec s i)) → All P (records_from trapezoid_codec n s k)
@@ -84,14 +70,14 @@ module _ (s d t c : List ℤ) (h : BoxedLayer s d) (g : BoxedLayer t c) (e : all
       no_overlap coordinate_limit (omega arith) a (record_at trapezoid_codec s j) (all_record (FitFor coordinate_limit) t i g.layer.fit l) (all_record (FitFor coordinate_limit) s j h.layer.fit m)
       (is_true (sym (ap₂ boxes_disjoint (g.boxes.each i l) (h.boxes.each j m)) ∙ each_below (λ (j : ℕ). boxes_disjoint (box_at c i) (box_at d j)) (count trapezoid_codec s) f j m))))
 
-  pub apart_full : (room : ℕ) → room < count trapezoid_codec t → EnclosureIs room A B enclosure.NoRoom
+  pub apart_full : (room : ℕ) → room < count trapezoid_codec t → EnclosureIs room A B None
   apart_full room l = apart_no_room room B A none_overlap (omega (arith, l, length_from trapezoid_codec (count trapezoid_codec t) t 0))
 
-  pub apart_no : (room : ℕ) → count trapezoid_codec t ≤ room → 0 < count trapezoid_codec t → EnclosureIs room A B (enclosure.No (count trapezoid_codec t * count trapezoid_codec s))
+  pub apart_no : (room : ℕ) → count trapezoid_codec t ≤ room → 0 < count trapezoid_codec t → EnclosureIs room A B (Some (record { encloses = false; overlays = count trapezoid_codec t * count trapezoid_codec s }))
   apart_no room l some =
       let m = length_from trapezoid_codec (count trapezoid_codec t) t 0 in
       let n = length_from trapezoid_codec (count trapezoid_codec s) s 0 in
       let k = apart_difference B A none_overlap in (
         apart_enough room B A none_overlap (omega (arith, l, m)) ∙ (λ i. enough (m i * n i)),
-        encloses_no A B (subst (λ (ts : List Trapezoid). 0 < length ts) (sym k) (omega (arith, some, m))),
+        encloses_none A B (count trapezoid_codec t) (sym (ap length k ∙ m)) ∙ ne_eqb (count trapezoid_codec t) 0 (λ z. omega (arith, some, z)),
       )

@@ -1,11 +1,12 @@
 -- The numbers below n, and a test that each passes.
-use mathlib.Core.Path.{◌≡◌, refl, sym, ◌∙◌, ap}
+use mathlib.Core.Path.{◌≡◌, refl, sym, ◌∙◌, ap, ap₂}
 use mathlib.Core.Bool.{Bool, true, false, ◌&&◌}
 use mathlib.Core.List.{List, [], ◌∷◌, ◌++◌}
 use mathlib.Core.Logic.{⊎_elim}
-use Prim.Native.Nat.{ℕ, zero, suc, ◌+◌, ◌<◌, ◌≤◌}
-use native.Mathlib.Numerals.{add-one}
+use Prim.Native.Nat.{ℕ, zero, suc, ◌+◌, ◌<◌}
+use native.Mathlib.Nat.{add-zero, zero-add}
 use native.Mathlib.Omega.{arith}
+use Rattle.std.specs.List.{list_all, range_with_len}
 use Rattle.lists.specs.Tests.{all}
 use Rattle.lists.proofs.Conjunction.{last, and_left, and_right}
 use Rattle.connectivity.specs.Components.{own_numbers}
@@ -33,25 +34,20 @@ module _ (f : ℕ → Bool) where
       (λ s. each_below n (and_left (all f (own_numbers n)) (f n) e) k (less_than k n l s))
       (same_or_not k n)
 
-  -- ---- the loop over them that stops where one fails: those below j pass
-  pub record Passed (n j : ℕ) : Type 0 where
-    pub upto : j ≤ n
-    pub passed : all f (own_numbers j) ≡ true
+-- ---- the range from 0 to before n
+range_last : (a n : ℕ) → range_with_len a (suc n) ≡ range_with_len a n ++ ((a + n) ∷ [])
+range_last a zero = ap (λ (k : ℕ). k ∷ []) (sym (add-zero a))
+range_last a (suc n) = let e : a + 1 + n ≡ a + suc n = omega arith in ap (λ (ns : List ℕ). a ∷ ns) (range_last (a + 1) n ∙ ap (λ (k : ℕ). range_with_len (a + 1) n ++ (k ∷ [])) e)
 
-  pub pass_start : (n : ℕ) → Passed n 0
-  unfolding own_numbers
-  pass_start n = record { upto = omega arith; passed = refl }
+own_range : (n : ℕ) → range_with_len 0 n ≡ own_numbers n
+unfolding own_numbers
+own_range zero = refl
+own_range (suc n) = range_last 0 n ∙ ap₂ (λ (ns : List ℕ) (k : ℕ). ns ++ (k ∷ [])) (own_range n) (zero-add n)
 
-  pub pass_turn : {n j : ℕ} → Passed n j → j < n → f j ≡ true → Passed n (j + 1)
-  pass_turn {n} {j} h l e =
-      record { upto = omega arith; passed = ap (λ (k : ℕ). all f (own_numbers k)) (add-one j) ∙ all_more j ∙ (λ i. h.passed i && e i) }
+module _ (f : ℕ → Bool) where
+  all_is : (ns : List ℕ) → list_all f ns ≡ all f ns
+  all_is [] = refl
+  all_is (n ∷ ns) = ap (λ (b : Bool). f n && b) (all_is ns)
 
-  pub pass_stop : {n j : ℕ} → Passed n j → n ≤ j → true ≡ all f (own_numbers n)
-  pass_stop {n} {j} h l = let e : j ≡ n = omega (arith, h.upto) in sym h.passed ∙ ap (λ (k : ℕ). all f (own_numbers k)) e
-
-  pub pass_fails : (n j : ℕ) → j < n → f j ≡ false → false ≡ all f (own_numbers n)
-  pass_fails n j l e = go (all f (own_numbers n)) (λ h. each_below n h j l)
-    where
-      go : (b : Bool) → (b ≡ true → f j ≡ true) → false ≡ b
-      go true k = let t = k refl in let z : ◌≡◌ {A = ℕ} 0 1 = cc in absurd (omega arith)
-      go false k = refl
+  pub all_range : (n : ℕ) → list_all f (range_with_len 0 n) ≡ all f (own_numbers n)
+  all_range n = all_is (range_with_len 0 n) ∙ ap (all f) (own_range n)

@@ -1,5 +1,5 @@
 -- What the functions answer, by the definitions.
-use Rattle.std.specs.Prelude.{◌≡◌, Bool, true, false, ◌&&◌, List, [], ℕ, ◌≤◌, T, set, ℤ}
+use Rattle.std.specs.Prelude.{◌≡◌, Bool, true, false, ◌&&◌, List, [], ℕ, ◌≤◌, T, set, ℤ, Option, Some, None}
 use Rattle.lists.specs.Tests.{all}
 use Rattle.geometry.specs.declared.Trapezoid.{Trapezoid}
 use Rattle.boolean.specs.Space.{Stage, enough, space, difference_stages}
@@ -8,9 +8,6 @@ use Rattle.connectivity.specs.Components.{own_numbers}
 use Rattle.boxes.specs.declared.Box.{Box}
 use Rattle.boxes.specs.Boxes.{boxes_disjoint}
 use Rattle.extraction.specs.declared.Enclosure.{Enclosure}
-use Rattle.extraction.specs.declared.Enclosure.TheVariants.{NoRoom, Yes, No}
-use Rattle.extraction.specs.declared.Enclosed.{Enclosed}
-use Rattle.extraction.specs.declared.Enclosed.TheVariants as enclosed
 use Rattle.extraction.specs.Shapes.{is_some}
 use Rattle.extraction.specs.Extraction.{shape_encloses}
 use Rattle.boxes_code.specs.Code.{box_at}
@@ -26,15 +23,13 @@ all_disjoint c m d n = all (λ i. disjoint_from (box_at c i) d n) (own_numbers m
 
 -- ---- one difference
 -- whether the shape A encloses B, in a room
-abbrev pub EnclosureIs : ℕ → List Trapezoid → List Trapezoid → Enclosure → Type 0
-EnclosureIs room A B NoRoom = T (is_no_room (space room (difference_stages 0 B A)))
-EnclosureIs room A B (Yes overlays) = (space room (difference_stages 0 B A) ≡ enough overlays) × (shape_encloses A B ≡ true)
-EnclosureIs room A B (No overlays) = (space room (difference_stages 0 B A) ≡ enough overlays) × (shape_encloses A B ≡ false)
+abbrev pub EnclosureIs : ℕ → List Trapezoid → List Trapezoid → Option Enclosure → Type 0
+EnclosureIs room A B None = T (is_no_room (space room (difference_stages 0 B A)))
+EnclosureIs room A B (Some e) = (space room (difference_stages 0 B A) ≡ enough e.overlays) × (shape_encloses A B ≡ e.encloses)
 
-abbrev pub EnclosureWithin : ℕ → Enclosure → Type 0
-EnclosureWithin m NoRoom = Unit {0}
-EnclosureWithin m (Yes overlays) = overlays ≤ m
-EnclosureWithin m (No overlays) = overlays ≤ m
+abbrev pub EnclosureWithin : ℕ → Option Enclosure → Type 0
+EnclosureWithin m None = Unit {0}
+EnclosureWithin m (Some e) = e.overlays ≤ m
 
 -- ---- stages, answers and marks of one or many
 -- these stages, if there is something to do
@@ -46,18 +41,18 @@ only_if false ms = []
 abbrev pub stages_of : List Trapezoid → List Trapezoid → List Stage
 stages_of A B = only_if (is_some B) (difference_stages 0 B A)
 
-abbrev pub EnclosedAs : ℕ → List Stage → Enclosed → Type 0
-EnclosedAs room ms enclosed.NoRoom = T (is_no_room (space room ms))
-EnclosedAs room ms (enclosed.Done overlays) = space room ms ≡ enough overlays
+abbrev pub EnclosedAs : ℕ → List Stage → Option ℕ → Type 0
+EnclosedAs room ms None = T (is_no_room (space room ms))
+EnclosedAs room ms (Some overlays) = space room ms ≡ enough overlays
 
-abbrev pub EnclosedWithin : ℕ → Enclosed → Type 0
-EnclosedWithin m enclosed.NoRoom = Unit {0}
-EnclosedWithin m (enclosed.Done overlays) = overlays ≤ m
+abbrev pub EnclosedWithin : ℕ → Option ℕ → Type 0
+EnclosedWithin m None = Unit {0}
+EnclosedWithin m (Some overlays) = overlays ≤ m
 
 -- what holds of the marks where there was room for all
-abbrev pub Marking : Enclosed → Type 0 → Type 0
-Marking enclosed.NoRoom X = Unit {0}
-Marking (enclosed.Done overlays) X = X
+abbrev pub Marking : Option ℕ → Type 0 → Type 0
+Marking None X = Unit {0}
+Marking (Some overlays) X = X
 
 -- a shape with trapezoids encloses another
 abbrev pub some_encloses : List Trapezoid → List Trapezoid → Bool

@@ -13,21 +13,14 @@ ghost use Rattle.enclosure_code.specs.Code.{disjoint_from, all_disjoint, Enclosu
 
 use boolean::Folded;
 use boxes::Box;
-use extraction::{Enclosed, Enclosure};
+use extraction::Enclosure;
 
 // Whether a box is disjoint from each of the first n of a slice.
 fn disjoint_from(e: Box, boxes: &[i64], n: usize) -> bool
     requires { box_width * n ≤ length boxes.now }
     ensures { result ≡ disjoint_from e boxes.now n }
 {
-    let mut j = 0;
-    while j < n {
-        if !boxes_code::boxes_disjoint(e, boxes, j) {
-            return false;
-        }
-        j += 1;
-    }
-    true
+    (0..n).all(|j| boxes_code::boxes_disjoint(e, boxes, j))
 }
 
 // Whether each of m boxes is disjoint from each of n others.
@@ -35,19 +28,12 @@ fn all_disjoint(first_boxes: &[i64], m: usize, second_boxes: &[i64], n: usize) -
     requires { (box_width * m ≤ length first_boxes.now) × (box_width * n ≤ length second_boxes.now) }
     ensures { result ≡ all_disjoint first_boxes.now m second_boxes.now n }
 {
-    let mut i = 0;
-    while i < m {
-        let e = boxes_code::load_box(first_boxes, i);
-        if !disjoint_from(e, second_boxes, n) {
-            return false;
-        }
-        i += 1;
-    }
-    true
+    (0..m).all(|i| disjoint_from(boxes_code::load_box(first_boxes, i), second_boxes, n))
 }
 
 // Whether a shape encloses another, both with trapezoids, by the difference of the other minus it. Where all boxes are disjoint nothing is run:
 // the other is left whole, after an overlay for each two trapezoids. `out` and `scratch` are left blank.
+#[tactic(auto, using(crate::proofs::Answers::encloses_none))]
 fn enclosure(
     shape: &[i32],
     shape_boxes: &[i64],
@@ -56,7 +42,7 @@ fn enclosure(
     out: &mut [i32],
     scratch: &mut [i32],
     room: usize,
-) -> Enclosure
+) -> Option<Enclosure>
     requires boxed_layer { BoxedLayer shape.now shape_boxes.now × BoxedLayer other.now other_boxes.now }
     requires shape_nonzero { (0 < count trapezoid_codec shape.now) × (0 < count trapezoid_codec other.now) }
     requires borrowed { Borrowed out.old room × (room ≤ max_records) }
@@ -69,11 +55,17 @@ fn enclosure(
     let n = shape.len() / records::MEMORY_WIDTH;
     if all_disjoint(other_boxes, m, shape_boxes, n) {
         if room < m {
-            return Enclosure::NoRoom;
+            return None;
         }
-        return Enclosure::No(m * n);
+        return Some(Enclosure {
+            encloses: false,
+            overlays: m * n,
+        });
     }
-    let f = counted_difference_code::difference_counted(
+    let Folded {
+        trapezoids,
+        overlays,
+    } = counted_difference_code::difference_counted(
         other,
         other_boxes,
         shape,
@@ -81,47 +73,15 @@ fn enclosure(
         out,
         scratch,
         room,
-    );
-    match f {
-        Folded::NoRoom(_) => Enclosure::NoRoom,
-        Folded::Done {
-            trapezoids,
-            overlays,
-        } => {
-            if trapezoids == 0 {
-                return Enclosure::Yes(overlays);
-            }
-            Enclosure::No(overlays)
-        }
-    }
-}
-
-// Whether a shape encloses the trapezoids of a layer with numbers from `start` to before `end`.
-fn encloses_part(
-    shape: &[i32],
-    shape_boxes: &[i64],
-    layer: &[i32],
-    boxes: &[i64],
-    start: usize,
-    end: usize,
-    out: &mut [i32],
-    scratch: &mut [i32],
-    room: usize,
-) -> Enclosure
-    requires boxed_layer { BoxedLayer shape.now shape_boxes.now × (0 < count trapezoid_codec shape.now) }
-    requires part_within { BoxedLayer layer.now boxes.now × (start < end) × (end ≤ count trapezoid_codec layer.now) }
-    requires borrowed { Borrowed out.old room × (room ≤ max_records) }
-    requires scratch_for { ScratchFor out.old scratch.old }
-    ensures enclosure_is { EnclosureIs room (layer_of shape.now) (trapezoids_between start end (layer_of layer.now)) result }
-    ensures enclosure_within { EnclosureWithin overlays_of_layer result }
-    ensures blank { Blank (pos 0) out.new × Blank (pos 0) scratch.new }
-{
-    let other = &layer[records::MEMORY_WIDTH * start..records::MEMORY_WIDTH * end];
-    let other_boxes = &boxes[boxes_code::WIDTH * start..boxes_code::WIDTH * end];
-    enclosure(shape, shape_boxes, other, other_boxes, out, scratch, room)
+    ).ok()?;
+    Some(Enclosure {
+        encloses: trapezoids == 0,
+        overlays,
+    })
 }
 
 // A shape tried with the group of a layer from `start` to before `end`, which has the number j. If it encloses it, that gets its number.
+#[tactic(auto, using(crate::proofs::Ones::parts))]
 pub fn enclose_one(
     number: usize,
     shape: &[i32],
@@ -135,7 +95,7 @@ pub fn enclose_one(
     out: &mut [i32],
     scratch: &mut [i32],
     room: usize,
-) -> Enclosed
+) -> Option<usize>
     requires boxed_layer { BoxedLayer shape.now shape_boxes.now × (0 < count trapezoid_codec shape.now) × (number < max_records) × (j < length marks.old) }
     requires part_within { BoxedLayer layer.now boxes.now × (end ≤ count trapezoid_codec layer.now) }
     requires borrowed { Borrowed out.old room × (room ≤ max_records) }
@@ -146,25 +106,21 @@ pub fn enclose_one(
     ensures blank { Blank (pos 0) out.new × Blank (pos 0) scratch.new }
 {
     if end <= start {
-        return Enclosed::Done(0);
+        return Some(0);
     }
-    let f = encloses_part(
+    let other = &layer[records::MEMORY_WIDTH * start..records::MEMORY_WIDTH * end];
+    let other_boxes = &boxes[boxes_code::WIDTH * start..boxes_code::WIDTH * end];
+    let Enclosure { encloses, overlays } = enclosure(
         shape,
         shape_boxes,
-        layer,
-        boxes,
-        start,
-        end,
+        other,
+        other_boxes,
         out,
         scratch,
         room,
-    );
-    match f {
-        Enclosure::NoRoom => Enclosed::NoRoom,
-        Enclosure::Yes(overlays) => {
-            marks[j] = number as u32;
-            Enclosed::Done(overlays)
-        }
-        Enclosure::No(overlays) => Enclosed::Done(overlays),
+    )?;
+    if encloses {
+        marks[j] = number as u32;
     }
+    Some(overlays)
 }

@@ -10,7 +10,7 @@ ghost use Rattle.boxes_code.specs.Code.{BoxedLayer};
 ghost use Rattle.remainder_code.specs.Code.{max_overlays, ScratchFor};
 ghost use Rattle.equality_code.specs.Code.{ComparedAs, ComparedWithin, NothingLeft};
 
-use boolean::{Compared, Folded};
+use boolean::Compared;
 
 // The equality test where nothing is left of the first layer minus the second, which took `made` overlays.
 fn second_difference(
@@ -41,19 +41,12 @@ fn second_difference(
         room,
     );
     match f {
-        Folded::NoRoom(overlays) => Compared::NoRoom(made + overlays),
-        Folded::Done {
-            trapezoids,
-            overlays,
-        } => {
-            if trapezoids == 0 {
-                return Compared::Same(made + overlays);
-            }
-            Compared::Differs {
-                operand: 1,
-                overlays: made + overlays,
-            }
-        }
+        Err(r) => Compared::NoRoom(made + r.overlays),
+        Ok(f) if f.trapezoids == 0 => Compared::Same(made + f.overlays),
+        Ok(f) => Compared::Differs {
+            operand: 1,
+            overlays: made + f.overlays,
+        },
     }
 }
 
@@ -84,27 +77,20 @@ pub fn equal_boxed(
         room,
     );
     match f {
-        Folded::NoRoom(overlays) => Compared::NoRoom(overlays),
-        Folded::Done {
-            trapezoids,
-            overlays,
-        } => {
-            if trapezoids == 0 {
-                return second_difference(
-                    overlays,
-                    first,
-                    first_boxes,
-                    second,
-                    second_boxes,
-                    out,
-                    scratch,
-                    room,
-                );
-            }
-            Compared::Differs {
-                operand: 0,
-                overlays,
-            }
-        }
+        Err(r) => Compared::NoRoom(r.overlays),
+        Ok(f) if f.trapezoids == 0 => second_difference(
+            f.overlays,
+            first,
+            first_boxes,
+            second,
+            second_boxes,
+            out,
+            scratch,
+            room,
+        ),
+        Ok(f) => Compared::Differs {
+            operand: 0,
+            overlays: f.overlays,
+        },
     }
 }

@@ -1,24 +1,16 @@
-// Transistors from three layers: what the functions that look for them answer.
+// Transistors from three layers: what the functions that look for them answer, where there was room.
 #![tactic(auto)]
 
-// Whether one shape encloses another: there was no room for the difference; or yes or no, and the number of overlays.
+// Whether one shape encloses another, and the number of overlays.
 #[derive(Clone, Copy)]
-pub enum Enclosure {
-    NoRoom,
-    Yes(usize),
-    No(usize),
+pub struct Enclosure {
+    pub encloses: bool,
+    pub overlays: usize,
 }
 
-// The shapes of one layer tried with those of another: there was no room for some difference, or the number of overlays of all.
+// The triples written to a list: how many they are, and the number of overlays.
 #[derive(Clone, Copy)]
-pub enum Enclosed {
-    NoRoom,
-    Done(usize),
-}
-
-// The triples written to a list: there was no room for some difference or in the list; or how many they are, and the number of overlays.
-#[derive(Clone, Copy)]
-pub enum Listed {
-    NoRoom,
-    Done { triples: usize, overlays: usize },
+pub struct Listed {
+    pub triples: usize,
+    pub overlays: usize,
 }

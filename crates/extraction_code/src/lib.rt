@@ -11,20 +11,16 @@ ghost use Rattle.remainder_code.specs.Code.{ScratchFor};
 ghost use Rattle.marked_layers_code.specs.Code.{BothTried, BothWithin};
 ghost use Rattle.extraction_code.specs.Code.{ListedAs, ListedWithin, all_small};
 
-use extraction::{Enclosed, Listed};
-use geometry::Fill;
+use extraction::Listed;
 
 // Whether three layers are small.
 pub fn all_small(a: &[i32], b: &[i32], c: &[i32]) -> bool
     ensures { result ≡ all_small a.now b.now c.now }
 {
-    if a.len() <= boxes_code::SMALL_WORDS {
-        return boxes_code::both_small(b, c);
-    }
-    false
+    a.len() <= boxes_code::SMALL_WORDS && boxes_code::both_small(b, c)
 }
 
-// Bases and emitters marked.
+// Bases and emitters marked. Small layers get small buffers for their shapes; a closure called with either would clear both kinds.
 fn mark_layers(
     collectors: &[i32],
     collector_boxes: &mut [i64],
@@ -37,7 +33,7 @@ fn mark_layers(
     out: &mut [i32],
     scratch: &mut [i32],
     room: usize,
-) -> Enclosed
+) -> Option<usize>
     requires boxed_layer { BoxedLayer collectors.now collector_boxes.old × BoxedLayer bases.now base_boxes.old × BoxedLayer emitters.now emitter_boxes.old }
     requires base_marks_len { (length base_marks.old ≡ count trapezoid_codec bases.now) × (length emitter_marks.old ≡ count trapezoid_codec emitters.now) }
     requires borrowed { Borrowed out.old room × (room ≤ max_records) }
@@ -49,7 +45,7 @@ fn mark_layers(
     if all_small(collectors, bases, emitters) {
         let mut words = [0; boxes_code::SMALL_WORDS];
         let mut base_words = [0; boxes_code::SMALL_WORDS];
-        return marked_layers_code::mark_with(
+        marked_layers_code::mark_with(
             collectors,
             collector_boxes,
             bases,
@@ -63,29 +59,31 @@ fn mark_layers(
             out,
             scratch,
             room,
-        );
+        )
+    } else {
+        let mut words = [0; records::MAX_WORDS];
+        let mut base_words = [0; records::MAX_WORDS];
+        marked_layers_code::mark_with(
+            collectors,
+            collector_boxes,
+            bases,
+            base_boxes,
+            emitters,
+            emitter_boxes,
+            &mut words,
+            &mut base_words,
+            base_marks,
+            emitter_marks,
+            out,
+            scratch,
+            room,
+        )
     }
-    let mut words = [0; records::MAX_WORDS];
-    let mut base_words = [0; records::MAX_WORDS];
-    marked_layers_code::mark_with(
-        collectors,
-        collector_boxes,
-        bases,
-        base_boxes,
-        emitters,
-        emitter_boxes,
-        &mut words,
-        &mut base_words,
-        base_marks,
-        emitter_marks,
-        out,
-        scratch,
-        room,
-    )
 }
 
 // The triples of collector, base and emitter, by the boxes of the layers, written to `list`, which is blank. `out` and `scratch` are
 // left blank; the boxes are not kept.
+#[tactic(auto, using(crate::proofs::Ways::layer_triples))]
 pub fn extract_into(
     collectors: &[i32],
     collector_boxes: &mut [i64],
@@ -97,7 +95,7 @@ pub fn extract_into(
     out: &mut [i32],
     scratch: &mut [i32],
     room: usize,
-) -> Listed
+) -> Option<Listed>
     requires boxed_layer { BoxedLayer collectors.now collector_boxes.old × BoxedLayer bases.now base_boxes.old × BoxedLayer emitters.now emitter_boxes.old × Blank 0 list.old }
     requires borrowed { Borrowed out.old room × (room ≤ max_records) }
     requires scratch_for { ScratchFor out.old scratch.old }
@@ -107,33 +105,22 @@ pub fn extract_into(
 {
     let mut base_marks = [0u32; records::MAX_RECORDS];
     let mut emitter_marks = [0u32; records::MAX_RECORDS];
-    let m = bases.len() / records::MEMORY_WIDTH;
-    let n = emitters.len() / records::MEMORY_WIDTH;
-    let f = mark_layers(
+    let base_marks = &mut base_marks[..bases.len() / records::MEMORY_WIDTH];
+    let emitter_marks = &mut emitter_marks[..emitters.len() / records::MEMORY_WIDTH];
+    let overlays = mark_layers(
         collectors,
         collector_boxes,
         bases,
         base_boxes,
         emitters,
         emitter_boxes,
-        &mut base_marks[..m],
-        &mut emitter_marks[..n],
+        base_marks,
+        emitter_marks,
         out,
         scratch,
         room,
-    );
-    let Enclosed::Done(overlays) = f else {
-        return Listed::NoRoom;
-    };
+    )?;
     let collector_count = collectors.len() / records::MEMORY_WIDTH;
-    let g = triples_code::list_triples(
-        collector_count,
-        &base_marks[..m],
-        &emitter_marks[..n],
-        list,
-    );
-    match g {
-        Fill::NoRoom => Listed::NoRoom,
-        Fill::Written(triples) => Listed::Done { triples, overlays },
-    }
+    let triples = triples_code::list_triples(collector_count, base_marks, emitter_marks, list)?;
+    Some(Listed { triples, overlays })
 }

@@ -1,4 +1,5 @@
 -- Polygon files of the two editions: which pass, what both readers say of one file, and a file with its lengths written in.
+use Rattle.std.specs.Prelude.{Option, Some, None, Ok}
 use mathlib.Core.Path.{◌≡◌, refl, sym, ap, ◌∙◌, subst}
 use mathlib.Core.Bool.{true}
 use mathlib.Core.List.{List, [], ◌∷◌, ◌++◌}
@@ -16,15 +17,11 @@ use Rattle.records.specs.Records.{words_of, records}
 use Rattle.records.specs.Words.{Word, word_codec}
 use Rattle.records.proofs.Records.{records_words}
 use Rattle.records.proofs.Words.{words_faithful}
-use Rattle.geometry.specs.declared.Checked.TheVariants.{Passed, Refused}
 use Rattle.files.specs.declared.Edition.{Edition}
 use Rattle.files.specs.declared.Edition.TheVariants.{First, New}
-use Rattle.files.specs.declared.Number.{Number}
-use Rattle.files.specs.declared.Number.TheVariants.{Of, Outside}
-use Rattle.files.specs.declared.Directory.TheVariants.{Wrong, Right}
 use Rattle.files.specs.Formats.{file_sized, file_words, word_at, polygon_file}
 use Rattle.files.specs.Pairs.{amount_of, count_in, body_of, offset_at, length_read, length_at}
-use Rattle.files.specs.Directory.{number_from, count_of, length_by, pair_length, after_pair, end_of, pairs_from, directory_by, directory_of}
+use Rattle.files.specs.Directory.{number_from, count_of, length_by, pair_length, after_pair, end_of, pairs_from, directory_by, directory_of, wrong_by}
 use Rattle.files.specs.Contents.{lengths_from, vertex_codec, polygons_of}
 use Rattle.files.specs.Form.{CountRight, end_before, PairRight, HasForm, WrongAt}
 use Rattle.files.specs.Rows.{size_row, directory_rows, first_off_grid, polygon_file_checked}
@@ -57,7 +54,7 @@ use Rattle.files.proofs.Grid.{grid_exact}
 pub accepted_exact : AcceptedExact
 accepted_exact edition L bs = (there, back)
   where
-    there : polygon_file_checked edition L bs ≡ Passed → Accepted edition L bs
+    there : polygon_file_checked edition L bs ≡ Ok tt → Accepted edition L bs
     there e =
         let h = polygon_file_passes edition L bs e in
         record {
@@ -67,7 +64,7 @@ accepted_exact edition L bs = (there, back)
           grid = (grid_exact L 0 (polygons_of edition (file_words bs))).0 h.grid;
         }
 
-    back : Accepted edition L bs → polygon_file_checked edition L bs ≡ Passed
+    back : Accepted edition L bs → polygon_file_checked edition L bs ≡ Ok tt
     back h =
         let p = (directory_exact (polygon_file edition) (file_words bs) h.pairs).1 h.form in
         polygons_right edition L bs (true_is h.size) p.is ((grid_exact L 0 (polygons_of edition (file_words bs))).1 h.grid)
@@ -84,10 +81,10 @@ pair_same : (d e : Edition) (before : ℕ) (offset n : ℤ) → pair_length (pol
 unfolding pair_length
 pair_same d e before offset n = go (number_from before before offset) (number_from 3 32 n)
   where
-    go : (a b : Number) → length_by (polygon_file d) before a b ≡ length_by (polygon_file e) before a b
-    go (Of o) (Of k) = refl
-    go (Of o) Outside = refl
-    go Outside b = refl
+    go : (a b : Option ℕ) → length_by (polygon_file d) before a b ≡ length_by (polygon_file e) before a b
+    go (Some o) (Some k) = refl
+    go (Some o) None = refl
+    go None b = refl
 
 module _ {d : Edition} {vs : List ℤ} {e : Edition} {ws : List ℤ} (h : Alike d vs e ws) where
   walk_same : (m i before : ℕ) → i + m ≤ count_in ws → pairs_from (polygon_file d) vs m i before ≡ pairs_from (polygon_file e) ws m i before
@@ -107,9 +104,9 @@ module _ {d : Edition} {vs : List ℤ} {e : Edition} {ws : List ℤ} (h : Alike 
       count_same : count_of (polygon_file d) vs ≡ count_of (polygon_file e) ws
       count_same = rw (h.first, h.long)
 
-      go : (k : Number) → count_of (polygon_file e) ws ≡ k → directory_by (polygon_file d) vs k ≡ directory_by (polygon_file e) ws k
-      go (Of n) p = let c = ap amount_of (count_is (polygon_file e) ws p).0.is in walk_same n 0 0 (omega (arith, c))
-      go Outside p = refl
+      go : (k : Option ℕ) → count_of (polygon_file e) ws ≡ k → directory_by (polygon_file d) vs k ≡ directory_by (polygon_file e) ws k
+      go (Some n) p = let c = ap amount_of (count_is (polygon_file e) ws p).0.is in walk_same n 0 0 (omega (arith, c))
+      go None p = refl
 
   lengths_same : (m i : ℕ) → i + m ≤ count_in ws → lengths_from (polygon_file d) vs m i ≡ lengths_from (polygon_file e) ws m i
   unfolding lengths_from
@@ -146,15 +143,15 @@ pub reads_as_before : ReadsAsBefore
 unfolding polygon_file_checked
 reads_as_before L bs h = go (count_of (polygon_file First) (file_words bs)) refl
   where
-    go : (k : Number) → count_of (polygon_file First) (file_words bs) ≡ k
+    go : (k : Option ℕ) → count_of (polygon_file First) (file_words bs) ≡ k
         → size_row (file_sized (length bs)) (directory_rows (directory_of (polygon_file New) (file_words bs)) (first_off_grid L 0 (polygons_of New (file_words bs))))
         ≡ size_row (file_sized (length bs)) (directory_rows (directory_of (polygon_file First) (file_words bs)) (first_off_grid L 0 (polygons_of First (file_words bs))))
-    go (Of n) p =
+    go (Some n) p =
         let c = count_is (polygon_file First) (file_words bs) p in
         let m = ap amount_of c.0.is in
         let a = present_alike (file_words bs) (λ i l z. h i l (omega (arith, l, m, c.1)) z) in
         λ j. size_row (file_sized (length bs)) (directory_rows (directory_same a j) (first_off_grid L 0 (polygons_same a j)))
-    go Outside p =
+    go None p =
         let a = directory_none (polygon_file New) (file_words bs) (unfold count_of in p) in
         let b = directory_none (polygon_file First) (file_words bs) p in
         rw (← a, ← b)
@@ -202,7 +199,7 @@ module _ (ws : List ℤ) {n i : ℕ} (h : HasForm (polygon_file New) ws n) (g : 
         total = omega (arith, p.total, t, b);
       }
 
-  older_wrong : directory_of (polygon_file First) ws ≡ Wrong 6 i
+  older_wrong : directory_of (polygon_file First) ws ≡ wrong_by 6 i
   older_wrong =
       let c = ap amount_of h.count.is in
       (pair_place_exact (polygon_file First) ws i).1 (record {

@@ -1,4 +1,5 @@
 -- The length of a pair: as it is written, or found where it is left out.
+use Rattle.std.specs.Prelude.{Some, None}
 use mathlib.Core.Path.{◌≡◌, refl, sym, ap, ◌∙◌}
 use mathlib.Core.Bool.{Bool, true, false}
 use mathlib.Core.List.{List}
@@ -8,7 +9,6 @@ use lib.IntN.{ℤ, pos, negsuc}
 use lib.ListN.{length}
 use borrow.Author.Tests.{lt-ltb, le-ltb}
 use Rattle.files.specs.declared.Format.{Format}
-use Rattle.files.specs.declared.Number.TheVariants.{Of, Outside}
 use Rattle.files.specs.Formats.{word_at}
 use Rattle.files.specs.Pairs.{natural_of, count_in, body_of, next_offset, found_length, or_found, length_read}
 use Rattle.files.specs.Directory.{number_from}
@@ -22,10 +22,10 @@ not_left_out true (pos (suc n)) found h = refl
 not_left_out true (negsuc n) found h = refl
 
 -- whether it is 0, by the number from 0 to 0
-pub is_zero : (z : ℤ) {n : ℕ} → number_from 0 0 z ≡ Of n → z ≡ pos 0
+pub is_zero : (z : ℤ) {n : ℕ} → number_from 0 0 z ≡ Some n → z ≡ pos 0
 is_zero z e = let h = number 0 0 z e in h.is ∙ ap pos (omega (arith, h.high))
 
-pub no_zero : (z : ℤ) → number_from 0 0 z ≡ Outside → z ≡ pos 0 → ⊥
+pub no_zero : (z : ℤ) → number_from 0 0 z ≡ None → z ≡ pos 0 → ⊥
 no_zero z e h = let p = in_range_lem 0 0 z (ap natural_of h) (omega arith) (omega arith) in let q : ◌≡◌ {A = ℕ} 0 1 = cc in omega arith
 
 module _ (f : Format) (ws : List ℤ) (i : ℕ) where

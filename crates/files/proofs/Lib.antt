@@ -1,6 +1,7 @@
 pub mod Numbers
 pub mod Lengths
 pub mod Reading
+pub mod Same
 pub mod Walk
 pub mod Right
 pub mod Layers

@@ -12,9 +12,8 @@ use Rattle.lists.proofs.Parts.{cut_length}
 use Rattle.records.specs.Records.{Codec, record_at, records_from, count}
 use Rattle.records.proofs.Records.{length_from}
 use Rattle.files.specs.declared.Format.{Format}
-use Rattle.files.specs.declared.Directory.TheVariants.{Right}
 use Rattle.files.specs.Formats.{word_at, file_words, polygon_file}
-use Rattle.files.specs.Directory.{pairs_from, HasPairs}
+use Rattle.files.specs.Directory.{pairs_from, HasPairs, right_with}
 use Rattle.files.specs.Pairs.{amount_of, count_in, body_of, offset_at, length_read, length_at}
 use Rattle.files.specs.Contents.{lengths_from, lengths_of, units_of, lists_of, lists_from, vertex_codec}
 use Rattle.files.specs.Statements.{ListsByOffset, ListsJoined, PairsFit, CheckedPairs}
@@ -43,7 +42,7 @@ record Fits (f : Format) (ws : List ℤ) (total j : ℕ) : Type 0 where
 module _ (f : Format) (ws : List ℤ) {n total : ℕ} where
   -- ---- the lists by offset
   module _ {A : Type 0} (C : Codec ℤ A) (enough : length (units_of C ws) ≡ total) where
-    lists : (m i before : ℕ) → before ≤ f.total → pairs_from f ws m i before ≡ Right n total → cut (lengths_from f ws m i) (drop before (units_of C ws)) ≡ lists_from f C ws m i
+    lists : (m i before : ℕ) → before ≤ f.total → pairs_from f ws m i before ≡ right_with n total → cut (lengths_from f ws m i) (drop before (units_of C ws)) ≡ lists_from f C ws m i
     unfolding lengths_from cut lists_from
     lists zero i before h e = refl
     lists (suc m) i before h e =
@@ -61,7 +60,7 @@ module _ (f : Format) (ws : List ℤ) {n total : ℕ} where
         ∙ ap (records_from C k.size (body_of ws)) z in
         rw (l, o, t, drop-drop k.size before (units_of C ws), lists m (i + 1) (before + k.size) p.total k.rest)
 
-    join : (m i before : ℕ) → before ≤ f.total → pairs_from f ws m i before ≡ Right n total → joined (cut (lengths_from f ws m i) (drop before (units_of C ws))) ≡ drop before (units_of C ws)
+    join : (m i before : ℕ) → before ≤ f.total → pairs_from f ws m i before ≡ right_with n total → joined (cut (lengths_from f ws m i) (drop before (units_of C ws))) ≡ drop before (units_of C ws)
     unfolding lengths_from cut
     join zero i before h e = let r = stops f ws i before e in sym (drop_of_length-le (units_of C ws) {i = before} (omega (arith, enough, r)))
     join (suc m) i before h e =
@@ -72,7 +71,7 @@ module _ (f : Format) (ws : List ℤ) {n total : ℕ} where
         (take-append-drop k.size (drop before (units_of C ws)))
 
   -- ---- one pair
-  fits : (m i before : ℕ) → before ≤ f.total → pairs_from f ws m i before ≡ Right n total → (d : ℕ) → d < m → Fits f ws total (i + d)
+  fits : (m i before : ℕ) → before ≤ f.total → pairs_from f ws m i before ≡ right_with n total → (d : ℕ) → d < m → Fits f ws total (i + d)
   fits zero i before h e d l = absurd (not-suc-le-zero l)
   fits (suc m) i before h e zero l =
       let k = next f ws m i before e in

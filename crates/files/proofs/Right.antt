@@ -1,4 +1,5 @@
 -- What a directory that rows 5 and 6 let pass says.
+use Rattle.std.specs.Prelude.{Option, Some, None}
 use mathlib.Core.Path.{◌≡◌, refl, sym, ap, ◌∙◌}
 use mathlib.Core.List.{List}
 use mathlib.Core.Bool.{Bool, true, false}
@@ -11,14 +12,12 @@ use borrow.Author.Tests.{eqb-true}
 use borrow.Rule.Slice.PartMut.{mid_of}
 use Rattle.lists.proofs.Parts.{mid_tail}
 use Rattle.files.specs.declared.Format.{Format}
-use Rattle.files.specs.declared.Number.{Number}
-use Rattle.files.specs.declared.Number.TheVariants.{Of, Outside}
-use Rattle.files.specs.declared.Directory.TheVariants.{Right}
 use Rattle.files.specs.Formats.{word_at, file_words}
-use Rattle.files.specs.Directory.{count_of, pair_length, at_end, after_pair, end_of, pairs_from, directory_by, directory_of}
+use Rattle.files.specs.Directory.{count_of, pair_length, at_end, after_pair, end_of, pairs_from, directory_by, directory_of, right_with}
 use Rattle.files.specs.Pairs.{amount_of, count_in, body_of, length_read}
 use Rattle.files.proofs.Reading.{length_file, body_words}
 use Rattle.files.proofs.Walk.{pair, count_is}
+use Rattle.files.proofs.Same.{right_same}
 
 -- ---- the pairs from number i on
 pub record Ends (f : Format) (ws : List ℤ) (m i before n total : ℕ) : Type 0 where
@@ -30,29 +29,29 @@ pub record Ends (f : Format) (ws : List ℤ) (m i before n total : ℕ) : Type 0
 -- the next pair, and the pairs past it
 pub record Next (f : Format) (ws : List ℤ) (m i before n total : ℕ) : Type 0 where
   pub size : ℕ
-  pub found : pair_length f before (word_at ws (2 * i + 1)) (length_read f ws i) ≡ Of size
-  pub rest : pairs_from f ws m (i + 1) (before + size) ≡ Right n total
+  pub found : pair_length f before (word_at ws (2 * i + 1)) (length_read f ws i) ≡ Some size
+  pub rest : pairs_from f ws m (i + 1) (before + size) ≡ right_with n total
 
 module _ (f : Format) (ws : List ℤ) where
-  at_end_lem : (t : Bool) (i before : ℕ) {n total : ℕ} → at_end t i before ≡ Right n total → (t ≡ true) × (i ≡ n) × (before ≡ total)
-  at_end_lem true i before e = (refl, cc, cc)
+  at_end_lem : (t : Bool) (i before : ℕ) {n total : ℕ} → at_end t i before ≡ right_with n total → (t ≡ true) × (i ≡ n) × (before ≡ total)
+  at_end_lem true i before {n} {total} e = let k = right_same {m = i} {t = before} {n = n} {u = total} e in (refl, k.0, k.1)
   at_end_lem false i before e = let z : ◌≡◌ {A = ℕ} 0 1 = cc in absurd (omega arith)
 
   -- past the last pair
-  pub stops : (i before : ℕ) {n total : ℕ} → pairs_from f ws 0 i before ≡ Right n total → before ≡ total
+  pub stops : (i before : ℕ) {n total : ℕ} → pairs_from f ws 0 i before ≡ right_with n total → before ≡ total
   unfolding pairs_from end_of
   stops i before e = (at_end_lem (eqb (2 * i + 1 + f.unit * before) (length ws)) i before e).2
 
-  pub next : (m i before : ℕ) {n total : ℕ} → pairs_from f ws (suc m) i before ≡ Right n total → Next f ws m i before n total
+  pub next : (m i before : ℕ) {n total : ℕ} → pairs_from f ws (suc m) i before ≡ right_with n total → Next f ws m i before n total
   unfolding pairs_from
   next m i before {n} {total} e = go (pair_length f before (word_at ws (2 * i + 1)) (length_read f ws i)) refl e
     where
-      go : (k : Number) → pair_length f before (word_at ws (2 * i + 1)) (length_read f ws i) ≡ k
-          → after_pair k i (λ (s : ℕ). pairs_from f ws m (i + 1) (before + s)) ≡ Right n total → Next f ws m i before n total
-      go (Of s) p e = record { size = s; found = p; rest = e }
-      go Outside p e = let z : ◌≡◌ {A = ℕ} 0 1 = cc in absurd (omega arith)
+      go : (k : Option ℕ) → pair_length f before (word_at ws (2 * i + 1)) (length_read f ws i) ≡ k
+          → after_pair k i (λ (s : ℕ). pairs_from f ws m (i + 1) (before + s)) ≡ right_with n total → Next f ws m i before n total
+      go (Some s) p e = record { size = s; found = p; rest = e }
+      go None p e = let z : ◌≡◌ {A = ℕ} 0 1 = cc in absurd (omega arith)
 
-  pub ends : (m i before : ℕ) {n total : ℕ} → before ≤ f.total → pairs_from f ws m i before ≡ Right n total → Ends f ws m i before n total
+  pub ends : (m i before : ℕ) {n total : ℕ} → before ≤ f.total → pairs_from f ws m i before ≡ right_with n total → Ends f ws m i before n total
   unfolding pairs_from end_of
   ends zero i before {n} {total} h e =
       let u = at_end_lem (eqb (2 * i + 1 + f.unit * before) (length ws)) i before e in
@@ -69,16 +68,16 @@ pub record IsRight (f : Format) (ws : List ℤ) (n total : ℕ) : Type 0 where
   pub first : word_at ws 0 ≡ pos n
   pub most : n ≤ f.count
   pub fit : 2 * n + 1 ≤ length ws
-  pub walk : pairs_from f ws n 0 0 ≡ Right n total
+  pub walk : pairs_from f ws n 0 0 ≡ right_with n total
   pub units : total ≤ f.total
   pub end : 2 * n + 1 + f.unit * total ≡ length ws
 
-pub right : (f : Format) (ws : List ℤ) {n total : ℕ} → directory_of f ws ≡ Right n total → IsRight f ws n total
+pub right : (f : Format) (ws : List ℤ) {n total : ℕ} → directory_of f ws ≡ right_with n total → IsRight f ws n total
 unfolding directory_of
 right f ws {n} {total} e = go (count_of f ws) refl e
   where
-    go : (k : Number) → count_of f ws ≡ k → directory_by f ws k ≡ Right n total → IsRight f ws n total
-    go (Of m) p e =
+    go : (k : Option ℕ) → count_of f ws ≡ k → directory_by f ws k ≡ right_with n total → IsRight f ws n total
+    go (Some m) p e =
         let c = count_is f ws p in
         let r = ends f ws m 0 0 (omega arith) e in
         let s : m ≡ n = omega (arith, r.pairs) in
@@ -90,7 +89,7 @@ right f ws {n} {total} e = go (count_of f ws) refl e
           units = r.units;
           end = r.end;
         }
-    go Outside p e = let z : ◌≡◌ {A = ℕ} 0 1 = cc in absurd (omega arith)
+    go None p e = let z : ◌≡◌ {A = ℕ} 0 1 = cc in absurd (omega arith)
 
 -- the count that the body starts after
 pub count_in_lem : {f : Format} {ws : List ℤ} {n total : ℕ} → IsRight f ws n total → count_in ws ≡ n

@@ -14,8 +14,6 @@ use Rattle.records.specs.Words.{word_codec}
 use Rattle.records.proofs.Records.{records_words, words_records}
 use Rattle.records.proofs.Words.{words_faithful}
 use Rattle.geometry.specs.declared.Trapezoid.{Trapezoid}
-use Rattle.geometry.specs.declared.Checked.{Checked}
-use Rattle.geometry.specs.declared.Checked.TheVariants.{Passed, Refused}
 use Rattle.geometry.specs.Trapezoids.{trapezoid_codec}
 use Rattle.sources.specs.Sets.{empty}
 use Rattle.sources.specs.Sourced.{bearing}
@@ -30,18 +28,20 @@ use Rattle.files.proofs.Answers.{done_is}
 use Rattle.files.proofs.Calls.{file_passes, length_bytes}
 use Rattle.files.proofs.Widths.{memory_units, memory_layers, memory_length, memory_back, memory_sets, memory_checked, written_directory, written_layers, written_units, written_checked}
 use Rattle.files.proofs.WordSizes.{words_passed}
+use Rattle.std.specs.Prelude.{Result, Ok, Err}
+use Rattle.geometry.specs.declared.Refusal.{Refusal}
 
 -- ---- a success
-outcome_done : {W : Type 0} (c : Checked) (z : W) (pieces : ℕ) (content out : List W) → T (is_done (file_outcome c z pieces content out).answer) → (c ≡ Passed) × (length content ≤ length out)
-outcome_done (Refused number place) z pieces content out h = absurd h
-outcome_done Passed z pieces content out h = (refl, go (leb (length content) (length out)) refl h)
+outcome_done : {W : Type 0} (c : Result (Unit {0}) Refusal) (z : W) (pieces : ℕ) (content out : List W) → T (is_done (file_outcome c z pieces content out).answer) → (c ≡ Ok tt) × (length content ≤ length out)
+outcome_done (Err refusal) z pieces content out h = absurd h
+outcome_done (Ok u) z pieces content out h = (refl, go (leb (length content) (length out)) refl h)
   where
     go : (t : Bool) → leb (length content) (length out) ≡ t → T (is_done (placed t z pieces content (length out)).answer) → length content ≤ length out
     go true e h = leb-true (length content) (length out) e
     go false e h = absurd h
 
 -- what a success of the reader and of the writer is
-module _ (L : ℕ) (bs : List ℕ) (out : List ℤ) (e : layer_file_checked L bs ≡ Passed) (h : length (memory_words (file_words bs)) ≤ length out) where
+module _ (L : ℕ) (bs : List ℕ) (out : List ℤ) (e : layer_file_checked L bs ≡ Ok tt) (h : length (memory_words (file_words bs)) ≤ length out) where
   read_is : observed_file (done (length (units_of file_codec (file_words bs))) 0) (memory_words (file_words bs) ++ replicate (length out - length (memory_words (file_words bs))) (pos 0)) ≡ read_layers L bs out
   unfolding read_layers
   read_is = done_is (pos 0) (length (units_of file_codec (file_words bs))) (memory_words (file_words bs)) out e h
@@ -51,7 +51,7 @@ module _ (L : ℕ) (bs : List ℕ) (out : List ℤ) (e : layer_file_checked L bs
       ap (λ (o : FileOutcome ℤ). take (length (memory_words (file_words bs))) o.out) (sym read_is)
       ∙ take-append_seam (memory_words (file_words bs)) (replicate (length out - length (memory_words (file_words bs))) (pos 0))
 
-module _ (L : ℕ) (ws : List ℤ) (out : List ℕ) (e : layer_words_checked L ws ≡ Passed) (h : length (words_of word_codec (written_words ws)) ≤ length out) where
+module _ (L : ℕ) (ws : List ℤ) (out : List ℕ) (e : layer_words_checked L ws ≡ Ok tt) (h : length (words_of word_codec (written_words ws)) ≤ length out) where
   pub write_is : observed_file (done (length (units_of trapezoid_codec ws)) 0) (words_of word_codec (written_words ws) ++ replicate (length out - length (words_of word_codec (written_words ws))) 0) ≡ write_layers L ws out
   unfolding write_layers
   write_is = done_is 0 (length (units_of trapezoid_codec ws)) (words_of word_codec (written_words ws)) out e h
@@ -61,16 +61,16 @@ module _ (L : ℕ) (ws : List ℤ) (out : List ℕ) (e : layer_words_checked L w
       ap (λ (o : FileOutcome ℕ). take (4 * length (written_words ws)) o.out) (sym write_is)
       ∙ take_at (words_of word_codec (written_words ws)) (replicate (length out - length (words_of word_codec (written_words ws))) 0) (4 * length (written_words ws)) (length_bytes (written_words ws))
 
-pub read_passed : (L : ℕ) (bs : List ℕ) (out : List ℤ) → T (is_done (read_layers L bs out).answer) → (layer_file_checked L bs ≡ Passed) × (length (memory_words (file_words bs)) ≤ length out)
+pub read_passed : (L : ℕ) (bs : List ℕ) (out : List ℤ) → T (is_done (read_layers L bs out).answer) → (layer_file_checked L bs ≡ Ok tt) × (length (memory_words (file_words bs)) ≤ length out)
 unfolding read_layers
 read_passed L bs out h = outcome_done (layer_file_checked L bs) (pos 0) (length (units_of file_codec (file_words bs))) (memory_words (file_words bs)) out h
 
-pub write_passed : (L : ℕ) (ws : List ℤ) (out : List ℕ) → T (is_done (write_layers L ws out).answer) → (layer_words_checked L ws ≡ Passed) × (length (words_of word_codec (written_words ws)) ≤ length out)
+pub write_passed : (L : ℕ) (ws : List ℤ) (out : List ℕ) → T (is_done (write_layers L ws out).answer) → (layer_words_checked L ws ≡ Ok tt) × (length (words_of word_codec (written_words ws)) ≤ length out)
 unfolding write_layers
 write_passed L ws out h = outcome_done (layer_words_checked L ws) 0 (length (units_of trapezoid_codec ws)) (words_of word_codec (written_words ws)) out h
 
 -- ---- words that pass, without their sets, are a file that passes
-module _ (L : ℕ) (ws : List ℤ) (e : layers_checked L layer_file file_codec ws ≡ Passed) where
+module _ (L : ℕ) (ws : List ℤ) (e : layers_checked L layer_file file_codec ws ≡ Ok tt) where
   size_fits : file_sized (length (words_of word_codec ws)) ≡ true
   unfolding file_sized
   size_fits =
@@ -85,7 +85,7 @@ module _ (L : ℕ) (ws : List ℤ) (e : layers_checked L layer_file file_codec w
   back : WordsHold L → file_words (words_of word_codec ws) ≡ ws
   back hold = records_words word_codec words_faithful.readable ws (words_passed L hold ws e)
 
-  written_passes : WordsHold L → (M : ℕ) → L ≤ M → layer_file_checked M (words_of word_codec ws) ≡ Passed
+  written_passes : WordsHold L → (M : ℕ) → L ≤ M → layer_file_checked M (words_of word_codec ws) ≡ Ok tt
   unfolding layer_file_checked
   written_passes hold M l = rw (size_fits, back hold) (passes_more L layer_file file_codec ws e M l)
 

@@ -10,15 +10,12 @@ use Rattle.lists.specs.Tests.{all}
 use Rattle.records.specs.Records.{Codec}
 use Rattle.geometry.specs.declared.Vertex.{Vertex}
 use Rattle.geometry.specs.declared.Trapezoid.{Trapezoid}
-use Rattle.geometry.specs.declared.Checked.{Checked}
 use Rattle.geometry.specs.Polygons.{vertex_on_grid}
 use Rattle.geometry.specs.Fitness.{first_refusal}
 use Rattle.geometry.specs.Trapezoids.{trapezoid_codec}
 use Rattle.geometry.proofs.Refusals.{SmallChecked, small_first}
 use Rattle.files.specs.declared.Format.{Format}
 use Rattle.files.specs.declared.Edition.{Edition}
-use Rattle.files.specs.declared.Directory.{Directory}
-use Rattle.files.specs.declared.Directory.TheVariants.{Wrong, Right}
 use Rattle.files.specs.Formats.{file_sized, file_words, polygon_file, layer_file, layer_words}
 use Rattle.files.specs.Directory.{directory_of}
 use Rattle.files.specs.Contents.{units_of, vertex_codec, file_codec, polygons_of}
@@ -26,14 +23,17 @@ use Rattle.files.specs.Rows.{size_row, directory_rows, grid_row, first_off_grid,
 use Rattle.files.proofs.Right.{right, count_in_lem}
 use Rattle.files.proofs.Bounds.{directory_bound, units_are}
 use Rattle.files.proofs.Pairs.{lists_length}
+use Rattle.std.specs.Prelude.{Result, Ok, Err}
+use Rattle.geometry.specs.declared.Refusal.{Refusal}
+use Rattle.files.specs.declared.Directory.{Directory}
 
 -- row 4
-size_small : (b : Bool) (c : Checked) → SmallChecked c → SmallChecked (size_row b c)
+size_small : (b : Bool) (c : Result (Unit {0}) Refusal) → SmallChecked c → SmallChecked (size_row b c)
 size_small true c h = h
 size_small false c h = (omega arith, omega arith)
 
 -- ---- a polygon file
-grid_small : (b : Bool) (i : ℕ) (c : Checked) → i < 4294967296 → SmallChecked c → SmallChecked (grid_row b i c)
+grid_small : (b : Bool) (i : ℕ) (c : Result (Unit {0}) Refusal) → i < 4294967296 → SmallChecked c → SmallChecked (grid_row b i c)
 grid_small true i c l h = h
 grid_small false i c l h = (omega arith, l)
 
@@ -42,9 +42,9 @@ unfolding first_off_grid
 off_grid_small L i [] l = tt
 off_grid_small L i (p ∷ ps) l = grid_small (all (vertex_on_grid L) p) i (first_off_grid L (i + 1) ps) (omega arith) (off_grid_small L (i + 1) ps (omega arith))
 
-polygons_small : (edition : Edition) (L : ℕ) (ws : List ℤ) (d : Directory) → directory_of (polygon_file edition) ws ≡ d → SmallChecked (directory_rows d (first_off_grid L 0 (polygons_of edition ws)))
-polygons_small edition L ws (Wrong number place) e = let h = directory_bound (polygon_file edition) ws e in (h.0, omega (arith, h.1))
-polygons_small edition L ws (Right n total) e =
+polygons_small : (edition : Edition) (L : ℕ) (ws : List ℤ) (d : Result Directory Refusal) → directory_of (polygon_file edition) ws ≡ d → SmallChecked (directory_rows d (first_off_grid L 0 (polygons_of edition ws)))
+polygons_small edition L ws (Err refusal) e = let h = directory_bound (polygon_file edition) ws e in (h.0, omega (arith, h.1))
+polygons_small edition L ws (Ok directory) e =
     let r = right (polygon_file edition) ws e in
     off_grid_small L 0 (polygons_of edition ws) (omega (arith, lists_length (polygon_file edition) vertex_codec ws, count_in_lem r, r.most))
 
@@ -58,9 +58,9 @@ module _ (L : ℕ) (f : Format) (C : Codec ℤ Trapezoid) (ws : List ℤ) (w : C
   unfolding layers_checked
   layers_small = go (directory_of f ws) refl
     where
-      go : (d : Directory) → directory_of f ws ≡ d → SmallChecked (directory_rows d (first_refusal L 0 (units_of C ws)))
-      go (Wrong number place) e = let h = directory_bound f ws e in (h.0, omega (arith, h.1))
-      go (Right n total) e = let r = right f ws e in small_first L 0 (units_of C ws) (omega (arith, units_are f C ws w p r, r.units))
+      go : (d : Result Directory Refusal) → directory_of f ws ≡ d → SmallChecked (directory_rows d (first_refusal L 0 (units_of C ws)))
+      go (Err refusal) e = let h = directory_bound f ws e in (h.0, omega (arith, h.1))
+      go (Ok directory) e = let r = right f ws e in small_first L 0 (units_of C ws) (omega (arith, units_are f C ws w p r, r.units))
 
 pub layer_file_small : (L : ℕ) (bytes : List ℕ) → SmallChecked (layer_file_checked L bytes)
 unfolding layer_file_checked

@@ -1,4 +1,5 @@
 -- The words of layers with the trapezoids in another width: the same count and pairs, the same trapezoids, and so the same layers.
+use Rattle.std.specs.Prelude.{Some, Ok}
 use mathlib.Core.Path.{◌≡◌, refl, sym, ap, ◌∙◌}
 use mathlib.Core.List.{List, [], ◌∷◌, ◌++◌, map}
 use Prim.Native.Nat.{ℕ, zero, suc, ◌+◌, ◌*◌, ◌<◌, ◌≤◌}
@@ -13,17 +14,14 @@ use Rattle.records.specs.Limits.{file_width, memory_width, max_records}
 use Rattle.records.specs.Records.{Codec, Readable, Faithful, record_at, records, words_of}
 use Rattle.records.proofs.Records.{records_words, words_records, length_words}
 use Rattle.geometry.specs.declared.Trapezoid.{Trapezoid}
-use Rattle.geometry.specs.declared.Checked.TheVariants.{Passed}
 use Rattle.geometry.specs.Trapezoids.{trapezoid_of, trapezoid_words, trapezoid_codec}
 use Rattle.geometry.proofs.Trapezoids.{placed_at, trapezoid_in, words_back, trapezoid_readable}
 use Rattle.sources.specs.Sets.{empty}
 use Rattle.sources.specs.Sourced.{Sourced, sourced_codec, bearing}
 use Rattle.sources.proofs.Sourced.{sourced_faithful, shapes_of, empty_words}
-use Rattle.files.specs.declared.Number.TheVariants.{Of}
-use Rattle.files.specs.declared.Directory.TheVariants.{Right}
 use Rattle.files.specs.Formats.{word_at, layers_in, layer_file, layer_words}
 use Rattle.files.specs.Pairs.{natural_of, amount_of, count_in, body_of, length_read}
-use Rattle.files.specs.Directory.{count_of, pair_length, end_of, pairs_from, directory_of}
+use Rattle.files.specs.Directory.{count_of, pair_length, end_of, pairs_from, directory_of, right_with}
 use Rattle.files.specs.Contents.{lengths_from, units_of, lists_of, file_codec, file_layers_of, layers_of, sourced_layers_of, head_of, memory_words, written_words}
 use Rattle.files.specs.Rows.{layers_checked, layer_words_checked}
 use Rattle.files.specs.Statements.{LayerShapes}
@@ -81,38 +79,38 @@ module _ (ws rest : List ℤ) (h : 2 * count_in ws + 1 ≤ length ws) where
 
     -- row 6 lets them pass
     walk_same : {n total : ℕ} → 2 * n + 1 + w * total ≡ length (head_of ws ++ rest) → (m i before : ℕ) → i + m ≤ count_in ws → before ≤ max_records
-        → pairs_from (layers_in u) ws m i before ≡ Right n total → pairs_from (layers_in w) (head_of ws ++ rest) m i before ≡ Right n total
+        → pairs_from (layers_in u) ws m i before ≡ right_with n total → pairs_from (layers_in w) (head_of ws ++ rest) m i before ≡ right_with n total
     unfolding pairs_from end_of
     walk_same {n} {total} r zero i before l b e =
         let s = stops (layers_in u) ws i before e in
         let k : i ≡ n = omega (arith, (ends (layers_in u) ws zero i before b e).pairs) in
         let z = ap (λ (t : ℕ). w * t) s in
-        rw (eq-eqb (2 * i + 1 + w * before) (length (head_of ws ++ rest)) (omega (arith, z, k, r))) (λ j. Right (k j) (s j))
+        rw (eq-eqb (2 * i + 1 + w * before) (length (head_of ws ++ rest)) (omega (arith, z, k, r))) (λ j. right_with (k j) (s j))
     walk_same r (suc m) i before l b e =
         let vs = head_of ws ++ rest in
         let k = next (layers_in u) ws m i before e in
         let p = pair (layers_in u) before (word_at ws (2 * i + 1)) (length_read (layers_in u) ws i) k.found in
         let x = in_range_lem before before (word_at vs (2 * i + 1)) (ap natural_of (same_word (2 * i + 1) (omega arith) ∙ p.start)) (omega arith) (omega arith) in
         let y = in_range_lem 0 max_records (length_read (layers_in w) vs i) (ap natural_of (same_length i (omega arith) ∙ p.is)) (omega arith) p.high in
-        let q : pair_length (layers_in w) before (word_at vs (2 * i + 1)) (length_read (layers_in w) vs i) ≡ Of k.size
+        let q : pair_length (layers_in w) before (word_at vs (2 * i + 1)) (length_read (layers_in w) vs i) ≡ Some k.size
         = sym (right_pair (layers_in w) before (word_at vs (2 * i + 1)) (length_read (layers_in w) vs i) (sym x) (sym y) p.total) in
         rw q (walk_same r m (i + 1) (before + k.size) (omega arith) p.total k.rest)
 
     -- and row 5
-    directory_same : {n total : ℕ} → directory_of (layers_in u) ws ≡ Right n total → length rest ≡ w * total → directory_of (layers_in w) (head_of ws ++ rest) ≡ Right n total
+    directory_same : {n total : ℕ} → directory_of (layers_in u) ws ≡ right_with n total → length rest ≡ w * total → directory_of (layers_in w) (head_of ws ++ rest) ≡ right_with n total
     directory_same {n} {total} e l =
         let vs = head_of ws ++ rest in
         let r = right (layers_in u) ws e in
         let c : count_in ws ≡ n = count_in_lem r in
         let k = in_range_lem 0 (layers_in w).count (word_at vs 0) (ap natural_of (same_word 0 (omega arith) ∙ r.first)) (omega arith) r.most in
-        let count : count_of (layers_in w) vs ≡ Of n = count_read (layers_in w) vs refl refl ∙ sym (completed (length vs) (sym k) (omega (arith, long, c))) in
+        let count : count_of (layers_in w) vs ≡ Some n = count_read (layers_in w) vs refl refl ∙ sym (completed (length vs) (sym k) (omega (arith, long, c))) in
         sym (directory_some (layers_in w) vs count) ∙ walk_same (omega (arith, long, c, l)) n 0 0 (omega (arith, c)) (omega arith) r.walk
 
 -- ---- the trapezoids of words as another codec has them
 abbrev pub converted : Codec ℤ Trapezoid → Codec ℤ Trapezoid → List ℤ → List ℤ
 converted C D ws = head_of ws ++ words_of D (units_of C ws)
 
-module _ (C D : Codec ℤ Trapezoid) (some : 0 < C.width) (F : Readable D (λ (t : Trapezoid). Unit {0})) (ws : List ℤ) {n total : ℕ} (e : directory_of (layers_in C.width) ws ≡ Right n total) where
+module _ (C D : Codec ℤ Trapezoid) (some : 0 < C.width) (F : Readable D (λ (t : Trapezoid). Unit {0})) (ws : List ℤ) {n total : ℕ} (e : directory_of (layers_in C.width) ws ≡ right_with n total) where
   there : 2 * count_in ws + 1 ≤ length ws
   there = let r = right (layers_in C.width) ws e in omega (arith, r.fit, count_in_lem r)
 
@@ -122,7 +120,7 @@ module _ (C D : Codec ℤ Trapezoid) (some : 0 < C.width) (F : Readable D (λ (t
   pub units_converted : units_of D (converted C D ws) ≡ units_of C ws
   units_converted = ap (records D) (body_is ws (words_of D (units_of C ws)) there) ∙ records_words D F (units_of C ws) (all_of (λ (t : Trapezoid). Unit {0}) (λ t. tt) (units_of C ws))
 
-  pub directory_converted : directory_of (layers_in D.width) (converted C D ws) ≡ Right n total
+  pub directory_converted : directory_of (layers_in D.width) (converted C D ws) ≡ right_with n total
   directory_converted = directory_same ws (words_of D (units_of C ws)) there C.width D.width e rest_long
 
   lengths_converted : lengths_from (layers_in D.width) (converted C D ws) (count_in (converted C D ws)) 0 ≡ lengths_from (layers_in C.width) ws (count_in ws) 0
@@ -146,8 +144,8 @@ module _ (C D : Codec ℤ Trapezoid) (some : 0 < C.width) (F : Readable D (λ (t
       (λ j. h j ++ b j) ∙ take-append-drop (2 * count_in ws + 1) ws
 
 -- rows 5 to 11 let them pass
-pub checked_converted : (C D : Codec ℤ Trapezoid) → 0 < C.width → Readable D (λ (t : Trapezoid). Unit {0}) → (L : ℕ) (ws : List ℤ) → layers_checked L (layers_in C.width) C ws ≡ Passed
-    → layers_checked L (layers_in D.width) D (converted C D ws) ≡ Passed
+pub checked_converted : (C D : Codec ℤ Trapezoid) → 0 < C.width → Readable D (λ (t : Trapezoid). Unit {0}) → (L : ℕ) (ws : List ℤ) → layers_checked L (layers_in C.width) C ws ≡ Ok tt
+    → layers_checked L (layers_in D.width) D (converted C D ws) ≡ Ok tt
 unfolding layers_checked
 checked_converted C D some F L ws e =
     let h = passes L (layers_in C.width) C ws e in
@@ -163,8 +161,8 @@ unfolding written_words
 written_is ws = refl
 
 module _ (ws : List ℤ) {n total : ℕ} where
-  module _ (e : directory_of layer_file ws ≡ Right n total) where
-    pub memory_directory : directory_of layer_words (memory_words ws) ≡ Right n total
+  module _ (e : directory_of layer_file ws ≡ right_with n total) where
+    pub memory_directory : directory_of layer_words (memory_words ws) ≡ right_with n total
     memory_directory = ap (directory_of layer_words) (memory_is ws) ∙ directory_converted file_codec trapezoid_codec (omega arith) trapezoid_readable ws e
 
     pub memory_units : units_of trapezoid_codec (memory_words ws) ≡ units_of file_codec ws
@@ -179,8 +177,8 @@ module _ (ws : List ℤ) {n total : ℕ} where
     pub memory_back : written_words (memory_words ws) ≡ ws
     memory_back = ap written_words (memory_is ws) ∙ written_is (converted file_codec trapezoid_codec ws) ∙ converted_back file_codec trapezoid_codec (omega arith) trapezoid_readable ws e file_faithful
 
-  module _ (e : directory_of layer_words ws ≡ Right n total) where
-    pub written_directory : directory_of layer_file (written_words ws) ≡ Right n total
+  module _ (e : directory_of layer_words ws ≡ right_with n total) where
+    pub written_directory : directory_of layer_file (written_words ws) ≡ right_with n total
     written_directory = ap (directory_of layer_file) (written_is ws) ∙ directory_converted trapezoid_codec file_codec (omega arith) file_faithful.readable ws e
 
     pub written_units : units_of file_codec (written_words ws) ≡ units_of trapezoid_codec ws
@@ -193,10 +191,10 @@ module _ (ws : List ℤ) {n total : ℕ} where
     written-length = ap length (written_is ws) ∙ length_converted trapezoid_codec file_codec (omega arith) file_faithful.readable ws e
 
 module _ (L : ℕ) (ws : List ℤ) where
-  pub memory_checked : layers_checked L layer_file file_codec ws ≡ Passed → layer_words_checked L (memory_words ws) ≡ Passed
+  pub memory_checked : layers_checked L layer_file file_codec ws ≡ Ok tt → layer_words_checked L (memory_words ws) ≡ Ok tt
   memory_checked e = ap (layer_words_checked L) (memory_is ws) ∙ checked_converted file_codec trapezoid_codec (omega arith) trapezoid_readable L ws e
 
-  pub written_checked : layer_words_checked L ws ≡ Passed → layers_checked L layer_file file_codec (written_words ws) ≡ Passed
+  pub written_checked : layer_words_checked L ws ≡ Ok tt → layers_checked L layer_file file_codec (written_words ws) ≡ Ok tt
   written_checked e = ap (layers_checked L layer_file file_codec) (written_is ws) ∙ checked_converted trapezoid_codec file_codec (omega arith) file_faithful.readable L ws e
 
 -- ---- with their sets
@@ -225,7 +223,7 @@ layer-shapes ws =
     ∙ ap (cut (lengths_from layer_words ws (count_in ws) 0)) (shapes_of (body_of ws))
 
 -- "a read piece has an empty set"
-pub memory_sets : (ws : List ℤ) {n total : ℕ} → directory_of layer_file ws ≡ Right n total → sourced_layers_of (memory_words ws) ≡ map (bearing empty) (file_layers_of ws)
+pub memory_sets : (ws : List ℤ) {n total : ℕ} → directory_of layer_file ws ≡ right_with n total → sourced_layers_of (memory_words ws) ≡ map (bearing empty) (file_layers_of ws)
 unfolding memory_words
 memory_sets ws e =
     let ts = units_of file_codec ws in

@@ -14,15 +14,13 @@ use Rattle.records.specs.Words.{Word}
 use Rattle.records.proofs.Records.{words_records}
 use Rattle.geometry.specs.declared.Line.{Line}
 use Rattle.geometry.specs.declared.Trapezoid.{Trapezoid}
-use Rattle.geometry.specs.declared.Checked.TheVariants.{Passed}
 use Rattle.geometry.specs.Limit.{OnGrid}
 use Rattle.geometry.specs.Trapezoids.{line_words, trapezoid_words}
 use Rattle.geometry.specs.Fitness.{FitFor}
 use Rattle.geometry.proofs.Fitness.{layer_exact}
 use Rattle.files.specs.declared.Format.{Format}
-use Rattle.files.specs.declared.Directory.TheVariants.{Right}
 use Rattle.files.specs.Formats.{word_at, layer_file}
-use Rattle.files.specs.Directory.{pairs_from}
+use Rattle.files.specs.Directory.{pairs_from, right_with}
 use Rattle.files.specs.Pairs.{count_in, body_of, length_read}
 use Rattle.files.specs.Contents.{units_of, file_codec}
 use Rattle.files.specs.Rows.{layers_checked}
@@ -32,6 +30,7 @@ use Rattle.files.proofs.Walk.{pair}
 use Rattle.files.proofs.Right.{next, right, count_in_lem}
 use Rattle.files.proofs.Bounds.{passes}
 use Rattle.files.proofs.Widths.{file_faithful}
+use Rattle.std.specs.Prelude.{Ok}
 
 -- ---- coordinates
 module _ (L : ℕ) (hold : WordsHold L) where
@@ -69,7 +68,7 @@ one_more zero (x ∷ ws) w h = (w, h)
 one_more (suc k) (x ∷ ws) w h = one_more k ws w h
 
 -- ---- the pairs
-pairs_words : (f : Format) (ws : List ℤ) {n total : ℕ} → f.found ≡ false → f.total < 2147483648 → (m i before : ℕ) → before ≤ f.total → pairs_from f ws m i before ≡ Right n total → All Word (drop (2 * (i + m) + 1) ws) → All Word (drop (2 * i + 1) ws)
+pairs_words : (f : Format) (ws : List ℤ) {n total : ℕ} → f.found ≡ false → f.total < 2147483648 → (m i before : ℕ) → before ≤ f.total → pairs_from f ws m i before ≡ right_with n total → All Word (drop (2 * (i + m) + 1) ws) → All Word (drop (2 * i + 1) ws)
 pairs_words f ws w l zero i before h e g = let z : i + 0 ≡ i = omega arith in rw z at g
 pairs_words f ws w l (suc m) i before h e g =
     let k = next f ws m i before e in
@@ -83,7 +82,7 @@ pairs_words f ws w l (suc m) i before h e g =
     one_more (2 * i + 1) ws b (subst (λ (j : ℕ). All Word (drop j ws)) t (one_more (2 * i + 2) ws a (subst (λ (j : ℕ). All Word (drop j ws)) s r)))
 
 -- ---- all of them
-pub words_passed : (L : ℕ) → WordsHold L → (ws : List ℤ) → layers_checked L layer_file file_codec ws ≡ Passed → All Word ws
+pub words_passed : (L : ℕ) → WordsHold L → (ws : List ℤ) → layers_checked L layer_file file_codec ws ≡ Ok tt → All Word ws
 words_passed L hold ws e =
     let h = passes L layer_file file_codec ws e in
     let r = right layer_file ws h.found in

@@ -1,4 +1,5 @@
 -- The words of a list of layers: they hold these layers, and a writer takes them exactly if they are writable. And the words of one layer of a layer file.
+use Rattle.std.specs.Prelude.{Some, Ok}
 use mathlib.Core.Path.{◌≡◌, refl, sym, ap, ◌∙◌, subst}
 use mathlib.Core.List.{List, [], ◌∷◌, ◌++◌, map}
 use Prim.Native.Nat.{ℕ, zero, suc, ◌+◌, ◌*◌, ◌<◌, ◌≤◌}
@@ -17,17 +18,14 @@ use Rattle.records.specs.Records.{records_from, words_of}
 use Rattle.records.specs.Words.{word_codec}
 use Rattle.records.proofs.Records.{words_from, records_words, length_words}
 use Rattle.geometry.specs.declared.Trapezoid.{Trapezoid}
-use Rattle.geometry.specs.declared.Checked.TheVariants.{Passed}
 use Rattle.geometry.specs.Trapezoids.{trapezoid_codec}
 use Rattle.geometry.specs.Fitness.{first_refusal}
 use Rattle.geometry.proofs.Fitness.{layer_exact}
 use Rattle.sources.specs.Sourced.{Sourced, sourced_codec, sourced_of, shapes}
 use Rattle.sources.proofs.Sourced.{sourced_faithful, shapes_of, shapes-length}
-use Rattle.files.specs.declared.Number.TheVariants.{Of}
-use Rattle.files.specs.declared.Directory.TheVariants.{Right}
 use Rattle.files.specs.Formats.{word_at, file_words, layer_words}
 use Rattle.files.specs.Pairs.{natural_of, amount_of, count_in, body_of, offset_at, length_read, length_at}
-use Rattle.files.specs.Directory.{count_of, pair_length, end_of, pairs_from, directory_of, HasPairs}
+use Rattle.files.specs.Directory.{count_of, pair_length, end_of, pairs_from, directory_of, HasPairs, right_with}
 use Rattle.files.specs.Contents.{lengths_from, units_of, lists_from, sourced_layers_of, pairs_of, memory_words, written_words, layer_file_words, layer_words_at}
 use Rattle.files.specs.Rows.{layer_words_checked}
 use Rattle.files.specs.Outcomes.{FileOutcome, is_done, write_layers}
@@ -87,7 +85,7 @@ rest_is {ws} {rest} {i} (n ∷ ns) h = let e : i + suc (length ns) ≡ i + 1 + l
 -- row 6 lets them pass
 walk_is : {ws rest : List ℤ} {i before : ℕ} (layers : List (List Sourced)) → Listed ws rest i before (map length layers) → before + length (joined layers) ≤ max_records
     → 2 * (i + length layers) + 1 + memory_width * (before + length (joined layers)) ≡ length ws
-    → pairs_from layer_words ws (length layers) i before ≡ Right (i + length layers) (before + length (joined layers))
+    → pairs_from layer_words ws (length layers) i before ≡ right_with (i + length layers) (before + length (joined layers))
 unfolding pairs_from end_of
 walk_is {ws} {rest} {i} {before} [] h t e =
     let u : i + 0 ≡ i = omega arith in
@@ -99,7 +97,7 @@ walk_is {ws} {rest} {i} {before} (layer ∷ layers) h t e =
     let v : i + 1 + length layers ≡ i + suc (length layers) = omega arith in
     let a = in_range_lem before before (word_at ws (2 * i + 1)) (ap natural_of (offset_is h)) (omega arith) (omega arith) in
     let b = in_range_lem 0 max_records (length_read layer_words ws i) (ap natural_of (length_is h)) (omega arith) (omega (arith, l)) in
-    let p : pair_length layer_words before (word_at ws (2 * i + 1)) (length_read layer_words ws i) ≡ Of (length layer)
+    let p : pair_length layer_words before (word_at ws (2 * i + 1)) (length_read layer_words ws i) ≡ Some (length layer)
     = sym (right_pair layer_words before (word_at ws (2 * i + 1)) (length_read layer_words ws i) (sym a) (sym b) (omega (arith, l))) in
     rw p (walk_is {i = i + 1} layers (others h) (omega arith) (rw (u, v) e) ∙ rw (u, v))
 
@@ -163,12 +161,12 @@ module _ (L : ℕ) (layers : List (List Sourced)) where
       }
 
   module _ (few : length layers ≤ layer_words.count) (small : length (joined layers) ≤ layer_words.total) where
-    count_passes : count_of layer_words (layer_file_words layers) ≡ Of (length layers)
+    count_passes : count_of layer_words (layer_file_words layers) ≡ Some (length layers)
     count_passes =
         let n = in_range_lem 0 layer_words.count (word_at (layer_file_words layers) 0) (ap natural_of (first_is layers)) (omega arith) few in
         count_read layer_words (layer_file_words layers) refl refl ∙ sym (completed (length (layer_file_words layers)) (sym n) (omega (arith, words_long layers)))
 
-    directory_passes : directory_of layer_words (layer_file_words layers) ≡ Right (length layers) (length (joined layers))
+    directory_passes : directory_of layer_words (layer_file_words layers) ≡ right_with (length layers) (length (joined layers))
     directory_passes =
         let u : 0 + length layers ≡ length layers = omega arith in
         let v : 0 + length (joined layers) ≡ length (joined layers) = omega arith in
@@ -176,7 +174,7 @@ module _ (L : ℕ) (layers : List (List Sourced)) where
 
   taken : (out : List ℕ) → Writable L layers out → T (is_done (write_layers L (layer_file_words layers) out).answer)
   taken out h =
-      let e : layer_words_checked L (layer_file_words layers) ≡ Passed
+      let e : layer_words_checked L (layer_file_words layers) ≡ Ok tt
       = sym (
       layers_right L layer_words trapezoid_codec (layer_file_words layers) (directory_passes h.few h.small)
       {body = body_of (layer_file_words layers)} (ap (λ (k : ℕ). drop (2 * k + 1) (layer_file_words layers)) (count_is layers))

@@ -1,10 +1,9 @@
 -- The two editions of polygon files side by side: "Our older reader stays beside it for the shops, keeps our first rule", and a file of the new edition with its lengths
 -- written in. Each statement is proved under its name in lower case in proofs/Editions.antt.
-use Rattle.std.specs.Prelude.{◌≡◌, List, [], ◌∷◌, ◌++◌, ◌↔◌, ℕ, zero, suc, ◌+◌, ◌*◌, ◌<◌, T, ℤ, pos, length}
+use Rattle.std.specs.Prelude.{◌≡◌, List, [], ◌∷◌, ◌++◌, ◌↔◌, ℕ, zero, suc, ◌+◌, ◌*◌, ◌<◌, T, ℤ, pos, length, Ok}
 use Rattle.lists.specs.Lists.{All}
 use Rattle.records.specs.Records.{words_of}
 use Rattle.records.specs.Words.{Byte, word_codec}
-use Rattle.geometry.specs.declared.Checked.TheVariants.{Passed, Refused}
 use Rattle.geometry.specs.Polygons.{PolygonOnGrid}
 use Rattle.files.specs.declared.Edition.{Edition}
 use Rattle.files.specs.declared.Edition.TheVariants.{First, New}
@@ -13,6 +12,7 @@ use Rattle.files.specs.Pairs.{count_in, body_of, length_read}
 use Rattle.files.specs.Contents.{polygons_of}
 use Rattle.files.specs.Form.{HasForm}
 use Rattle.files.specs.Rows.{polygon_file_checked}
+use Rattle.geometry.specs.Refusals.{refused_by}
 
 -- ---- which files pass
 -- a polygon file as an edition says it: row 4 lets its size pass, its directory has the form, with lengths found where they are left out, and its vertices are on the grid
@@ -24,7 +24,7 @@ pub record Accepted (edition : Edition) (L : ℕ) (bytes : List ℕ) : Type 0 wh
 
 -- these and no others
 abbrev pub AcceptedExact : Type 0
-AcceptedExact = (edition : Edition) (L : ℕ) (bytes : List ℕ) → (polygon_file_checked edition L bytes ≡ Passed) ↔ Accepted edition L bytes
+AcceptedExact = (edition : Edition) (L : ℕ) (bytes : List ℕ) → (polygon_file_checked edition L bytes ≡ Ok tt) ↔ Accepted edition L bytes
 
 -- ---- lengths left out
 -- pair number i carries length 0
@@ -45,7 +45,7 @@ pub record FirstLeftOut (ws : List ℤ) (i : ℕ) : Type 0 where
 -- "For any sheet that both accept, they show the same polygons."
 abbrev pub SamePolygons : Type 0
 SamePolygons =
-    (L M : ℕ) (bytes : List ℕ) → polygon_file_checked First L bytes ≡ Passed → polygon_file_checked New M bytes ≡ Passed → polygons_of New (file_words bytes) ≡ polygons_of First (file_words bytes)
+    (L M : ℕ) (bytes : List ℕ) → polygon_file_checked First L bytes ≡ Ok tt → polygon_file_checked New M bytes ≡ Ok tt → polygons_of New (file_words bytes) ≡ polygons_of First (file_words bytes)
 
 -- "A sheet with every length present reads as before": it gets the same number and place
 abbrev pub ReadsAsBefore : Type 0
@@ -55,10 +55,10 @@ ReadsAsBefore = (L : ℕ) (bytes : List ℕ) → AllPresent (file_words bytes) �
 pub record RefusedByOlder (L : ℕ) (bytes : List ℕ) : Type 0 where
   pub place : ℕ
   pub first : FirstLeftOut (file_words bytes) place
-  pub is : polygon_file_checked First L bytes ≡ Refused 6 place
+  pub is : polygon_file_checked First L bytes ≡ refused_by 6 place
 
 abbrev pub OlderRefuses : Type 0
-OlderRefuses = (L M : ℕ) (bytes : List ℕ) (i : ℕ) → polygon_file_checked New M bytes ≡ Passed → i < count_in (file_words bytes) → LeftOut (file_words bytes) i → RefusedByOlder L bytes
+OlderRefuses = (L M : ℕ) (bytes : List ℕ) (i : ℕ) → polygon_file_checked New M bytes ≡ Ok tt → i < count_in (file_words bytes) → LeftOut (file_words bytes) i → RefusedByOlder L bytes
 
 -- ---- a file with its lengths written in
 -- n pairs from number i on
@@ -75,5 +75,5 @@ file_filled_in bytes = words_of word_codec (filled_in (file_words bytes))
 -- of a file that the new reader accepts: both readers accept it, and show the polygons that the new one shows of the file as it was
 abbrev pub FilledInReads : Type 0
 FilledInReads =
-    (L : ℕ) (bytes : List ℕ) → All Byte bytes → polygon_file_checked New L bytes ≡ Passed → (edition : Edition)
-    → (polygon_file_checked edition L (file_filled_in bytes) ≡ Passed) × (polygons_of edition (file_words (file_filled_in bytes)) ≡ polygons_of New (file_words bytes))
+    (L : ℕ) (bytes : List ℕ) → All Byte bytes → polygon_file_checked New L bytes ≡ Ok tt → (edition : Edition)
+    → (polygon_file_checked edition L (file_filled_in bytes) ≡ Ok tt) × (polygons_of edition (file_words (file_filled_in bytes)) ≡ polygons_of New (file_words bytes))

@@ -3,9 +3,8 @@
 -- offset plus length, and the last pair ends at the end of the file."
 use Rattle.std.specs.Prelude.{◌≡◌, List, ◌↔◌, ◌⊎◌, ℕ, zero, suc, ◌+◌, ◌*◌, ◌<◌, ◌≤◌, ℤ, pos, length}
 use Rattle.files.specs.declared.Format.{Format}
-use Rattle.files.specs.declared.Directory.TheVariants.{Wrong}
 use Rattle.files.specs.Formats.{word_at}
-use Rattle.files.specs.Directory.{directory_of, HasPairs}
+use Rattle.files.specs.Directory.{directory_of, HasPairs, wrong_by}
 use Rattle.files.specs.Pairs.{offset_at, length_read, length_at}
 
 -- ---- the meanings
@@ -60,12 +59,12 @@ DirectoryExact = (f : Format) (ws : List ℤ) (n : ℕ) → HasPairs f ws n ↔ 
 
 -- 5 is answered exactly if no count is right
 abbrev pub CountRefused : Type 0
-CountRefused = (f : Format) (ws : List ℤ) → (directory_of f ws ≡ Wrong 5 0) ↔ ((n : ℕ) → CountRight f ws n → ⊥)
+CountRefused = (f : Format) (ws : List ℤ) → (directory_of f ws ≡ wrong_by 5 0) ↔ ((n : ℕ) → CountRight f ws n → ⊥)
 
 -- 6 is answered with the lowest place that is wrong
 abbrev pub PairPlaceExact : Type 0
-PairPlaceExact = (f : Format) (ws : List ℤ) (i : ℕ) → (directory_of f ws ≡ Wrong 6 i) ↔ WrongAt f ws i
+PairPlaceExact = (f : Format) (ws : List ℤ) (i : ℕ) → (directory_of f ws ≡ wrong_by 6 i) ↔ WrongAt f ws i
 
 -- and there is no other refusal
 abbrev pub OnlyFiveAndSix : Type 0
-OnlyFiveAndSix = (f : Format) (ws : List ℤ) (number place : ℕ) → directory_of f ws ≡ Wrong number place → ((number ≡ 5) × (place ≡ 0)) ⊎ (number ≡ 6)
+OnlyFiveAndSix = (f : Format) (ws : List ℤ) (number place : ℕ) → directory_of f ws ≡ wrong_by number place → ((number ≡ 5) × (place ≡ 0)) ⊎ (number ≡ 6)

@@ -1,11 +1,9 @@
 -- What a reader and a writer of layers answer, and what their outputs hold then.
-use Rattle.std.specs.Prelude.{Bool, true, false, List, ◌++◌, ℕ, ◌-◌, ◌<◌, ◌≤◌, leb, ℤ, pos, length, replicate}
+use Rattle.std.specs.Prelude.{Bool, true, false, List, ◌++◌, ℕ, ◌-◌, ◌<◌, ◌≤◌, leb, ℤ, pos, length, replicate, Result, Ok, Err}
 use Rattle.records.specs.Limits.{max_records}
 use Rattle.records.specs.Records.{words_of}
 use Rattle.records.specs.Words.{word_codec}
 use Rattle.geometry.specs.Fitness.{SmallRefusal}
-use Rattle.geometry.specs.declared.Checked.{Checked}
-use Rattle.geometry.specs.declared.Checked.TheVariants.{Passed, Refused}
 use Rattle.geometry.specs.Trapezoids.{trapezoid_codec}
 use Rattle.files.specs.declared.LayersRead.{LayersRead}
 use Rattle.files.specs.declared.LayersRead.TheVariants as read
@@ -14,6 +12,7 @@ use Rattle.files.specs.declared.LayersWritten.TheVariants as written
 use Rattle.files.specs.Formats.{file_words}
 use Rattle.files.specs.Contents.{units_of, file_codec, memory_words, written_words}
 use Rattle.files.specs.Rows.{layer_file_checked, layer_words_checked}
+use Rattle.geometry.specs.declared.Refusal.{Refusal}
 
 -- "A refusal answers its number and place, a success its pieces and cuts." Other calls answer so too; neither reading nor writing makes an overlay (paper 01: cut).
 pub data Answer : Type 0 where
@@ -53,9 +52,9 @@ placed true z pieces content n = record { answer = done pieces 0; out = content 
 placed false z pieces content n = record { answer = refused 12 0; out = replicate n z }
 
 -- "1 to 11 change nothing."
-abbrev pub file_outcome : {W : Type 0} → Checked → W → ℕ → List W → List W → FileOutcome W
-file_outcome (Refused number place) z pieces content out = record { answer = refused number place; out = out }
-file_outcome Passed z pieces content out = placed (leb (length content) (length out)) z pieces content (length out)
+abbrev pub file_outcome : {W : Type 0} → Result (Unit {0}) Refusal → W → ℕ → List W → List W → FileOutcome W
+file_outcome (Err refusal) z pieces content out = record { answer = refused refusal.number refusal.place; out = out }
+file_outcome (Ok u) z pieces content out = placed (leb (length content) (length out)) z pieces content (length out)
 
 -- "A book reader writes the book's words (count, pairs, pieces) and a writer takes them"; under a coordinate limit
 unfoldable pub read_layers : ℕ → List ℕ → List ℤ → FileOutcome ℤ

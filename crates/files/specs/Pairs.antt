@@ -1,21 +1,19 @@
 -- "Word 0 is the count N. N pairs of offset and length follow, sorted by offset, then the body." The numbers of a directory, and the length of a pair where it is
 -- left out.
-use Rattle.std.specs.Prelude.{Bool, true, false, cond, List, ℕ, zero, suc, ◌+◌, ◌*◌, ◌/◌, ltb, ℤ, pos, negsuc, length, drop}
+use Rattle.std.specs.Prelude.{Bool, true, false, cond, List, ℕ, zero, suc, ◌+◌, ◌*◌, ◌/◌, ltb, ℤ, pos, negsuc, length, drop, Option, Some, None}
 use Rattle.integer.specs.Integer.{◌⊖◌}
 use Rattle.files.specs.declared.Format.{Format}
-use Rattle.files.specs.declared.Number.{Number}
-use Rattle.files.specs.declared.Number.TheVariants.{Of, Outside}
 use Rattle.files.specs.Formats.{word_at}
 
 -- ---- the number of a word
-abbrev pub natural_of : ℤ → Number
-natural_of (pos n) = Of n
-natural_of (negsuc n) = Outside
+abbrev pub natural_of : ℤ → Option ℕ
+natural_of (pos n) = Some n
+natural_of (negsuc n) = None
 
 -- 0 for a negative one, which rows 5 and 6 refuse
-abbrev pub amount : Number → ℕ
-amount (Of n) = n
-amount Outside = 0
+abbrev pub amount : Option ℕ → ℕ
+amount (Some n) = n
+amount None = 0
 
 abbrev pub amount_of : ℤ → ℕ
 amount_of z = amount (natural_of z)

@@ -1,12 +1,11 @@
 -- Demand 2 of files: what the pairs stand for, and a layer file written and read back, and read and written back, for words and bytes of any
 -- number and content; the words of layers, and when a writer takes them. Each statement is proved under its name in lower case, in proofs/Pairs.antt,
 -- proofs/RoundTrip.antt and proofs/Words.antt.
-use Rattle.std.specs.Prelude.{◌≡◌, List, [], map, ◌↔◌, ℕ, ◌+◌, ◌*◌, ◌<◌, ◌≤◌, T, ℤ, length, take, get_or}
+use Rattle.std.specs.Prelude.{◌≡◌, List, [], map, ◌↔◌, ℕ, ◌+◌, ◌*◌, ◌<◌, ◌≤◌, T, ℤ, length, take, get_or, Ok}
 use Rattle.lists.specs.Lists.{All, joined}
 use Rattle.records.specs.Limits.{file_width}
 use Rattle.records.specs.Records.{Codec}
 use Rattle.records.specs.Words.{Byte}
-use Rattle.geometry.specs.declared.Checked.TheVariants.{Passed}
 use Rattle.geometry.specs.Trapezoids.{layer_of}
 use Rattle.geometry.specs.Fitness.{FitFor}
 use Rattle.sources.specs.Sets.{empty}
@@ -36,7 +35,7 @@ PairsFit = (f : Format) (ws : List ℤ) (n : ℕ) → HasPairs f ws n → (i : �
 -- as in a polygon file that passes
 abbrev pub CheckedPairs : Type 0
 CheckedPairs =
-    (edition : Edition) (L : ℕ) (bytes : List ℕ) → polygon_file_checked edition L bytes ≡ Passed → HasPairs (polygon_file edition) (file_words bytes) (count_in (file_words bytes))
+    (edition : Edition) (L : ℕ) (bytes : List ℕ) → polygon_file_checked edition L bytes ≡ Ok tt → HasPairs (polygon_file edition) (file_words bytes) (count_in (file_words bytes))
 
 -- ---- there and back
 -- the bytes that a success of the writer wrote, and the words that a success of the reader wrote

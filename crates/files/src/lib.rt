@@ -20,18 +20,11 @@ pub struct Format {
     pub found: bool,
 }
 
-// A number that a word gives, or none in the range that was asked for.
+// A directory that rows 5 and 6 let pass: its pairs, and the units of the body.
 #[derive(Clone, Copy)]
-pub enum Number {
-    Of(usize),
-    Outside,
-}
-
-// Rows 5 and 6 of a directory: the refusal, or the pairs and the units of the body.
-#[derive(Clone, Copy)]
-pub enum Directory {
-    Wrong { number: u32, place: usize },
-    Right { count: usize, total: usize },
+pub struct Directory {
+    pub count: usize,
+    pub total: usize,
 }
 
 // A pair of the directory, in units of the body.

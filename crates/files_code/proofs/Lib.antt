@@ -1,3 +1,4 @@
+pub mod Directories
 pub mod Loading
 pub mod Passing
 pub mod Bodies

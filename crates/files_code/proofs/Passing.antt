@@ -1,24 +1,22 @@
 -- Row 7 of a polygon file: the loop over a polygon's vertices, and the loop over the polygons.
 use mathlib.Core.Path.{◌≡◌, refl, sym, ap, ◌∙◌}
-use mathlib.Core.Bool.{Bool, true, false}
+use mathlib.Core.Bool.{Bool, true, false, ◌&&◌}
 use mathlib.Core.List.{List, ◌∷◌}
-use Prim.Native.Nat.{ℕ, suc, ◌+◌, ◌*◌, ◌-◌, ◌/◌, ◌<◌, ◌≤◌}
+use Prim.Native.Nat.{ℕ, zero, suc, ◌+◌, ◌*◌, ◌-◌, ◌/◌, ◌<◌, ◌≤◌}
 use native.Mathlib.Omega.{arith}
 use lib.ListN.{length, take, drop, length-drop}
 use lib.Seq.{drop-drop}
 use lib.IntN.{ℤ}
+use Rattle.std.specs.List.{list_all, range_with_len}
 use Rattle.lists.specs.Lists.{cut}
 use Rattle.lists.specs.Tests.{all}
 use Rattle.records.specs.Records.{record_at, records_from}
-use Rattle.records.proofs.Records.{from_step, from_none}
-use Rattle.geometry.specs.declared.Checked.TheVariants.{Passed, Refused}
 use Rattle.geometry.specs.Limit.{on_grid}
 use Rattle.geometry.specs.declared.Vertex.{Vertex}
 use Rattle.geometry.specs.Polygons.{vertex_on_grid}
 use Rattle.files.specs.declared.Edition.{Edition}
-use Rattle.files.specs.declared.Directory.TheVariants.{Right}
 use Rattle.files.specs.Formats.{word_at, polygon_file}
-use Rattle.files.specs.Directory.{pairs_from, HasPairs}
+use Rattle.files.specs.Directory.{pairs_from, HasPairs, right_with}
 use Rattle.files.specs.Pairs.{amount_of, count_in, body_of, length_read, length_at}
 use Rattle.files.specs.Contents.{lengths_from, units_of, vertex_codec, polygons_of}
 use Rattle.files.specs.Rows.{first_off_grid}
@@ -26,32 +24,20 @@ use Rattle.files.proofs.Reading.{drop_from, take_from}
 use Rattle.files.proofs.Walk.{pair}
 use Rattle.files.proofs.Right.{Next, Ends, next, ends, right, count_in_lem}
 use Rattle.files.proofs.Polygons.{vertex-at}
+use Rattle.std.specs.Prelude.{Ok}
+use Rattle.geometry.specs.Refusals.{refused_by}
 
--- ---- the vertices up to number i pass, and the rest decides
-module _ (t : Vertex → Bool) (ws : List ℤ) (from to : ℕ) where
-  pub record Passing (i : ℕ) : Type 0 where
-    pub same : all t (records_from vertex_codec (to - from) ws from) ≡ all t (records_from vertex_codec (to - i) ws i)
-    pub low : from ≤ i
-    pub upto : i ≤ to
-
-  pub pass_start : from ≤ to → Passing from
-  pass_start h = record { same = refl; low = omega arith; upto = h }
-
-  module _ {i : ℕ} (h : Passing i) where
-    pub pass_turn : i < to → t (record_at vertex_codec ws i) ≡ true → Passing (i + 1)
-    pass_turn l e = record { same = h.same ∙ ap (all t) (from_step vertex_codec to ws i l) ∙ rw e; low = omega (arith, h.low); upto = omega arith }
-
-    pub pass_fail : i < to → t (record_at vertex_codec ws i) ≡ false → false ≡ all t (records_from vertex_codec (to - from) ws from)
-    pass_fail l e = sym (h.same ∙ ap (all t) (from_step vertex_codec to ws i l) ∙ rw e)
-
-    pub pass_stop : to ≤ i → true ≡ all t (records_from vertex_codec (to - from) ws from)
-    pass_stop l = sym (h.same ∙ ap (all t) (from_none vertex_codec to ws i l))
+-- ---- the vertices with these numbers pass
+pub all_range : (t : Vertex → Bool) (ws : List ℤ) (n from : ℕ) → list_all (λ (i : ℕ). t (record_at vertex_codec ws i)) (range_with_len from n) ≡ all t (records_from vertex_codec n ws from)
+unfolding records_from
+all_range t ws zero from = refl
+all_range t ws (suc n) from = ap (λ (b : Bool). t (record_at vertex_codec ws from) && b) (all_range t ws n (from + 1))
 
 -- ---- the polygons up to number i, of `from` vertices, pass, and the rest decides
 pub record Cutting (edition : Edition) (L : ℕ) (ws : List ℤ) (n i from : ℕ) : Type 0 where
   pub total : ℕ
   pub same : first_off_grid L 0 (polygons_of edition ws) ≡ first_off_grid L i (cut (lengths_from (polygon_file edition) ws (n - i) i) (drop from (units_of vertex_codec ws)))
-  pub walk : pairs_from (polygon_file edition) ws (n - i) i from ≡ Right n total
+  pub walk : pairs_from (polygon_file edition) ws (n - i) i from ≡ right_with n total
   pub start : count_in ws ≡ n
   pub upto : i ≤ n
   pub units : from ≤ 2048
@@ -80,7 +66,7 @@ module _ {edition : Edition} {L : ℕ} {ws : List ℤ} {n i from : ℕ} (h : Cut
     is_length : length_at (polygon_file edition) ws i ≡ following.size
     is_length = ap amount_of (pair (polygon_file edition) from (word_at ws (2 * i + 1)) (length_read (polygon_file edition) ws i) following.found).is
 
-    past : pairs_from (polygon_file edition) ws (n - (i + 1)) (i + 1) (from + length_at (polygon_file edition) ws i) ≡ Right n h.total
+    past : pairs_from (polygon_file edition) ws (n - (i + 1)) (i + 1) (from + length_at (polygon_file edition) ws i) ≡ right_with n h.total
     past = ap (λ (k : ℕ). pairs_from (polygon_file edition) ws (n - (i + 1)) (i + 1) (from + k)) is_length ∙ following.rest
 
     within : from + length_at (polygon_file edition) ws i ≤ 2048
@@ -125,11 +111,11 @@ module _ {edition : Edition} {L : ℕ} {ws : List ℤ} {n i from : ℕ} (h : Cut
             units = omega (arith, within);
           }
 
-      pub cut_off : all (vertex_on_grid L) (records_from vertex_codec (to - from) body from) ≡ false → Refused 7 i ≡ first_off_grid L 0 (polygons_of edition ws)
+      pub cut_off : all (vertex_on_grid L) (records_from vertex_codec (to - from) body from) ≡ false → refused_by 7 i ≡ first_off_grid L 0 (polygons_of edition ws)
       unfolding first_off_grid
       cut_off e = sym (opened ∙ rw e)
 
-  pub cut_stop : n ≤ i → Passed ≡ first_off_grid L 0 (polygons_of edition ws)
+  pub cut_stop : n ≤ i → (Ok tt) ≡ first_off_grid L 0 (polygons_of edition ws)
   unfolding first_off_grid cut lengths_from
   cut_stop l = let e : n - i ≡ 0 = omega arith in sym (h.same ∙ ap (λ (k : ℕ). first_off_grid L i (cut (lengths_from (polygon_file edition) ws k i) (drop from (units_of vertex_codec ws)))) e)
 

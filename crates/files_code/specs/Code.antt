@@ -12,10 +12,6 @@ use Rattle.directory_code.specs.Code.{Paired}
 abbrev pub polygon_at : Edition → List ℤ → ℕ → Polygon
 polygon_at edition ws i = records_from vertex_codec (length_at (polygon_file edition) ws i) (body_of ws) (offset_at ws i)
 
--- a polygon file with n polygons, and a vertex number k of its body
-abbrev pub HasVertex : List ℕ → ℕ → ℕ → Type 0
-HasVertex file n k = Paired file n × (2 * k + 2 ≤ length (body_of (file_words file)))
-
--- the same with n vertices of its body from a number on, and words that take them
+-- a polygon file with `count` polygons, with n vertices of its body from a number on, and words that take them
 abbrev pub HasVertices : List ℕ → ℕ → ℕ → ℕ → List ℤ → Type 0
 HasVertices file count offset n words = Paired file count × (offset + n ≤ 2048) × (2 * (offset + n) ≤ length (body_of (file_words file))) × (2 * n ≤ length words)

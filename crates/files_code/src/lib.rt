@@ -1,7 +1,7 @@
 // Rows 4 to 11 of polygon files and layer files, and the polygons of a polygon file.
 #![tactic(auto)]
 
-ghost use Rattle.std.specs.Prelude.{◌≡◌, ◌+◌, ◌*◌, ◌-◌, ◌≤◌, ◌<◌, ◌/◌, length, take};
+ghost use Rattle.std.specs.Prelude.{◌≡◌, ◌+◌, ◌*◌, ◌-◌, ◌≤◌, ◌<◌, ◌/◌, length, take, drop};
 ghost use Rattle.lists.specs.Tests.{all};
 ghost use Rattle.records.specs.Limits.{file_width};
 ghost use Rattle.records.specs.Records.{record_at, records_from, records};
@@ -16,10 +16,11 @@ ghost use Rattle.files.specs.Contents.{PairAt, vertex_codec, file_codec, polygon
 ghost use Rattle.files.specs.Rows.{directory_rows, first_off_grid, polygon_file_checked, layers_checked, layer_file_checked, layer_words_checked};
 ghost use Rattle.geometry_code.specs.Polygons.{polygon_of};
 ghost use Rattle.directory_code.specs.Code.{Paired};
-ghost use Rattle.files_code.specs.Code.{HasVertex, HasVertices};
+ghost use Rattle.files_code.specs.Code.{HasVertices};
 
-use files::{Directory, Edition, Extent};
-use geometry::{Base, Checked, Line, Trapezoid, Verdict, Vertex};
+use directory_code::Words;
+use files::{Edition, Extent};
+use geometry::{Base, Line, Refusal, Trapezoid};
 
 // The line whose words start at a place of a file.
 fn load_file_line(file: &[u8], at: usize) -> Line
@@ -27,10 +28,10 @@ fn load_file_line(file: &[u8], at: usize) -> Line
     ensures { result ≡ line_at (file_words file.now) at }
 {
     Line {
-        x1: directory_code::load_file_word(file, at),
-        y1: directory_code::load_file_word(file, at + 1),
-        x2: directory_code::load_file_word(file, at + 2),
-        y2: directory_code::load_file_word(file, at + 3),
+        x1: file.at(at),
+        y1: file.at(at + 1),
+        x2: file.at(at + 2),
+        y2: file.at(at + 3),
     }
 }
 
@@ -40,89 +41,65 @@ pub fn load_file_trapezoid(body: &[u8], i: usize) -> Trapezoid
     ensures { result ≡ record_at file_codec (file_words body.now) i }
 {
     let at = records::FILE_WIDTH * i;
-    let a = load_file_line(body, at);
-    let b = load_file_line(body, at + 4);
-    let c = load_file_line(body, at + 8);
-    let d = load_file_line(body, at + 12);
-    let bottom = load_file_line(body, at + 16);
-    let top = load_file_line(body, at + 20);
     Trapezoid {
         left: Base {
-            first: a,
-            second: b,
+            first: load_file_line(body, at),
+            second: load_file_line(body, at + 4),
         },
         right: Base {
-            first: c,
-            second: d,
+            first: load_file_line(body, at + 8),
+            second: load_file_line(body, at + 12),
         },
-        bottom,
-        top,
+        bottom: load_file_line(body, at + 16),
+        top: load_file_line(body, at + 20),
     }
 }
 
 // Rows 7 to 11 of a layer file's body, under a coordinate limit.
-fn body_refused(body: &[u8], limit: u32) -> Checked
+fn body_refused(body: &[u8], limit: u32) -> Result<(), Refusal>
     requires { limit ≤ coordinate_limit }
     ensures { result ≡ first_refusal limit 0 (records file_codec (file_words body.now)) }
 {
-    let n = body.len() / 4 / records::FILE_WIDTH;
-    let mut i = 0;
-    while i < n {
-        let t = load_file_trapezoid(body, i);
-        let v = fitness_code::judge(t, limit);
-        match v {
-            Verdict::Fit => {}
-            Verdict::Row(number) => {
-                return Checked::Refused { number, place: i };
-            }
+    for i in 0..body.len() / 4 / records::FILE_WIDTH {
+        if let Err(number) = fitness_code::judge(load_file_trapezoid(body, i), limit) {
+            return Err(Refusal { number, place: i });
         }
-        i += 1;
     }
-    Checked::Passed
+    Ok(())
 }
 
 // Rows 5 to 11 of a layer file.
-fn file_layers(file: &[u8], limit: u32) -> Checked
+fn file_layers(file: &[u8], limit: u32) -> Result<(), Refusal>
     requires { limit ≤ coordinate_limit }
     ensures { result ≡ layers_checked limit layer_file file_codec (file_words file.now) }
 {
-    let d = directory_code::file_directory(file, directory_code::layer_format());
-    match d {
-        Directory::Wrong { number, place } => Checked::Refused { number, place },
-        Directory::Right { count, total: _ } => {
-            let start = 4 * (2 * count + 1);
-            body_refused(&file[start..], limit)
-        }
-    }
+    let d = directory_code::directory(file, directory_code::layer_format())?;
+    let start = 4 * (2 * d.count + 1);
+    body_refused(&file[start..], limit)
 }
 
 // Rows 4 to 11 of a layer file, under a coordinate limit.
-pub fn check_layer_file(file: &[u8], limit: u32) -> Checked
+pub fn check_layer_file(file: &[u8], limit: u32) -> Result<(), Refusal>
     requires { limit ≤ coordinate_limit }
     ensures { result ≡ layer_file_checked limit file.now }
 {
-    if directory_code::file_sized(file.len()) {
-        return file_layers(file, limit);
+    if !directory_code::file_sized(file.len()) {
+        return Err(Refusal {
+            number: 4,
+            place: 0,
+        });
     }
-    Checked::Refused {
-        number: 4,
-        place: 0,
-    }
+    file_layers(file, limit)
 }
 
 // Rows 5 to 11 of the words of a layer file, under a coordinate limit.
-pub fn check_layer_words(words: &[i32], limit: u32) -> Checked
+pub fn check_layer_words(words: &[i32], limit: u32) -> Result<(), Refusal>
     requires { limit ≤ coordinate_limit }
     ensures { result ≡ layer_words_checked limit words.now }
 {
-    let d = directory_code::words_directory(words, directory_code::memory_format());
-    match d {
-        Directory::Wrong { number, place } => Checked::Refused { number, place },
-        Directory::Right { count, total: _ } => {
-            let start = 2 * count + 1;
-            fitness_code::first_refused(&words[start..], limit, 0)
-        }
-    }
+    let d = directory_code::directory(words, directory_code::memory_format())?;
+    let start = 2 * d.count + 1;
+    fitness_code::first_refused(&words[start..], limit, 0)
 }
 
 // Row 7 lets vertex number i of a polygon file's body pass.
@@ -130,10 +107,8 @@ fn vertex_on_grid(body: &[u8], i: usize, limit: u32) -> bool
     requires { 2 * i + 2 ≤ length body.now / 4 }
     ensures { result ≡ vertex_on_grid limit (record_at vertex_codec (file_words body.now) i) }
 {
-    if fitness_code::within(directory_code::word_at(body, 2 * i), limit) {
-        return fitness_code::within(directory_code::word_at(body, 2 * i + 1), limit);
-    }
-    false
+    fitness_code::within(directory_code::word_at(body, 2 * i), limit)
+        && fitness_code::within(directory_code::word_at(body, 2 * i + 1), limit)
 }
 
 // The same for the vertices from one number up to another.
@@ -141,61 +116,49 @@ fn polygon_on_grid(body: &[u8], from: usize, to: usize, limit: u32) -> bool
     requires { (from ≤ to) × (2 * to ≤ length body.now / 4) }
     ensures { result ≡ all (vertex_on_grid limit) (records_from vertex_codec (to - from) (file_words body.now) from) }
 {
-    let mut i = from;
-    while i < to {
-        if !vertex_on_grid(body, i, limit) {
-            return false;
-        }
-        i += 1;
-    }
-    true
+    (from..to).all(|i| vertex_on_grid(body, i, limit))
 }
 
 // Row 7 of a polygon file with n polygons.
-fn polygons_on_grid(edition: Edition, file: &[u8], n: usize, limit: u32) -> Checked
+fn polygons_on_grid(edition: Edition, file: &[u8], n: usize, limit: u32) -> Result<(), Refusal>
     requires { HasPairs (polygon_file edition) (file_words file.now) n }
     ensures { result ≡ first_off_grid limit 0 (polygons_of edition (file_words file.now)) }
 {
     let start = 4 * (2 * n + 1);
-    let mut i = 0;
     let mut from = 0;
-    while i < n {
+    for i in 0..n {
         let f = directory_code::polygon_format(edition);
         let to = from + directory_code::amount_of(directory_code::length_read(file, f, n, i));
         if !polygon_on_grid(&file[start..], from, to, limit) {
-            return Checked::Refused {
+            return Err(Refusal {
                 number: 7,
                 place: i,
-            };
+            });
         }
         from = to;
-        i += 1;
     }
-    Checked::Passed
+    Ok(())
 }
 
 // Rows 5 to 7 of a polygon file.
-fn file_polygons(edition: Edition, file: &[u8], limit: u32) -> Checked
+fn file_polygons(edition: Edition, file: &[u8], limit: u32) -> Result<(), Refusal>
     ensures { result ≡ directory_rows (directory_of (polygon_file edition) (file_words file.now)) (first_off_grid limit 0 (polygons_of edition (file_words file.now))) }
 {
-    let d = directory_code::file_directory(file, directory_code::polygon_format(edition));
-    match d {
-        Directory::Wrong { number, place } => Checked::Refused { number, place },
-        Directory::Right { count, total: _ } => polygons_on_grid(edition, file, count, limit),
-    }
+    let d = directory_code::directory(file, directory_code::polygon_format(edition))?;
+    polygons_on_grid(edition, file, d.count, limit)
 }
 
 // Rows 4 to 7 of a polygon file of an edition, under a coordinate limit.
-pub fn check_polygon_file(edition: Edition, file: &[u8], limit: u32) -> Checked
+pub fn check_polygon_file(edition: Edition, file: &[u8], limit: u32) -> Result<(), Refusal>
     ensures { result ≡ polygon_file_checked edition limit file.now }
 {
-    if directory_code::file_sized(file.len()) {
-        return file_polygons(edition, file, limit);
+    if !directory_code::file_sized(file.len()) {
+        return Err(Refusal {
+            number: 4,
+            place: 0,
+        });
     }
-    Checked::Refused {
-        number: 4,
-        place: 0,
-    }
+    file_polygons(edition, file, limit)
 }
 
 // The polygons of a polygon file that passes.
@@ -219,15 +182,13 @@ pub fn polygon_extent(edition: Edition, file: &[u8], n: usize, i: usize) -> Exte
     Extent { offset, length }
 }
 
-// Vertex number k of the body of a polygon file that passes and has n polygons.
-fn polygon_vertex(file: &[u8], n: usize, k: usize) -> Vertex
-    requires { HasVertex file.now n k }
-    ensures { result ≡ record_at vertex_codec (body_of (file_words file.now)) k }
+// The words of a file from a number on, as many as `out` has.
+pub fn load_words(file: &[u8], start: usize, out: &mut [i32])
+    requires { start + length out.old ≤ length file.now / 4 }
+    ensures { out.new ≡ take (length out.old) (drop start (file_words file.now)) }
 {
-    let at = 2 * n + 1 + 2 * k;
-    Vertex {
-        x: directory_code::load_file_word(file, at),
-        y: directory_code::load_file_word(file, at + 1),
+    for (i, word) in out.iter_mut().enumerate() {
+        *word = file.at(start + i);
     }
 }
 
@@ -236,13 +197,5 @@ pub fn load_polygon(file: &[u8], count: usize, offset: usize, n: usize, words: &
     requires { HasVertices file.now count offset n words.old }
     ensures { polygon_of (take (2 * n) words.new) ≡ records_from vertex_codec n (body_of (file_words file.now)) offset }
 {
-    let mut k = 0;
-    while k < n {
-        let v = polygon_vertex(file, count, offset + k);
-        let x = v.x;
-        let y = v.y;
-        words[2 * k] = x;
-        words[2 * k + 1] = y;
-        k += 1;
-    }
+    load_words(file, 2 * (count + offset) + 1, &mut words[..2 * n]);
 }

@@ -10,83 +10,61 @@ ghost use Rattle.geometry.specs.Trapezoids.{lines_of, layer_of};
 ghost use Rattle.geometry.specs.Fitness.{line_on_grid, is_line, apart_by, below_between, shape_verdict, verdict, first_refusal};
 ghost use Rattle.geometry_code.specs.Code.{fraction_of, SmallPosition};
 
-use geometry::{Checked, Crossing, Horizontal, Line, Position, Trapezoid, Verdict};
-use integer::{Int, Ordering};
+use geometry::{Horizontal, Line, Position, Refusal, Trapezoid};
+use integer::Int;
+use std::cmp::Ordering;
 
 // Whether a coordinate is from -limit to limit.
+#[tactic(auto, unfolding(geometry::specs::Limit::on_grid))]
 pub fn within(x: Int, limit: u32) -> bool
     ensures { result ≡ on_grid limit x.v }
 {
-    let b = integer_code::natural(limit);
-    let a = integer_code::neg(b);
-    if integer_code::at_most(a, x) {
-        return integer_code::at_most(x, b);
-    }
-    false
+    let most = integer_code::natural(limit);
+    let least = integer_code::neg(most);
+    integer_code::at_most(least, x) && integer_code::at_most(x, most)
 }
 
+#[tactic(auto, unfolding(geometry::specs::Fitness::line_on_grid))]
 pub fn line_on_grid(l: Line, limit: u32) -> bool
     ensures { result ≡ line_on_grid limit l }
 {
     let k = geometry_code::corners_of(l);
-    if within(k.x1, limit) {
-        if within(k.y1, limit) {
-            if within(k.x2, limit) {
-                return within(k.y2, limit);
-            }
-        }
-    }
-    false
+    within(k.x1, limit) && within(k.y1, limit) && within(k.x2, limit) && within(k.y2, limit)
 }
 
+#[tactic(auto, unfolding(geometry::specs::Fitness::is_line))]
 fn is_line(l: Line) -> bool
     ensures { result ≡ is_line l }
 {
-    let k = geometry_code::corners_of(l);
-    integer_code::less(k.x1, k.x2)
+    l.x1 < l.x2
 }
 
 // Row 7 lets the trapezoid pass.
 pub fn on_grid(t: Trapezoid, limit: u32) -> bool
     ensures { result ≡ all (line_on_grid limit) (lines_of t) }
 {
-    let left = t.left;
-    let right = t.right;
-    if line_on_grid(left.first, limit) {
-        if line_on_grid(left.second, limit) {
-            if line_on_grid(right.first, limit) {
-                if line_on_grid(right.second, limit) {
-                    if line_on_grid(t.bottom, limit) {
-                        return line_on_grid(t.top, limit);
-                    }
-                }
-            }
-        }
-    }
-    false
+    line_on_grid(t.left.first, limit)
+        && line_on_grid(t.left.second, limit)
+        && line_on_grid(t.right.first, limit)
+        && line_on_grid(t.right.second, limit)
+        && line_on_grid(t.bottom, limit)
+        && line_on_grid(t.top, limit)
 }
 
 // Row 8 lets the trapezoid pass.
 fn has_lines(t: Trapezoid) -> bool
     ensures { result ≡ all is_line (lines_of t) }
 {
-    let left = t.left;
-    let right = t.right;
-    if is_line(left.first) {
-        if is_line(left.second) {
-            if is_line(right.first) {
-                if is_line(right.second) {
-                    if is_line(t.bottom) {
-                        return is_line(t.top);
-                    }
-                }
-            }
-        }
-    }
-    false
+    is_line(t.left.first)
+        && is_line(t.left.second)
+        && is_line(t.right.first)
+        && is_line(t.right.second)
+        && is_line(t.bottom)
+        && is_line(t.top)
 }
 
 // Row 11: the bottom is above the top at neither base, and below it at one.
+#[tactic(auto, unfolding(geometry::specs::Fitness::below_between))]
 fn below_between(l: Line, m: Line, p: Position, q: Position) -> bool
     requires { OnGrid coordinate_limit l × OnGrid coordinate_limit m × SmallPosition p × SmallPosition q }
     ensures { result ≡ below_between (fraction_of p) (fraction_of q) l m }
@@ -99,85 +77,67 @@ fn below_between(l: Line, m: Line, p: Position, q: Position) -> bool
 fn apart(a: Ordering, b: Ordering) -> bool
     ensures { result ≡ apart_by a b }
 {
-    match a {
-        Ordering::Less => match b {
-            Ordering::Less => true,
-            Ordering::Equal => true,
-            Ordering::Greater => false,
-        },
-        Ordering::Equal => match b {
-            Ordering::Less => true,
-            Ordering::Equal => false,
-            Ordering::Greater => false,
-        },
-        Ordering::Greater => false,
+    match (a, b) {
+        (Ordering::Less, b) => b.is_le(),
+        (Ordering::Equal, b) => b.is_lt(),
+        (Ordering::Greater, _) => false,
     }
 }
 
 // Rows 9 to 11, of a trapezoid that row 7 lets pass.
-fn judge_shape(t: Trapezoid) -> Verdict
+#[tactic(auto, using(crate::proofs::Branches::shape_left, crate::proofs::Branches::shape_right))]
+fn judge_shape(t: Trapezoid) -> Result<(), u32>
     requires { All (OnGrid coordinate_limit) (lines_of t) }
     ensures { result ≡ shape_verdict t }
 {
-    let left = t.left;
-    let right = t.right;
-    let bottom = t.bottom;
-    let top = t.top;
-    let a = geometry_code::crossing_of(left.first, left.second);
-    let Crossing::At(p) = a else {
-        return Verdict::Row(9);
+    let Some(p) = geometry_code::crossing_of(t.left.first, t.left.second) else {
+        return Err(9);
     };
-    let b = geometry_code::crossing_of(right.first, right.second);
-    let Crossing::At(q) = b else {
-        return Verdict::Row(9);
+    let Some(q) = geometry_code::crossing_of(t.right.first, t.right.second) else {
+        return Err(9);
     };
-    let h = geometry_code::compare(p, q);
-    match h {
+    match geometry_code::compare(p, q) {
         Horizontal::Left => {
-            if below_between(bottom, top, p, q) {
-                return Verdict::Fit;
+            if below_between(t.bottom, t.top, p, q) {
+                Ok(())
+            } else {
+                Err(11)
             }
-            Verdict::Row(11)
         }
-        Horizontal::Level => Verdict::Row(10),
-        Horizontal::Right => Verdict::Row(10),
+        Horizontal::Level => Err(10),
+        Horizontal::Right => Err(10),
     }
 }
 
-// The first of the rows 7 to 11 that refuses a trapezoid under a limit.
-pub fn judge(t: Trapezoid, limit: u32) -> Verdict
+// Whether a trapezoid is fit under a limit, or the first of the rows 7 to 11 that refuses it.
+#[tactic(auto, using(crate::proofs::Branches::verdict_grid, crate::proofs::Branches::verdict_lines, crate::proofs::Branches::verdict_shape))]
+pub fn judge(t: Trapezoid, limit: u32) -> Result<(), u32>
     requires { limit ≤ coordinate_limit }
     ensures { result ≡ verdict limit t }
 {
-    if on_grid(t, limit) {
-        if has_lines(t) {
-            return judge_shape(t);
-        }
-        return Verdict::Row(8);
+    if !on_grid(t, limit) {
+        return Err(7);
     }
-    Verdict::Row(7)
+    if !has_lines(t) {
+        return Err(8);
+    }
+    judge_shape(t)
 }
 
 // The first refusal of a layer's words, with places numbered on from a start.
-pub fn first_refused(words: &[i32], limit: u32, start: usize) -> Checked
+#[tactic(auto, using(crate::proofs::Checking::fit, crate::proofs::Checking::refused, crate::proofs::Checking::passed))]
+pub fn first_refused(words: &[i32], limit: u32, start: usize) -> Result<(), Refusal>
     requires { (limit ≤ coordinate_limit) × (start ≤ 2 * max_records) }
     ensures { result ≡ first_refusal limit start (layer_of words.now) }
 {
-    let n = words.len() / records::MEMORY_WIDTH;
-    let mut i = 0;
-    while i < n {
+    for i in 0..words.len() / records::MEMORY_WIDTH {
         let t = trapezoids_code::load(words, i);
-        let v = judge(t, limit);
-        match v {
-            Verdict::Fit => {}
-            Verdict::Row(number) => {
-                return Checked::Refused {
-                    number,
-                    place: start + i,
-                };
-            }
+        if let Err(number) = judge(t, limit) {
+            return Err(Refusal {
+                number,
+                place: start + i,
+            });
         }
-        i += 1;
     }
-    Checked::Passed
+    Ok(())
 }

@@ -1,8 +1,9 @@
 -- A column filled group by group with the running sum.
+use Rattle.std.specs.Prelude.{Option, Some, None}
 use mathlib.Core.Path.{◌≡◌, refl, sym, ◌∙◌, ap, subst}
-use mathlib.Core.Bool.{Bool, true, false, not, cond, ◌&&◌}
+use mathlib.Core.Bool.{Bool, true, false, cond}
 use mathlib.Core.List.{List, [], ◌∷◌, ◌++◌, map}
-use mathlib.Core.Option.{Option, none, some}
+use mathlib.Core.Option.{Option as Maybe, none, some}
 use Prim.Native.Nat.{ℕ, zero, suc, ◌+◌, ◌*◌, ◌-◌, ◌<◌, ◌≤◌, zero-le}
 use native.Mathlib.Omega.{arith}
 use native.Mathlib.Numerals.{add-one}
@@ -16,12 +17,9 @@ use Rattle.integer.specs.declared.Int.{Int}
 use Rattle.integer.specs.Integer.{◌⊕◌}
 use Rattle.integer.specs.Fraction.{Fraction}
 use Rattle.records.specs.Limits.{memory_width}
-use Rattle.geometry.specs.declared.Line.{Line}
 use Rattle.geometry.specs.declared.Base.{Base}
 use Rattle.geometry.specs.declared.Trapezoid.{Trapezoid}
 use Rattle.geometry.specs.Positions.{position}
-use Rattle.geometry.specs.declared.Fill.{Fill}
-use Rattle.geometry.specs.declared.Fill.TheVariants.{NoRoom, Written}
 use Rattle.sweep.specs.Segments.{spans, spanning}
 use Rattle.sweep.specs.Columns.{is_zero, lower, up_to, column}
 use Rattle.sweep.proofs.Column.{lower_order}
@@ -30,9 +28,9 @@ use Rattle.sorting.proofs.Inserting.{drop_past}
 use Rattle.sorting.proofs.Weighing.{running_levels}
 use Rattle.fracture.specs.Polygons.{Edge, line_of, direction_of, segment}
 use Rattle.fracture.specs.Fracture.{trapezoid, trapezoids}
-use Rattle.trapezoids_code.specs.Tails.{in_front, Borrowed, FilledAs}
+use Rattle.trapezoids_code.specs.Tails.{Borrowed, FilledAs}
 use Rattle.trapezoids_code.proofs.Writing.{tail, Writing, write_start, write_stop, write_full, write_upto, write_turn}
-use Rattle.polygon_edges_code.specs.Edges.{line_number, edge_number, stored_edges, EdgesHeld}
+use Rattle.polygon_edges_code.specs.Edges.{edge_number, stored_edges, EdgesHeld}
 use Rattle.groups_code.specs.Groups.{gathered, groups_from, Gathered}
 use Rattle.groups_code.proofs.Adding.{weight_light}
 use Rattle.groups_code.proofs.Gathering.{groups_few, gathered_held}
@@ -40,12 +38,12 @@ use Rattle.fracture_code.specs.Code.{HasLines, column_of, weighed_numbers, betwe
 
 -- ---- a column by the running sum
 module _ (ls ts : List ℤ) (p q : Base) where
-  abbrev edge_at : Option ℕ → Option Edge
+  abbrev edge_at : Maybe ℕ → Maybe Edge
   edge_at none = none
   edge_at (some k) = some (edge_number ls ts k)
 
   -- the groups' edges, and their numbers
-  running_numbers : (s : ℤ) (b : Option ℕ) (ks : List ℕ) (ws : List ℤ) → map (trapezoid p q) (running s (edge_at b) (gathered ls ts ks ws)) ≡ map (slab_between ls p q) (running s b (weighed_numbers ks ws))
+  running_numbers : (s : ℤ) (b : Maybe ℕ) (ks : List ℕ) (ws : List ℤ) → map (trapezoid p q) (running s (edge_at b) (gathered ls ts ks ws)) ≡ map (slab_between ls p q) (running s b (weighed_numbers ks ws))
   unfolding running
   running_numbers s none [] ws = refl
   running_numbers s (some b) [] ws = refl
@@ -92,12 +90,6 @@ gathered-sum {n} {ls} {ts} {x} {m} {ks} {ws} h g =
     }
 
 -- ---- group by group
-pub between_filled : (ls : List ℤ) (p q : Base) (i j : ℕ) (l m : Line) → l ≡ line_number ls i → m ≡ line_number ls j → (t : Bool) → t ≡ true → (W room : ℕ) (r : Fill) (d : List ℤ)
-    → FilledAs W room (record { left = p; right = q; bottom = l; top = m } ∷ []) r d → FilledAs W room (in_front t (between ls p q i j) []) r d
-between_filled ls p q i j l m el em t e W room r d f =
-    subst (λ (b : Bool). FilledAs W room (in_front b (between ls p q i j) []) r d) (sym e)
-    (subst (λ (u : Trapezoid). FilledAs W room (u ∷ []) r d) (λ z. record { left = p; right = q; bottom = el z; top = em z }) f)
-
 numbers_length : (ks : List ℕ) (ws : List ℤ) → length ks ≡ length ws → length (weighed_numbers ks ws) ≡ length ks
 numbers_length [] ws e = refl
 numbers_length (k ∷ ks) [] e = absurd (omega arith)
@@ -110,50 +102,60 @@ numbers_at (k ∷ ks) (w ∷ ws) zero g l e = refl
 numbers_at (k ∷ ks) (w ∷ ws) (suc i) g l e = numbers_at ks ws i g (omega arith) (omega arith)
 
 module _ (ls : List ℤ) (p q : Base) where
-  abbrev past : Bool → ℕ → Option ℕ
-  past true low = some low
-  past false low = none
+  abbrev begun_at : Option ℕ → Maybe ℕ
+  begun_at (Some low) = some low
+  begun_at None = none
 
-  -- what is left, where a trapezoid has begun at `low` or not
-  abbrev rest : ℤ → Bool → ℕ → List (Weighed ℕ) → List Trapezoid
-  rest s begun low gs = map (slab_between ls p q) (running s (past begun low) gs)
+  -- what is left, where a trapezoid may have begun
+  abbrev rest : ℤ → Option ℕ → List (Weighed ℕ) → List Trapezoid
+  rest s b gs = map (slab_between ls p q) (running s (begun_at b) gs)
 
-  abbrev more : Bool → ℕ → ℕ → List Trapezoid
-  more b low h = in_front b (between ls p q low h) []
-
-  rest_none : (s : ℤ) (begun : Bool) (low : ℕ) → rest s begun low [] ≡ []
+  rest_none : (s : ℤ) (b : Option ℕ) → rest s b [] ≡ []
   unfolding running
-  rest_none s true low = refl
-  rest_none s false low = refl
+  rest_none s (Some low) = refl
+  rest_none s None = refl
 
-  rest_turn : (s w : ℤ) (begun : Bool) (low h : ℕ) (gs : List (Weighed ℕ)) (zero : Bool) → zero ≡ is_zero (s ⊕ w)
-      → rest s begun low (record { item = h; weight = w } ∷ gs) ≡ more (begun && zero) low h ++ rest (s ⊕ w) (not zero) (cond begun low h) gs
+  -- one group more, at which the sum is zero, or not
+  rest_closed : (s w : ℤ) (low h : ℕ) (gs : List (Weighed ℕ)) → is_zero (s ⊕ w) ≡ true → rest s (Some low) (record { item = h; weight = w } ∷ gs) ≡ (between ls p q low h ∷ []) ++ rest (s ⊕ w) None gs
   unfolding running
-  rest_turn s w false low h gs true e = rw (sym e)
-  rest_turn s w false low h gs false e = rw (sym e)
-  rest_turn s w true low h gs true e = rw (sym e)
-  rest_turn s w true low h gs false e = rw (sym e)
+  rest_closed s w low h gs e = rw e
+
+  rest_kept : (s w : ℤ) (low h : ℕ) (gs : List (Weighed ℕ)) → is_zero (s ⊕ w) ≡ false → rest s (Some low) (record { item = h; weight = w } ∷ gs) ≡ rest (s ⊕ w) (Some low) gs
+  unfolding running
+  rest_kept s w low h gs e = rw e
+
+  rest_open : (s w : ℤ) (h : ℕ) (gs : List (Weighed ℕ)) → is_zero (s ⊕ w) ≡ false → rest s None (record { item = h; weight = w } ∷ gs) ≡ rest (s ⊕ w) (Some h) gs
+  unfolding running
+  rest_open s w h gs e = rw e
+
+  rest_idle : (s w : ℤ) (h : ℕ) (gs : List (Weighed ℕ)) → is_zero (s ⊕ w) ≡ true → rest s None (record { item = h; weight = w } ∷ gs) ≡ rest (s ⊕ w) None gs
+  unfolding running
+  rest_idle s w h gs e = rw e
+
+abbrev Low : Option ℕ → Type 0
+Low (Some low) = low < 32
+Low None = Unit {0}
 
 -- the first k groups are summed up, and n trapezoids stand
-pub record Stacked (ls : List ℤ) (p q : Base) (W room m : ℕ) (ks : List ℕ) (ws out : List ℤ) (sum : Int) (low : ℕ) (begun : Bool) (n k : ℕ) : Type 0 where
-  pub writing : Writing W room (stack ls p q m ks ws) (rest ls p q sum.v begun low (drop k (weighed_numbers (take m ks) (take m ws)))) out n
+pub record Stacked (ls : List ℤ) (p q : Base) (W room m : ℕ) (ks : List ℕ) (ws out : List ℤ) (sum : Int) (b : Option ℕ) (n k : ℕ) : Type 0 where
+  pub writing : Writing W room (stack ls p q m ks ws) (rest ls p q sum.v b (drop k (weighed_numbers (take m ks) (take m ws)))) out n
   pub small : nat_abs sum.v ≤ 64 * k
   pub upto : k ≤ m
-  pub low_within : low < 32
+  pub low_within : Low b
   pub summable : Summable ls m ks ws
 
 module _ {ls : List ℤ} {p q : Base} {m : ℕ} {ks : List ℕ} {ws : List ℤ} where
-  pub stacked_start : Summable ls m ks ws → (d : List ℤ) (room : ℕ) → Borrowed d room → (sum : Int) → sum.v ≡ pos 0 → Stacked ls p q (length d) room m ks ws d sum 0 false 0 0
+  pub stacked_start : Summable ls m ks ws → (d : List ℤ) (room : ℕ) → Borrowed d room → (sum : Int) → sum.v ≡ pos 0 → Stacked ls p q (length d) room m ks ws d sum None 0 0
   stacked_start h d room b sum e =
       record {
-        writing = subst (λ (z : ℤ). Writing (length d) room (stack ls p q m ks ws) (rest ls p q z false 0 (weighed_numbers (take m ks) (take m ws))) d 0) (sym e) (write_start (stack ls p q m ks ws) d room b);
+        writing = subst (λ (z : ℤ). Writing (length d) room (stack ls p q m ks ws) (rest ls p q z None (weighed_numbers (take m ks) (take m ws))) d 0) (sym e) (write_start (stack ls p q m ks ws) d room b);
         small = rw e zero-le;
         upto = zero-le;
-        low_within = omega arith;
+        low_within = tt;
         summable = h;
       }
 
-  module _ {W room : ℕ} {out : List ℤ} {sum : Int} {low : ℕ} {begun : Bool} {n k : ℕ} (s : Stacked ls p q W room m ks ws out sum low begun n k) where
+  module _ {W room : ℕ} {out : List ℤ} {sum : Int} {b : Option ℕ} {n k : ℕ} (s : Stacked ls p q W room m ks ws out sum b n k) where
     abbrev gs : List (Weighed ℕ)
     gs = weighed_numbers (take m ks) (take m ws)
 
@@ -166,14 +168,20 @@ module _ {ls : List ℤ} {p q : Base} {m : ℕ} {ks : List ℕ} {ws : List ℤ} 
     m_gs : length gs ≡ m
     m_gs = numbers_length (take m ks) (take m ws) (m_k ∙ sym m_w) ∙ m_k
 
-    pub stacked_stop : m ≤ k → FilledAs W room (stack ls p q m ks ws) (Written n) out
-    stacked_stop l = write_stop s.writing (ap (rest ls p q sum.v begun low) (drop_past gs k (omega (arith, m_gs))) ∙ rest_none ls p q sum.v begun low)
+    pub stacked_stop : m ≤ k → FilledAs W room (stack ls p q m ks ws) (Some n) out
+    stacked_stop l = write_stop s.writing (ap (rest ls p q sum.v b) (drop_past gs k (omega (arith, m_gs))) ∙ rest_none ls p q sum.v b)
+
+    pub stacked_low : (low : ℕ) → b ≡ Some low → low < 32
+    stacked_low low e = subst Low e s.low_within
 
     module _ (l : k < m) where
-      pub stacked_within : get_or ks k 0 < 32
+      abbrev h : ℕ
+      h = get_or ks k 0
+
+      pub stacked_within : h < 32
       stacked_within = subst (λ (j : ℕ). j < 32) (get_or-take m ks k 0 l) (all_at (λ (j : ℕ). j < 32) (take m ks) k 0 s.summable.within (omega (arith, m_k)))
 
-      first : drop k gs ≡ record { item = get_or ks k 0; weight = get_or ws k (pos 0) } ∷ drop (k + 1) gs
+      first : drop k gs ≡ record { item = h; weight = get_or ws k (pos 0) } ∷ drop (k + 1) gs
       first =
           let d : Weighed ℕ = record { item = 0; weight = pos 0 } in
           rw add-one (drop-cons gs k d (omega (arith, m_gs)) ∙ ap (λ (y : Weighed ℕ). y ∷ drop (suc k) gs) (numbers_at (take m ks) (take m ws) k d (omega (arith, m_k)) (m_k ∙ sym m_w) ∙ rw (get_or-take m ks k 0 l, get_or-take m ws k (pos 0) l)))
@@ -182,46 +190,69 @@ module _ {ls : List ℤ} {p q : Base} {m : ℕ} {ks : List ℕ} {ws : List ℤ} 
         pub stacked_light : nat_abs w.v ≤ 64
         stacked_light = let h = s.summable in rw ew (weight_light m ws h.light (omega (arith, h.few, h.weights)) k l)
 
-        module _ (sum' : Int) (es : sum'.v ≡ sum.v ⊕ w.v) (zero closed : Bool) (ez : zero ≡ is_zero sum'.v) (ey : closed ≡ begun && zero) (f : Fill) (t : List ℤ)
-            (fill : FilledAs (length (tail out n)) (room - n) (in_front closed (between ls p q low (get_or ks k 0)) []) f t) where
-          abbrev h : ℕ
-          h = get_or ks k 0
-
-          abbrev adds : List Trapezoid
-          adds = more ls p q (begun && zero) low h
-
-          abbrev later : List Trapezoid
-          later = rest ls p q sum'.v (not zero) (cond begun low h) (drop (k + 1) gs)
-
+        module _ (sum' : Int) (es : sum'.v ≡ sum.v ⊕ w.v) (a : nat_abs sum'.v ≤ nat_abs sum.v + nat_abs w.v) (zero : Bool) (ez : zero ≡ is_zero sum'.v) where
           sum_is : sum'.v ≡ sum.v ⊕ get_or ws k (pos 0)
           sum_is = es ∙ ap (λ (z : ℤ). sum.v ⊕ z) ew
 
-          turn : rest ls p q sum.v begun low (drop k gs) ≡ adds ++ later
-          turn =
-              ap (rest ls p q sum.v begun low) first
-              ∙ rest_turn ls p q sum.v (get_or ws k (pos 0)) begun low h (drop (k + 1) gs) zero (ez ∙ ap is_zero sum_is)
-              ∙ ap (λ (z : ℤ). adds ++ rest ls p q z (not zero) (cond begun low h) (drop (k + 1) gs)) (sym sum_is)
+          is : {t : Bool} → zero ≡ t → is_zero (sum.v ⊕ get_or ws k (pos 0)) ≡ t
+          is e = ap is_zero (sym sum_is) ∙ sym ez ∙ e
 
-          filled : FilledAs (length (tail out n)) (room - n) adds f t
-          filled = subst (λ (b : Bool). FilledAs (length (tail out n)) (room - n) (more ls p q b low h) f t) ey fill
-
-          pub stacked_full : f ≡ NoRoom → room < length (stack ls p q m ks ws)
-          stacked_full z = write_full s.writing adds later turn f t filled z
-
-          pub stacked_upto : (c : ℕ) → f ≡ Written c → n + c ≤ room
-          stacked_upto c z = write_upto s.writing adds later turn f t filled c z
-
-          low_next : (b : Bool) → cond b low h < 32
-          low_next true = s.low_within
-          low_next false = stacked_within
-
-          pub stacked_next : (c : ℕ) → f ≡ Written c → nat_abs sum'.v ≤ nat_abs sum.v + nat_abs w.v → (low' : ℕ) → low' ≡ cond begun low h
-              → Stacked ls p q W room m ks ws (put_mid (memory_width * n) (length out - memory_width * n) out t) sum' low' (not zero) (n + c) (k + 1)
-          stacked_next c z a low' el =
+          -- nothing is written
+          unwritten : (b' : Option ℕ) → Low b' → rest ls p q sum.v b (record { item = h; weight = get_or ws k (pos 0) } ∷ drop (k + 1) gs) ≡ rest ls p q (sum.v ⊕ get_or ws k (pos 0)) b' (drop (k + 1) gs)
+              → Stacked ls p q W room m ks ws out sum' b' n (k + 1)
+          unwritten b' low e =
               record {
-                writing = subst (λ (y : ℕ). Writing W room (stack ls p q m ks ws) (rest ls p q sum'.v (not zero) y (drop (k + 1) gs)) (put_mid (memory_width * n) (length out - memory_width * n) out t) (n + c)) (sym el) (write_turn s.writing adds later turn f t filled c z);
+                writing = subst (λ (r : List Trapezoid). Writing W room (stack ls p q m ks ws) r out n) (ap (rest ls p q sum.v b) first ∙ e ∙ ap (λ (z : ℤ). rest ls p q z b' (drop (k + 1) gs)) (sym sum_is)) s.writing;
                 small = omega (arith, a, s.small, stacked_light);
                 upto = omega arith;
-                low_within = rw el (low_next begun);
+                low_within = low;
                 summable = s.summable;
               }
+
+          pub stacked_open : b ≡ None → zero ≡ false → Stacked ls p q W room m ks ws out sum' (Some h) n (k + 1)
+          stacked_open eb e = unwritten (Some h) stacked_within (ap (λ (c : Option ℕ). rest ls p q sum.v c (record { item = h; weight = get_or ws k (pos 0) } ∷ drop (k + 1) gs)) eb ∙ rest_open ls p q sum.v (get_or ws k (pos 0)) h (drop (k + 1) gs) (is e))
+
+          pub stacked_idle : b ≡ None → zero ≡ true → Stacked ls p q W room m ks ws out sum' b n (k + 1)
+          stacked_idle eb e =
+              unwritten b s.low_within (ap (λ (c : Option ℕ). rest ls p q sum.v c (record { item = h; weight = get_or ws k (pos 0) } ∷ drop (k + 1) gs)) eb ∙ rest_idle ls p q sum.v (get_or ws k (pos 0)) h (drop (k + 1) gs) (is e)
+              ∙ ap (λ (c : Option ℕ). rest ls p q (sum.v ⊕ get_or ws k (pos 0)) c (drop (k + 1) gs)) (sym eb))
+
+          module _ (low : ℕ) (eb : b ≡ Some low) where
+            at_low : rest ls p q sum.v b (record { item = h; weight = get_or ws k (pos 0) } ∷ drop (k + 1) gs) ≡ rest ls p q sum.v (Some low) (record { item = h; weight = get_or ws k (pos 0) } ∷ drop (k + 1) gs)
+            at_low = ap (λ (c : Option ℕ). rest ls p q sum.v c (record { item = h; weight = get_or ws k (pos 0) } ∷ drop (k + 1) gs)) eb
+
+            pub stacked_kept : zero ≡ false → Stacked ls p q W room m ks ws out sum' (Some low) n (k + 1)
+            stacked_kept e = unwritten (Some low) (stacked_low low eb) (at_low ∙ rest_kept ls p q sum.v (get_or ws k (pos 0)) low h (drop (k + 1) gs) (is e))
+
+            -- the trapezoid between the two lines is written
+            module _ (e : zero ≡ true) (u : Trapezoid) (eu : u ≡ between ls p q low h) (f : Option ℕ) (t : List ℤ) (fill : FilledAs (length (tail out n)) (room - n) (u ∷ []) f t) where
+              abbrev adds : List Trapezoid
+              adds = between ls p q low h ∷ []
+
+              abbrev later : List Trapezoid
+              later = rest ls p q sum'.v None (drop (k + 1) gs)
+
+              turn : rest ls p q sum.v b (drop k gs) ≡ adds ++ later
+              turn =
+                  ap (rest ls p q sum.v b) first ∙ at_low
+                  ∙ rest_closed ls p q sum.v (get_or ws k (pos 0)) low h (drop (k + 1) gs) (is e)
+                  ∙ ap (λ (z : ℤ). adds ++ rest ls p q z None (drop (k + 1) gs)) (sym sum_is)
+
+              filled : FilledAs (length (tail out n)) (room - n) adds f t
+              filled = subst (λ (y : Trapezoid). FilledAs (length (tail out n)) (room - n) (y ∷ []) f t) eu fill
+
+              pub stacked_full : f ≡ None → room < length (stack ls p q m ks ws)
+              stacked_full z = write_full s.writing adds later turn f t filled z
+
+              pub stacked_upto : (c : ℕ) → f ≡ Some c → n + c ≤ room
+              stacked_upto c z = write_upto s.writing adds later turn f t filled c z
+
+              pub stacked_closed : (c : ℕ) → f ≡ Some c → Stacked ls p q W room m ks ws (put_mid (memory_width * n) (length out - memory_width * n) out t) sum' None (n + c) (k + 1)
+              stacked_closed c z =
+                  record {
+                    writing = write_turn s.writing adds later turn f t filled c z;
+                    small = omega (arith, a, s.small, stacked_light);
+                    upto = omega arith;
+                    low_within = tt;
+                    summable = s.summable;
+                  }

@@ -1,23 +1,15 @@
 -- Sums that are zero.
+use Rattle.std.proofs.Common.{is_eq}
 use mathlib.Core.Path.{◌≡◌, refl, ap}
-use mathlib.Core.Bool.{true, false}
 use Prim.Native.Nat.{zero, suc}
 use lib.IntN.{ℤ, pos, negsuc}
-use lib.Signed.{lt_z}
-use Rattle.lists.proofs.Tests.{is_true}
-use Rattle.integer.proofs.Tests.{lt_no}
-use Rattle.integer.proofs.Order.{antisymm}
+use native.Mathlib.Omega.{arith}
+use borrow.Author.Tests.{lt-ltb, le-ltb}
+use Rattle.integer.proofs.Tests.{order_less, order_greater, order_equal}
+use Rattle.integer.specs.Compare.{order_of}
 use Rattle.sweep.specs.Columns.{is_zero}
 
-pub zero_negative : (z : ℤ) → lt_z z (pos 0) ≡ true → false ≡ is_zero z
-zero_negative (pos zero) e = absurd (is_true e)
-zero_negative (pos (suc n)) e = refl
-zero_negative (negsuc n) e = refl
-
-pub zero_positive : (z : ℤ) → lt_z (pos 0) z ≡ true → false ≡ is_zero z
-zero_positive (pos zero) e = absurd (is_true e)
-zero_positive (pos (suc n)) e = refl
-zero_positive (negsuc n) e = refl
-
-pub zero_neither : (z : ℤ) → lt_z z (pos 0) ≡ false → lt_z (pos 0) z ≡ false → true ≡ is_zero z
-zero_neither z e f = ap is_zero (antisymm (lt_no z (pos 0) e) (lt_no (pos 0) z f))
+pub zero_equal : (z : ℤ) → is_eq (order_of z (pos 0)) ≡ is_zero z
+zero_equal (pos zero) = ap is_eq (order_equal (pos zero) (pos 0) refl refl)
+zero_equal (pos (suc n)) = ap is_eq (order_greater (pos (suc n)) (pos 0) (le-ltb (suc n) 0 (omega arith)) (lt-ltb 0 (suc n) (omega arith)))
+zero_equal (negsuc n) = ap is_eq (order_less (negsuc n) (pos 0) refl)

@@ -1,11 +1,11 @@
 -- The columns filled from left to right, along the stored events.
-use mathlib.Core.Path.{◌≡◌, refl, sym, ◌∙◌, ap, subst}
+use Rattle.std.specs.Prelude.{Option, Some, None}
+use mathlib.Core.Path.{◌≡◌, sym, ◌∙◌, ap, subst}
 use mathlib.Core.List.{List, [], ◌∷◌, ◌++◌, map}
-use Prim.Native.Nat.{ℕ, zero, suc, ◌+◌, ◌*◌, ◌-◌, ◌<◌, ◌≤◌}
+use Prim.Native.Nat.{ℕ, ◌+◌, ◌*◌, ◌-◌, ◌<◌, ◌≤◌}
 use native.Mathlib.Omega.{arith}
 use native.Mathlib.Numerals.{add-one}
 use lib.ListN.{length, drop, length-map}
-use lib.Seq.{drop-cons}
 use lib.IntN.{ℤ}
 use borrow.Rule.Slice.PartMut.{put_mid}
 use Rattle.lists.specs.Lists.{All}
@@ -15,8 +15,6 @@ use Rattle.geometry.specs.declared.Base.{Base}
 use Rattle.geometry.specs.declared.Trapezoid.{Trapezoid}
 use Rattle.geometry.specs.Lines.{IsLine}
 use Rattle.geometry.specs.Positions.{position}
-use Rattle.geometry.specs.declared.Fill.{Fill}
-use Rattle.geometry.specs.declared.Fill.TheVariants.{NoRoom, Written}
 use Rattle.geometry.specs.Polygons.{Polygon}
 use Rattle.sweep.specs.Sweep.{columns, sweep}
 use Rattle.sweep.specs.declared.Event.{Event}
@@ -64,7 +62,7 @@ pub record Sweeping (L count : ℕ) (ls ts : List ℤ) (n : ℕ) (a b : List ℤ
   pub weights : length ws ≡ 32
 
 module _ {L : ℕ} (count : ℕ) {ls : List ℤ} (ts : List ℤ) {n : ℕ} {a b : List ℤ} {c : List ℕ} (h : Listed L ls n a b c) where
-  pub sweeping_none : (d : List ℤ) (room : ℕ) → Borrowed d room → n < 1 → FilledAs (length d) room (goal L count ls ts n a b c) (Written 0) d
+  pub sweeping_none : (d : List ℤ) (room : ℕ) → Borrowed d room → n < 1 → FilledAs (length d) room (goal L count ls ts n a b c) (Some 0) d
   unfolding columns
   sweeping_none d room k l = let e : bases L ls n a b c h ≡ [] = drop_past (bases L ls n a b c h) 0 (omega (arith, n_bases L ls n a b c h)) in rw e (fill_nothing d room k)
 
@@ -79,12 +77,12 @@ module _ {L : ℕ} (count : ℕ) {ls : List ℤ} (ts : List ℤ) {n : ℕ} {a b 
       }
 
   module _ {W room : ℕ} {ks : List ℕ} {ws out : List ℤ} {p : Event} {done i : ℕ} (s : Sweeping L count ls ts n a b c W room ks ws out p done i) where
-    pub sweeping_stop : n ≤ i → FilledAs W room (goal L count ls ts n a b c) (Written done) out
+    pub sweeping_stop : n ≤ i → FilledAs W room (goal L count ls ts n a b c) (Some done) out
     unfolding columns
     sweeping_stop l = write_stop s.writing (ap (λ (bs : List Base). swept count ls ts (p.base ∷ bs)) (drop_past (bases L ls n a b c h) i (omega (arith, n_bases L ls n a b c h))))
 
     module _ (lines : HasLines count ls ts) (l : i < n) (q : Event) (eq : (q.base ≡ named L ls (entry_at a b c i)) × EventOf q) (m : ℕ) (ks' : List ℕ) (ws' : List ℤ) (g : Gathered count ls ts (position p.base) 0 m ks' ws')
-        (f : Fill) (t : List ℤ) (fill : FilledAs (length (tail out done)) (room - done) (stack ls p.base q.base m ks' ws') f t) where
+        (f : Option ℕ) (t : List ℤ) (fill : FilledAs (length (tail out done)) (room - done) (stack ls p.base q.base m ks' ws') f t) where
       abbrev filled_column : List Trapezoid
       filled_column = column_of count ls ts p.base q.base
 
@@ -98,13 +96,13 @@ module _ {L : ℕ} (count : ℕ) {ls : List ℤ} (ts : List ℤ) {n : ℕ} {a b 
       filled : FilledAs (length (tail out done)) (room - done) filled_column f t
       filled = subst (λ (r : List Trapezoid). FilledAs (length (tail out done)) (room - done) r f t) (column_stack ls ts p.base q.base count m ks' ws' lines g) fill
 
-      pub sweeping_full : f ≡ NoRoom → room < length (goal L count ls ts n a b c)
+      pub sweeping_full : f ≡ None → room < length (goal L count ls ts n a b c)
       sweeping_full z = write_full s.writing filled_column later turn f t filled z
 
-      pub sweeping_upto : (k : ℕ) → f ≡ Written k → done + k ≤ room
+      pub sweeping_upto : (k : ℕ) → f ≡ Some k → done + k ≤ room
       sweeping_upto k z = write_upto s.writing filled_column later turn f t filled k z
 
-      pub sweeping_next : (k : ℕ) → f ≡ Written k → Sweeping L count ls ts n a b c W room ks' ws' (put_mid (memory_width * done) (length out - memory_width * done) out t) q (done + k) (i + 1)
+      pub sweeping_next : (k : ℕ) → f ≡ Some k → Sweeping L count ls ts n a b c W room ks' ws' (put_mid (memory_width * done) (length out - memory_width * done) out t) q (done + k) (i + 1)
       sweeping_next k z = record { writing = write_turn s.writing filled_column later turn f t filled k z; event = eq.1; keys = g.keys; weights = g.weights }
 
 -- ---- the whole
@@ -117,5 +115,5 @@ module _ (L : ℕ) (polygon : Polygon) {count : ℕ} {ls ts : List ℤ} (h : Edg
     unfolding fracture sweep polygon_events
     whole_is = ap (swept count ls ts) e.is ∙ rw (crossings_lines ls ts (count - 0) 0, h.is)
 
-    pub whole_filled : (W room : ℕ) (r : Fill) (d : List ℤ) → FilledAs W room (goal L count ls ts n a b c) r d → FilledAs W room (fracture L polygon) r d
+    pub whole_filled : (W room : ℕ) (r : Option ℕ) (d : List ℤ) → FilledAs W room (goal L count ls ts n a b c) r d → FilledAs W room (fracture L polygon) r d
     whole_filled W room r d f = subst (λ (ts : List Trapezoid). FilledAs W room ts r d) whole_is f

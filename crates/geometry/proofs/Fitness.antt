@@ -23,9 +23,6 @@ use Rattle.integer.proofs.Fraction.{cross, cross_turn, before→at_most, mediant
 use Rattle.geometry.specs.declared.Line.{Line}
 use Rattle.geometry.specs.declared.Trapezoid.{Trapezoid}
 use Rattle.geometry.specs.declared.Horizontal.TheVariants.{Left}
-use Rattle.geometry.specs.declared.Verdict.{Verdict}
-use Rattle.geometry.specs.declared.Verdict.TheVariants.{Fit, Row}
-use Rattle.geometry.specs.declared.Checked.TheVariants.{Passed, Refused}
 use Rattle.geometry.specs.Limit.{on_grid, OnGrid, coordinate_limit}
 use Rattle.geometry.specs.Lines.{dx, dy, offset, IsLine, det}
 use Rattle.geometry.specs.Positions.{gap, crosses, meet, position, below}
@@ -39,6 +36,9 @@ use Rattle.geometry.proofs.Meet.{det→crosses, meet_proper, meet-gap, meet-only
 use Rattle.geometry.proofs.Standing.{left_of_exact, left_exact, standing_exact}
 use Rattle.geometry.proofs.Points.{on, on_point, on_line, on_other, on_cross, on_after, on_before, on_under, on_below}
 use Rattle.geometry.proofs.Sides as Sides
+use Rattle.std.specs.Prelude.{Result, Ok, Err}
+use Rattle.geometry.specs.Refusals.{refused_by}
+use Rattle.geometry.proofs.Refused.{refused_same}
 
 -- ---- row 7
 pub grid_coordinate : (L : ℕ) (z : ℤ) → T (on_grid L z) ↔ (nat_abs z ≤ L)
@@ -168,28 +168,28 @@ module _ (t : Trapezoid) where
 
 -- ---- the verdict
 -- fit, or a number past k and up to 11
-abbrev Past : ℕ → Verdict → Type 0
-Past k Fit = Unit {0}
-Past k (Row n) = (k < n) × (n ≤ 11)
+abbrev Past : ℕ → Result (Unit {0}) ℕ → Type 0
+Past k (Ok u) = Unit {0}
+Past k (Err n) = (k < n) × (n ≤ 11)
 
-past_less : (k m : ℕ) (w : Verdict) → k ≤ m → Past m w → Past k w
-past_less k m Fit h p = tt
-past_less k m (Row n) h p = (omega (arith, p.0), p.1)
+past_less : (k m : ℕ) (w : Result (Unit {0}) ℕ) → k ≤ m → Past m w → Past k w
+past_less k m (Ok u) h p = tt
+past_less k m (Err n) h p = (omega (arith, p.0), p.1)
 
-pass_past : (b : Bool) (n k : ℕ) (v : Verdict) → k < n → n ≤ 11 → Past n v → Past k (pass b n v)
+pass_past : (b : Bool) (n k : ℕ) (v : Result (Unit {0}) ℕ) → k < n → n ≤ 11 → Past n v → Past k (pass b n v)
 pass_past true n k v h m p = past_less k n v (omega arith) p
 pass_past false n k v h m p = (h, m)
 
-not_past : (n : ℕ) (w : Verdict) → Row n ≡ w → Past n w → ⊥
+not_past : (n : ℕ) (w : Result (Unit {0}) ℕ) → Err n ≡ w → Past n w → ⊥
 not_past n w e p = let q = subst (Past n) (sym e) p in omega (arith, q.0)
 
 -- of a row's test b, which says whether X, and the verdict v of the rows below: a later answer comes exactly if X, and they give it
-passes : {X W : Type 0} (b : Bool) (n : ℕ) (v w : Verdict) → Past n w → T b ↔ X → (X → (v ≡ w) ↔ W) → (pass b n v ≡ w) ↔ (X × W)
+passes : {X W : Type 0} (b : Bool) (n : ℕ) (v w : Result (Unit {0}) ℕ) → Past n w → T b ↔ X → (X → (v ≡ w) ↔ W) → (pass b n v ≡ w) ↔ (X × W)
 passes true n v w later exact below = ((λ e. let x = exact.0 tt in (x, (below x).0 e)), (λ h. (below h.0).1 h.1))
 passes false n v w later exact below = ((λ e. absurd (not_past n w e later)), (λ h. absurd (exact.1 h.0)))
 
 -- and this row's answer exactly if X fails
-stops : {X : Type 0} (b : Bool) (n : ℕ) (v : Verdict) → Past n v → T b ↔ X → (pass b n v ≡ Row n) ↔ (X → ⊥)
+stops : {X : Type 0} (b : Bool) (n : ℕ) (v : Result (Unit {0}) ℕ) → Past n v → T b ↔ X → (pass b n v ≡ Err n) ↔ (X → ⊥)
 stops true n v later exact = ((λ e. absurd (not_past n v (sym e) later)), (λ h. absurd (h (exact.0 tt))))
 stops false n v later exact = ((λ e x. exact.1 x), (λ h. refl))
 
@@ -204,20 +204,20 @@ module _ (t : Trapezoid) where
   base_test = base_crosses t.left && base_crosses t.right
 
   -- the verdict of the rows from n on
-  abbrev from11 : Verdict
-  from11 = pass sides_test 11 Fit
+  abbrev from11 : Result (Unit {0}) ℕ
+  from11 = pass sides_test 11 (Ok tt)
 
-  abbrev from10 : Verdict
+  abbrev from10 : Result (Unit {0}) ℕ
   from10 = pass bases_test 10 from11
 
-  abbrev from9 : Verdict
+  abbrev from9 : Result (Unit {0}) ℕ
   from9 = pass base_test 9 from10
 
-  abbrev from8 : Verdict
+  abbrev from8 : Result (Unit {0}) ℕ
   from8 = pass (all is_line (lines_of t)) 8 from9
 
   past11 : Past 10 from11
-  past11 = pass_past sides_test 11 10 Fit (omega arith) (omega arith) tt
+  past11 = pass_past sides_test 11 10 (Ok tt) (omega arith) (omega arith) tt
 
   past10 : Past 9 from10
   past10 = pass_past bases_test 10 9 from11 (omega arith) (omega arith) past11
@@ -234,21 +234,21 @@ module _ (L : ℕ) (t : Trapezoid) where
   past7 = pass_past (all (line_on_grid L) (lines_of t)) 7 6 (from8 t) (omega arith) (omega arith) (past8 t)
 
   -- an answer of the rows past n
-  after7 : {W : Type 0} (w : Verdict) → Past 7 w → (GridRow L t → (from8 t ≡ w) ↔ W) → (verdict L t ≡ w) ↔ (GridRow L t × W)
+  after7 : {W : Type 0} (w : Result (Unit {0}) ℕ) → Past 7 w → (GridRow L t → (from8 t ≡ w) ↔ W) → (verdict L t ≡ w) ↔ (GridRow L t × W)
   unfolding verdict shape_verdict
   after7 w p = passes (all (line_on_grid L) (lines_of t)) 7 (from8 t) w p (all_on_grid L t)
 
-  after8 : {W : Type 0} (w : Verdict) → Past 8 w → (LineRow t → (from9 t ≡ w) ↔ W) → (verdict L t ≡ w) ↔ (GridRow L t × (LineRow t × W))
+  after8 : {W : Type 0} (w : Result (Unit {0}) ℕ) → Past 8 w → (LineRow t → (from9 t ≡ w) ↔ W) → (verdict L t ≡ w) ↔ (GridRow L t × (LineRow t × W))
   after8 w p below = after7 w (past_less 7 8 w (omega arith) p) (λ g. passes (all is_line (lines_of t)) 8 (from9 t) w p (line_row t) below)
 
-  after9 : {W : Type 0} (w : Verdict) → Past 9 w → (LineRow t → BaseRow t → (from10 t ≡ w) ↔ W) → (verdict L t ≡ w) ↔ (GridRow L t × (LineRow t × (BaseRow t × W)))
+  after9 : {W : Type 0} (w : Result (Unit {0}) ℕ) → Past 9 w → (LineRow t → BaseRow t → (from10 t ≡ w) ↔ W) → (verdict L t ≡ w) ↔ (GridRow L t × (LineRow t × (BaseRow t × W)))
   after9 w p below = after8 w (past_less 8 9 w (omega arith) p) (λ l. passes (base_test t) 9 (from10 t) w p (base_row t l) (below l))
 
-  after10 : {W : Type 0} (w : Verdict) → Past 10 w → (LineRow t → BaseRow t → BasesRow t → (from11 t ≡ w) ↔ W) → (verdict L t ≡ w) ↔ (GridRow L t × (LineRow t × (BaseRow t × (BasesRow t × W))))
+  after10 : {W : Type 0} (w : Result (Unit {0}) ℕ) → Past 10 w → (LineRow t → BaseRow t → BasesRow t → (from11 t ≡ w) ↔ W) → (verdict L t ≡ w) ↔ (GridRow L t × (LineRow t × (BaseRow t × (BasesRow t × W))))
   after10 w p below = after9 w (past_less 9 10 w (omega arith) p) (λ l b. passes (bases_test t) 10 (from11 t) w p (bases_row t l b) (below l b))
 
-  fit_rows : (verdict L t ≡ Fit) ↔ (GridRow L t × (LineRow t × (BaseRow t × (BasesRow t × (SidesRow t × Unit {0})))))
-  fit_rows = after10 Fit tt (λ l b o. passes (sides_test t) 11 Fit Fit tt (sides_row t l b o) (λ s. ((λ e. tt), (λ u. refl))))
+  fit_rows : (verdict L t ≡ Ok tt) ↔ (GridRow L t × (LineRow t × (BaseRow t × (BasesRow t × (SidesRow t × Unit {0})))))
+  fit_rows = after10 (Ok tt) tt (λ l b o. passes (sides_test t) 11 (Ok tt) (Ok tt) tt (sides_row t l b o) (λ s. ((λ e. tt), (λ u. refl))))
 
 pub fit_exact : FitExact
 fit_exact L t = (
@@ -263,10 +263,10 @@ unfolding verdict shape_verdict
 row_exact L t =
     record {
       grid = stops (all (line_on_grid L) (lines_of t)) 7 (from8 t) (past8 t) (all_on_grid L t);
-      line = after7 L t (Row 8) (omega arith, omega arith) (λ g. stops (all is_line (lines_of t)) 8 (from9 t) (past9 t) (line_row t));
-      base = after8 L t (Row 9) (omega arith, omega arith) (λ l. stops (base_test t) 9 (from10 t) (past10 t) (base_row t l));
-      bases = after9 L t (Row 10) (omega arith, omega arith) (λ l b. stops (bases_test t) 10 (from11 t) (past11 t) (bases_row t l b));
-      sides = after10 L t (Row 11) (omega arith, omega arith) (λ l b o. stops (sides_test t) 11 Fit tt (sides_row t l b o));
+      line = after7 L t (Err 8) (omega arith, omega arith) (λ g. stops (all is_line (lines_of t)) 8 (from9 t) (past9 t) (line_row t));
+      base = after8 L t (Err 9) (omega arith, omega arith) (λ l. stops (base_test t) 9 (from10 t) (past10 t) (base_row t l));
+      bases = after9 L t (Err 10) (omega arith, omega arith) (λ l b. stops (bases_test t) 10 (from11 t) (past11 t) (bases_row t l b));
+      sides = after10 L t (Err 11) (omega arith, omega arith) (λ l b o. stops (sides_test t) 11 (Ok tt) tt (sides_row t l b o));
       numbers = λ n e. let p = subst (Past 6) e (past7 L t) in (omega (arith, p.0), p.1);
     }
 
@@ -278,29 +278,30 @@ layer_exact L i (t ∷ ts) = (
   (λ h. rw ((fit_exact L t).1 h.0) ((layer_exact L (i + 1) ts).1 h.1)),
 )
   where
-    there : (v : Verdict) → refuse v i (first_refusal L (i + 1) ts) ≡ Passed → (v ≡ Fit) × (first_refusal L (i + 1) ts ≡ Passed)
-    there Fit e = (refl, e)
-    there (Row n) e = let z : ◌≡◌ {A = ℕ} 0 1 = cc in absurd (omega arith)
+    there : (v : Result (Unit {0}) ℕ) → refuse v i (first_refusal L (i + 1) ts) ≡ Ok tt → (v ≡ Ok tt) × (first_refusal L (i + 1) ts ≡ Ok tt)
+    there (Ok u) e = (refl, e)
+    there (Err n) e = let z : ◌≡◌ {A = ℕ} 0 1 = cc in absurd (omega arith)
 
 -- a refusal: after fit ones, the first that gets a row
-refused_after : (L i : ℕ) (first : List Trapezoid) (one : Trapezoid) (rest : List Trapezoid) (n : ℕ) → All (FitFor L) first → verdict L one ≡ Row n → first_refusal L i (first ++ (one ∷ rest)) ≡ Refused n (i + length first)
+refused_after : (L i : ℕ) (first : List Trapezoid) (one : Trapezoid) (rest : List Trapezoid) (n : ℕ) → All (FitFor L) first → verdict L one ≡ Err n → first_refusal L i (first ++ (one ∷ rest)) ≡ refused_by n (i + length first)
 unfolding first_refusal
 refused_after L i [] one rest n h e = rw (e, add-zero i)
 refused_after L i (t ∷ first) one rest n h e =
     let k : i + 1 + length first ≡ i + length (t ∷ first) = omega arith in
-    rw ((fit_exact L t).1 h.0) (refused_after L (i + 1) first one rest n h.1 e ∙ ap (Refused n) k)
+    rw ((fit_exact L t).1 h.0) (refused_after L (i + 1) first one rest n h.1 e ∙ ap (refused_by n) k)
 
-refused_there : (L i : ℕ) (ts : List Trapezoid) (n k : ℕ) → first_refusal L i ts ≡ Refused n k → RefusedAt L i ts n k
+refused_there : (L i : ℕ) (ts : List Trapezoid) (n k : ℕ) → first_refusal L i ts ≡ refused_by n k → RefusedAt L i ts n k
 unfolding first_refusal
 refused_there L i [] n k e = let z : ◌≡◌ {A = ℕ} 0 1 = cc in absurd (omega arith)
 refused_there L i (t ∷ ts) n k e = go (verdict L t) refl (refused_there L (i + 1) ts n k) e
   where
-    go : (v : Verdict) → verdict L t ≡ v → (first_refusal L (i + 1) ts ≡ Refused n k → RefusedAt L (i + 1) ts n k) → refuse v i (first_refusal L (i + 1) ts) ≡ Refused n k → RefusedAt L i (t ∷ ts) n k
-    go (Row m) f later e =
-        let same : m ≡ n = cc in
-        let here : i ≡ k = cc in
-        record { first = []; one = t; rest = ts; split = refl; place = omega arith; fit = tt; row = f ∙ ap Row same }
-    go Fit f later e =
+    go : (v : Result (Unit {0}) ℕ) → verdict L t ≡ v → (first_refusal L (i + 1) ts ≡ refused_by n k → RefusedAt L (i + 1) ts n k) → refuse v i (first_refusal L (i + 1) ts) ≡ refused_by n k → RefusedAt L i (t ∷ ts) n k
+    go (Err m) f later e =
+        let alike = refused_same {m = m} {i = i} {n = n} {k = k} e in
+        let same = alike.0 in
+        let here = alike.1 in
+        record { first = []; one = t; rest = ts; split = refl; place = omega arith; fit = tt; row = f ∙ ap Err same }
+    go (Ok u) f later e =
         let r = later e in
         record {
           first = t ∷ r.first;
@@ -315,7 +316,7 @@ refused_there L i (t ∷ ts) n k e = go (verdict L t) refl (refused_there L (i +
 pub place_exact : PlaceExact
 place_exact L i ts n k = (
   refused_there L i ts n k,
-  (λ r. ap (first_refusal L i) r.split ∙ refused_after L i r.first r.one r.rest n r.fit r.row ∙ ap (Refused n) (sym r.place)),
+  (λ r. ap (first_refusal L i) r.split ∙ refused_after L i r.first r.one r.rest n r.fit r.row ∙ ap (refused_by n) (sym r.place)),
 )
 
 -- ---- what fitness gives

@@ -6,8 +6,8 @@ use lib.IntN.{ℤ, pos}
 use lib.Dec.{T, T_not, not_T}
 use lib.Signed.{◌≤ℤ◌, ◌<ℤ◌}
 use Rattle.lists.proofs.Tests.{true_is, false_is, yes_or_no}
-use Rattle.integer.specs.declared.Ordering.{Ordering}
-use Rattle.integer.specs.declared.Ordering.TheVariants.{Less, Equal, Greater}
+use Rattle.std.specs.declared.cmp.Ordering.{Ordering}
+use Rattle.std.specs.declared.cmp.Ordering.TheVariants.{Less, Equal, Greater}
 use Rattle.integer.specs.Integer.{◌⊕◌, ◌⊗◌, ⊝◌}
 use Rattle.integer.specs.Compare.{order_of}
 use Rattle.integer.specs.Fraction.{Fraction, Proper}

@@ -6,6 +6,7 @@ pub mod Meet
 pub mod Standing
 pub mod Points
 pub mod Sides
+pub mod Refused
 pub mod Fitness
 pub mod Refusals
 pub mod Orders

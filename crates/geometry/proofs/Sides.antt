@@ -4,8 +4,8 @@ use mathlib.Core.Logic.{◌⊎◌, inl, inr, ◌↔◌}
 use lib.IntN.{ℤ, pos}
 use lib.Dec.{T}
 use lib.Signed.{◌≤ℤ◌, ◌<ℤ◌, clash_ℤ}
-use Rattle.integer.specs.declared.Ordering.{Ordering}
-use Rattle.integer.specs.declared.Ordering.TheVariants.{Less, Equal, Greater}
+use Rattle.std.specs.declared.cmp.Ordering.{Ordering}
+use Rattle.std.specs.declared.cmp.Ordering.TheVariants.{Less, Equal, Greater}
 use Rattle.integer.specs.Integer.{◌⊕◌, ◌⊗◌}
 use Rattle.integer.specs.Compare.{order_of, HasOrder}
 use Rattle.integer.specs.Fraction.{Fraction, Proper, before, mediant}

@@ -1,26 +1,24 @@
 -- Fitness of a trapezoid under a coordinate limit L: what rows 7 to 11 mean, and the tests that compute it.
-use Rattle.std.specs.Prelude.{◌≡◌, Bool, true, false, ◌&&◌, List, [], ◌∷◌, ◌++◌, ◌↔◌, ℕ, ◌+◌, ◌<◌, ◌≤◌, T, pos, ℤ, length, ◌<ℤ◌}
+use Rattle.std.specs.Prelude.{◌≡◌, Bool, true, false, ◌&&◌, List, [], ◌∷◌, ◌++◌, ◌↔◌, ℕ, ◌+◌, ◌<◌, ◌≤◌, T, pos, ℤ, length, ◌<ℤ◌, Result, Ok, Err}
 use Rattle.std.specs.Int.Signed.{lt_z}
 use Rattle.lists.specs.Lists.{All}
 use Rattle.lists.specs.Tests.{all}
-use Rattle.integer.specs.declared.Ordering.{Ordering}
-use Rattle.integer.specs.declared.Ordering.TheVariants.{Less, Equal, Greater}
+use Rattle.std.specs.declared.cmp.Ordering.{Ordering}
+use Rattle.std.specs.declared.cmp.Ordering.TheVariants.{Less, Equal, Greater}
 use Rattle.integer.specs.Fraction.{Fraction, Proper, before}
 use Rattle.records.specs.Limits.{max_records}
 use Rattle.records.specs.Records.{count}
 use Rattle.geometry.specs.declared.Line.{Line}
 use Rattle.geometry.specs.declared.Base.{Base}
 use Rattle.geometry.specs.declared.Trapezoid.{Trapezoid}
-use Rattle.geometry.specs.declared.Verdict.{Verdict}
-use Rattle.geometry.specs.declared.Verdict.TheVariants.{Fit, Row}
-use Rattle.geometry.specs.declared.Checked.{Checked}
-use Rattle.geometry.specs.declared.Checked.TheVariants.{Passed, Refused}
 use Rattle.geometry.specs.Limit.{on_grid, OnGrid, coordinate_limit}
 use Rattle.geometry.specs.Lines.{IsLine}
 use Rattle.geometry.specs.Positions.{gap, crosses, heights, position}
 use Rattle.geometry.specs.Standing.{is_left, base_crosses, standing, LeftOf}
 use Rattle.geometry.specs.Points.{Point, IsPoint, On, SamePoint}
 use Rattle.geometry.specs.Trapezoids.{lines_of, lies_in, trapezoid_codec, layer_of}
+use Rattle.geometry.specs.declared.Refusal.{Refusal}
+use Rattle.geometry.specs.Refusals.{refused_by}
 
 -- ---- the meanings
 -- row 9: one rational point lies on both lines, and no other
@@ -82,29 +80,29 @@ apart_by Greater o = false
 unfoldable pub below_between : Fraction → Fraction → Line → Line → Bool
 below_between p q l m = apart_by (heights p l m) (heights q l m)
 
-abbrev pub pass : Bool → ℕ → Verdict → Verdict
+abbrev pub pass : Bool → ℕ → Result (Unit {0}) ℕ → Result (Unit {0}) ℕ
 pass true n v = v
-pass false n v = Row n
+pass false n v = Err n
 
 -- of the rows 9 to 11
-unfoldable pub shape_verdict : Trapezoid → Verdict
+unfoldable pub shape_verdict : Trapezoid → Result (Unit {0}) ℕ
 shape_verdict t =
     pass (base_crosses t.left && base_crosses t.right) 9
     (pass (left_of t.left t.right) 10
     (pass (below_between (position t.left) (position t.right) t.bottom t.top) 11
-    Fit))
+    (Ok tt)))
 
 -- the first of the rows 7 to 11 that refuses a trapezoid
-unfoldable pub verdict : ℕ → Trapezoid → Verdict
+unfoldable pub verdict : ℕ → Trapezoid → Result (Unit {0}) ℕ
 verdict L t = pass (all (line_on_grid L) (lines_of t)) 7 (pass (all is_line (lines_of t)) 8 (shape_verdict t))
 
-abbrev pub refuse : Verdict → ℕ → Checked → Checked
-refuse Fit i c = c
-refuse (Row n) i c = Refused n i
+abbrev pub refuse : Result (Unit {0}) ℕ → ℕ → Result (Unit {0}) Refusal → Result (Unit {0}) Refusal
+refuse (Ok u) i c = c
+refuse (Err n) i c = refused_by n i
 
 -- "7 to 11 are completed for one piece before the next": the first refusal of a list, its places numbered on from i
-unfoldable pub first_refusal : ℕ → ℕ → List Trapezoid → Checked
-first_refusal L i [] = Passed
+unfoldable pub first_refusal : ℕ → ℕ → List Trapezoid → Result (Unit {0}) Refusal
+first_refusal L i [] = Ok tt
 first_refusal L i (t ∷ ts) = refuse (verdict L t) i (first_refusal L (i + 1) ts)
 
 -- ---- the sizes of a refusal's number and place: an answer in C has 8 and 32 bits for them
@@ -130,20 +128,20 @@ SidesExact = (p q : Fraction) (l m : Line) → Proper p → Proper q → T (befo
 
 -- a trapezoid is let pass exactly if it is fit, and a list exactly if each of it is
 abbrev pub FitExact : Type 0
-FitExact = (L : ℕ) (t : Trapezoid) → (verdict L t ≡ Fit) ↔ FitFor L t
+FitExact = (L : ℕ) (t : Trapezoid) → (verdict L t ≡ Ok tt) ↔ FitFor L t
 
 abbrev pub LayerExact : Type 0
-LayerExact = (L i : ℕ) (ts : List Trapezoid) → (first_refusal L i ts ≡ Passed) ↔ All (FitFor L) ts
+LayerExact = (L i : ℕ) (ts : List Trapezoid) → (first_refusal L i ts ≡ Ok tt) ↔ All (FitFor L) ts
 
 -- "Rows are checked downward": a trapezoid gets the number of a row exactly if it has what the rows before ask and not what this one asks;
 -- and it gets no other number
 pub record RowsOf (L : ℕ) (t : Trapezoid) : Type 0 where
-  pub grid : (verdict L t ≡ Row 7) ↔ (GridRow L t → ⊥)
-  pub line : (verdict L t ≡ Row 8) ↔ (GridRow L t × (LineRow t → ⊥))
-  pub base : (verdict L t ≡ Row 9) ↔ (GridRow L t × (LineRow t × (BaseRow t → ⊥)))
-  pub bases : (verdict L t ≡ Row 10) ↔ (GridRow L t × (LineRow t × (BaseRow t × (BasesRow t → ⊥))))
-  pub sides : (verdict L t ≡ Row 11) ↔ (GridRow L t × (LineRow t × (BaseRow t × (BasesRow t × (SidesRow t → ⊥)))))
-  pub numbers : (n : ℕ) → verdict L t ≡ Row n → (7 ≤ n) × (n ≤ 11)
+  pub grid : (verdict L t ≡ Err 7) ↔ (GridRow L t → ⊥)
+  pub line : (verdict L t ≡ Err 8) ↔ (GridRow L t × (LineRow t → ⊥))
+  pub base : (verdict L t ≡ Err 9) ↔ (GridRow L t × (LineRow t × (BaseRow t → ⊥)))
+  pub bases : (verdict L t ≡ Err 10) ↔ (GridRow L t × (LineRow t × (BaseRow t × (BasesRow t → ⊥))))
+  pub sides : (verdict L t ≡ Err 11) ↔ (GridRow L t × (LineRow t × (BaseRow t × (BasesRow t × (SidesRow t → ⊥)))))
+  pub numbers : (n : ℕ) → verdict L t ≡ Err n → (7 ≤ n) × (n ≤ 11)
 
 abbrev pub RowExact : Type 0
 RowExact = (L : ℕ) (t : Trapezoid) → RowsOf L t
@@ -156,11 +154,11 @@ pub record RefusedAt (L i : ℕ) (ts : List Trapezoid) (n k : ℕ) : Type 0 wher
   pub split : ts ≡ first ++ (one ∷ rest)
   pub place : k ≡ i + length first
   pub fit : All (FitFor L) first
-  pub row : verdict L one ≡ Row n
+  pub row : verdict L one ≡ Err n
 
 -- a list is refused with a number and place exactly if its trapezoid there is
 abbrev pub PlaceExact : Type 0
-PlaceExact = (L i : ℕ) (ts : List Trapezoid) (n k : ℕ) → (first_refusal L i ts ≡ Refused n k) ↔ RefusedAt L i ts n k
+PlaceExact = (L i : ℕ) (ts : List Trapezoid) (n k : ℕ) → (first_refusal L i ts ≡ refused_by n k) ↔ RefusedAt L i ts n k
 
 -- what is fit for a limit is fit for every larger one
 abbrev pub FitMore : Type 0

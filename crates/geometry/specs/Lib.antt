@@ -6,6 +6,7 @@ pub mod Standing
 pub mod Points
 pub mod Orders
 pub mod Trapezoids
+pub mod Refusals
 pub mod Fitness
 pub mod Ranges
 pub mod Polygons

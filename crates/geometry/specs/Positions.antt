@@ -1,8 +1,8 @@
 -- Horizontal positions are fractions (crate `integer`), of any size. Which of two lines is the lower at a position, and right of it.
 use Rattle.std.specs.Prelude.{Bool, true, false, cond, ℤ, pos}
 use Rattle.std.specs.Int.Signed.{lt_z}
-use Rattle.integer.specs.declared.Ordering.{Ordering}
-use Rattle.integer.specs.declared.Ordering.TheVariants.{Less, Equal, Greater}
+use Rattle.std.specs.declared.cmp.Ordering.{Ordering}
+use Rattle.std.specs.declared.cmp.Ordering.TheVariants.{Less, Equal, Greater}
 use Rattle.integer.specs.Integer.{◌⊖◌, ◌⊗◌}
 use Rattle.integer.specs.Compare.{order_of}
 use Rattle.integer.specs.Fraction.{Fraction}

@@ -2,8 +2,8 @@
 -- determinants, which are never zero". A base is compared by its numerator and its determinant, a position by n and d of n/d.
 use Rattle.std.specs.Prelude.{◌≡◌, Bool, true, false, not, cond, ◌↔◌, T, ℤ, pos, ◌<ℤ◌}
 use Rattle.std.specs.Int.Signed.{lt_z}
-use Rattle.integer.specs.declared.Ordering.{Ordering}
-use Rattle.integer.specs.declared.Ordering.TheVariants.{Less, Equal, Greater}
+use Rattle.std.specs.declared.cmp.Ordering.{Ordering}
+use Rattle.std.specs.declared.cmp.Ordering.TheVariants.{Less, Equal, Greater}
 use Rattle.integer.specs.Integer.{◌⊗◌}
 use Rattle.integer.specs.Fraction.{Fraction, Proper, before, order}
 use Rattle.geometry.specs.declared.Base.{Base}

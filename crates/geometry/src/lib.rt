@@ -1,7 +1,11 @@
 // Lines, bases, trapezoids, rational points and polygons, and what functions hold of them.
 #![tactic(auto)]
 
+ghost use Rattle.std.specs.Prelude.{◌≡◌};
+ghost use Rattle.geometry.specs.Standing.{across};
+
 use integer::Int;
+use std::cmp::Ordering;
 
 // Four words, two grid points with x1 < x2.
 #[derive(Clone, Copy)]
@@ -74,11 +78,17 @@ pub enum Horizontal {
     Right,
 }
 
-// Where two lines cross: nowhere, or nowhere in the range that was asked for; or at a position.
-#[derive(Clone, Copy)]
-pub enum Crossing {
-    Nowhere,
-    At(Position),
+// By the order of two products.
+impl From<Ordering> for Horizontal {
+    ghost from_gives = { λ o h. h ≡ across o };
+
+    fn from(o: Ordering) -> Horizontal {
+        match o {
+            Ordering::Less => Horizontal::Left,
+            Ordering::Equal => Horizontal::Level,
+            Ordering::Greater => Horizontal::Right,
+        }
+    }
 }
 
 // A trapezoid with the positions of its bases.
@@ -89,23 +99,9 @@ pub struct Placed {
     pub right: Position,
 }
 
-// What a writer says of the tail that it borrowed: no room, or how many trapezoids it wrote.
+// What a check answers where it does not let pass: the number of the row that refuses, and the place.
 #[derive(Clone, Copy)]
-pub enum Fill {
-    NoRoom,
-    Written(usize),
-}
-
-// The first of the rows 7 to 11 that refuses a trapezoid.
-#[derive(Clone, Copy)]
-pub enum Verdict {
-    Fit,
-    Row(u32),
-}
-
-// What a check of a list of trapezoids answers.
-#[derive(Clone, Copy)]
-pub enum Checked {
-    Passed,
-    Refused { number: u32, place: usize },
+pub struct Refusal {
+    pub number: u32,
+    pub place: usize,
 }

@@ -1,7 +1,7 @@
 -- How the functions' structs stand for the numbers of the definitions.
-use Rattle.std.specs.Prelude.{◌≡◌, not, ◌*◌, ◌≤◌, T, pos, nat_abs, ◌<ℤ◌}
+use Rattle.std.specs.Prelude.{◌≡◌, not, ◌*◌, ◌≤◌, T, pos, nat_abs, ◌<ℤ◌, Option, Some, None}
 use Rattle.integer.specs.declared.Int.{Int}
-use Rattle.integer.specs.declared.Ordering.{Ordering}
+use Rattle.std.specs.declared.cmp.Ordering.{Ordering}
 use Rattle.integer.specs.Integer.{◌⊗◌, ◌⊖◌}
 use Rattle.integer.specs.Compare.{order_of}
 use Rattle.integer.specs.Fraction.{Fraction, Proper}
@@ -11,8 +11,6 @@ use Rattle.geometry.specs.declared.Corners.{Corners}
 use Rattle.geometry.specs.declared.Coefficients.{Coefficients}
 use Rattle.geometry.specs.declared.Meeting.{Meeting}
 use Rattle.geometry.specs.declared.Position.{Position}
-use Rattle.geometry.specs.declared.Crossing.{Crossing}
-use Rattle.geometry.specs.declared.Crossing.TheVariants.{Nowhere, At}
 use Rattle.geometry.specs.Limit.{coordinate_limit, max_denominator, det_bound, numer_bound}
 use Rattle.geometry.specs.Lines.{dx, dy, offset, det, numer}
 use Rattle.geometry.specs.Positions.{crosses, ratio, meet, position, then_by}
@@ -73,22 +71,22 @@ unfoldable pub order_right : Meeting → Fraction → Ordering
 order_right k x = then_by (order_of (x.num ⊗ k.det.v) (k.numer.v ⊗ x.den)) (order_of k.det.v (pos 0))
 
 -- where two lines cross, or that they do not: as the lines give it, and with a positive denominator
-abbrev pub RatioOf : Line → Line → Crossing → Type 0
-RatioOf l m Nowhere = T (not (crosses l m))
-RatioOf l m (At p) = T (crosses l m) × (fraction_of p ≡ ratio l m) × Comparable p
+abbrev pub RatioOf : Line → Line → Option Position → Type 0
+RatioOf l m None = T (not (crosses l m))
+RatioOf l m (Some p) = T (crosses l m) × (fraction_of p ≡ ratio l m) × Comparable p
 
-abbrev pub CrossingOf : Line → Line → Crossing → Type 0
-CrossingOf l m Nowhere = T (not (crosses l m))
-CrossingOf l m (At p) = T (crosses l m) × (fraction_of p ≡ meet l m) × SmallPosition p
+abbrev pub CrossingOf : Line → Line → Option Position → Type 0
+CrossingOf l m None = T (not (crosses l m))
+CrossingOf l m (Some p) = T (crosses l m) × (fraction_of p ≡ meet l m) × SmallPosition p
 
 -- of whichever lines have the determinant and the numerator of k
-abbrev pub CrossingBy : Meeting → Crossing → Type 0
+abbrev pub CrossingBy : Meeting → Option Position → Type 0
 CrossingBy k r = (l m : Line) → MeetingOf l m k → CrossingOf l m r
 
 -- the position can be kept
-abbrev pub SmallCrossing : Crossing → Type 0
-SmallCrossing Nowhere = Unit {0}
-SmallCrossing (At p) = SmallPosition p
+abbrev pub SmallCrossing : Option Position → Type 0
+SmallCrossing None = Unit {0}
+SmallCrossing (Some p) = SmallPosition p
 
 pub record PositionOf (b : Base) (p : Position) : Type 0 where
   pub is : fraction_of p ≡ position b

@@ -16,8 +16,7 @@ use Rattle.geometry.specs.declared.Line.{Line}
 use Rattle.geometry.specs.Positions.{below}
 use Rattle.sweep.specs.Segments.{spans}
 use Rattle.sweep.specs.Columns.{lower}
-use Rattle.sorting.specs.declared.Place.{Place}
-use Rattle.sorting.specs.declared.Place.TheVariants.{Before, Level}
+use Rattle.std.specs.Prelude.{Result, Ok, Err}
 use Rattle.sorting.specs.Sorted.{inserted, merged, Lands}
 use Rattle.sorting.specs.Weighed.{Weighed, joined, lighter}
 use Rattle.sorting.proofs.Merging.{merge_before, merge_level, same_within}
@@ -75,19 +74,19 @@ all_set P (y ∷ ys) (suc i) x h p = (h.0, all_set P ys i x h.1 p)
 pub weight_light : (m : ℕ) (ws : List ℤ) → All (λ (w : ℤ). nat_abs w ≤ 64) (take m ws) → m ≤ length ws → (i : ℕ) → i < m → nat_abs (get_or ws i (pos 0)) ≤ 64
 weight_light m ws a n i l = subst (λ (w : ℤ). nat_abs w ≤ 64) (get_or-take m ws i (pos 0) l) (all_at (λ (w : ℤ). nat_abs w ≤ 64) (take m ws) i (pos 0) a (omega (arith, l, length-take-le m ws n)))
 
-module _ (p : Place) (i m : ℕ) (h : Fits p m) where
-  pub fits_before : p ≡ Before i → i ≤ m
-  fits_before e = subst (λ (q : Place). Fits q m) e h
+module _ (p : Result ℕ ℕ) (i m : ℕ) (h : Fits p m) where
+  pub fits_before : p ≡ Err i → i ≤ m
+  fits_before e = subst (λ (q : Result ℕ ℕ). Fits q m) e h
 
-  pub fits_level : p ≡ Level i → i < m
-  fits_level e = subst (λ (q : Place). Fits q m) e h
+  pub fits_level : p ≡ Ok i → i < m
+  fits_level e = subst (λ (q : Result ℕ ℕ). Fits q m) e h
 
-module _ (p : Place) (i k : ℕ) (w : ℤ) (m : ℕ) (ks : List ℕ) (ws : List ℤ) (ks' : List ℕ) (ws' : List ℤ) where
-  pub added_before : p ≡ Before i → take (m + 1) ks' ≡ inserted i k (take m ks) → take (m + 1) ws' ≡ inserted i w (take m ws) → AddedAt p k w m ks ws (m + 1) ks' ws'
-  added_before e a b = subst (λ (q : Place). AddedAt q k w m ks ws (m + 1) ks' ws') (sym e) (refl, a, b)
+module _ (p : Result ℕ ℕ) (i k : ℕ) (w : ℤ) (m : ℕ) (ks : List ℕ) (ws : List ℤ) (ks' : List ℕ) (ws' : List ℤ) where
+  pub added_before : p ≡ Err i → take (m + 1) ks' ≡ inserted i k (take m ks) → take (m + 1) ws' ≡ inserted i w (take m ws) → AddedAt p k w m ks ws (m + 1) ks' ws'
+  added_before e a b = subst (λ (q : Result ℕ ℕ). AddedAt q k w m ks ws (m + 1) ks' ws') (sym e) (refl, a, b)
 
-  pub added_level : p ≡ Level i → (u s : ℤ) → u ≡ get_or ws i (pos 0) → s ≡ u ⊕ w → ks' ≡ set ks i k → ws' ≡ set ws i s → AddedAt p k w m ks ws m ks' ws'
-  added_level e u s eu es a b = subst (λ (q : Place). AddedAt q k w m ks ws m ks' ws') (sym e) (refl, a, b ∙ ap (set ws i) (es ∙ ap (λ (z : ℤ). z ⊕ w) eu))
+  pub added_level : p ≡ Ok i → (u s : ℤ) → u ≡ get_or ws i (pos 0) → s ≡ u ⊕ w → ks' ≡ set ks i k → ws' ≡ set ws i s → AddedAt p k w m ks ws m ks' ws'
+  added_level e u s eu es a b = subst (λ (q : Result ℕ ℕ). AddedAt q k w m ks ws m ks' ws') (sym e) (refl, a, b ∙ ap (set ws i) (es ∙ ap (λ (z : ℤ). z ⊕ w) eu))
 
 module _ {ls ts : List ℤ} {m : ℕ} {ks : List ℕ} {ws : List ℤ} (h : Held ls ts m ks ws) where
   pub held_comparables : Comparables ts m ks
@@ -115,16 +114,16 @@ module _ {ls ts : List ℤ} {m : ℕ} {ks : List ℕ} {ws : List ℤ} (h : Held 
   m_lines : length (map (line_number ls) (take m ks)) ≡ m
   m_lines = length-map (take m ks) (line_number ls) ∙ m_k
 
-  pub fits : (r : Place) → Lands (below x) (line_number ls k) (map (line_number ls) (take m ks)) r → Fits r m
-  fits (Before i) lands = omega (arith, lands.0.upto, m_lines)
-  fits (Level i) lands = let n = same_within {A = Line} (λ (y : Line). y) (below x) (λ (a b : Line). a) (line_number ls k) (map (line_number ls) (take m ks)) (line_number ls k) i lands.1 in omega (arith, n, m_lines)
+  pub fits : (r : Result ℕ ℕ) → Lands (below x) (line_number ls k) (map (line_number ls) (take m ks)) r → Fits r m
+  fits (Err i) lands = omega (arith, lands.0.upto, m_lines)
+  fits (Ok i) lands = let n = same_within {A = Line} (λ (y : Line). y) (below x) (λ (a b : Line). a) (line_number ls k) (map (line_number ls) (take m ks)) (line_number ls k) i lands.1 in omega (arith, n, m_lines)
 
   abbrev joined_in : List (Weighed Edge)
   joined_in = merged (lighter (lower line_of x)) joined (alone ls ts k) gs
 
-  joined_at : (p : Place) (r : ℕ) (ks' : List ℕ) (ws' : List ℤ) → length ks' ≡ 32 → Lands (below x) (line_number ls k) (map line_in gs) p → Fits p m → AddedAt p k (direction_number ts k) m ks ws r ks' ws'
+  joined_at : (p : Result ℕ ℕ) (r : ℕ) (ks' : List ℕ) (ws' : List ℤ) → length ks' ≡ 32 → Lands (below x) (line_number ls k) (map line_in gs) p → Fits p m → AddedAt p k (direction_number ts k) m ks ws r ks' ws'
       → (groups_in ls ts r ks' ws' ≡ joined_in) × Numbered ls ts r ks'
-  joined_at (Before i) r ks' ws' l lands f (er, ek, ew) =
+  joined_at (Err i) r ks' ws' l lands f (er, ek, ew) =
       rw er (
         (rw (ek, ew) (gathered_inserted ls ts k (direction_number ts k) i (take m ks) (take m ws) (omega (arith, f, m_k)) (m_k ∙ sym m_w))
             ∙ sym (merge_before line_in (below x) joined (alone ls ts k) gs i lands.0 lands.1)),
@@ -133,7 +132,7 @@ module _ {ls ts : List ℤ} {m : ℕ} {ks : List ℕ} {ws : List ℤ} (h : Held 
           all = rw ek (all_append (EdgeHeld ls ts) (take i (take m ks)) (k ∷ drop i (take m ks)) (all_take (EdgeHeld ls ts) i (take m ks) h.numbered.all) (edge, all_drop (EdgeHeld ls ts) i (take m ks) h.numbered.all));
         },
       )
-  joined_at (Level i) r ks' ws' l lands f (er, ek, ew) =
+  joined_at (Ok i) r ks' ws' l lands f (er, ek, ew) =
       let d = direction_number ts k in
       let z = get_or ws i (pos 0) ⊕ d in
       let old : (get_or gs i (alone ls ts k)).weight ≡ get_or ws i (pos 0) = ap (λ (g : Weighed Edge). g.weight) (gathered_at ls ts (take m ks) (take m ws) i (alone ls ts k) (omega (arith, m_k, f)) (m_k ∙ sym m_w)) ∙ get_or-take m ws i (pos 0) f in
@@ -149,7 +148,7 @@ module _ {ls ts : List ℤ} {m : ℕ} {ks : List ℕ} {ws : List ℤ} (h : Held 
     spans_is : spans x (line_segment l) ≡ spans x (line_segment (line_number ls k))
     spans_is = ap (λ (y : Line). spans x (line_segment y)) el
 
-    pub widened_yes : spans x (line_segment l) ≡ true → (p : Place) (id : ℕ) (w : ℤ) (r : ℕ) (ks' : List ℕ) (ws' : List ℤ) → id ≡ k → w ≡ direction_number ts k → length ks' ≡ 32
+    pub widened_yes : spans x (line_segment l) ≡ true → (p : Result ℕ ℕ) (id : ℕ) (w : ℤ) (r : ℕ) (ks' : List ℕ) (ws' : List ℤ) → id ≡ k → w ≡ direction_number ts k → length ks' ≡ 32
         → Lands (below x) (line_number ls k) (map (line_number ls) (take m ks)) p → AddedAt p id w m ks ws r ks' ws' → Widened ls ts x k m ks ws r ks' ws'
     widened_yes e p id w r ks' ws' ei ew lk lands a =
         let b : AddedAt p k (direction_number ts k) m ks ws r ks' ws' = subst (λ (j : ℕ). AddedAt p j (direction_number ts k) m ks ws r ks' ws') ei (subst (λ (v : ℤ). AddedAt p id v m ks ws r ks' ws') ew a) in

@@ -1,6 +1,5 @@
 -- The place of a line among the groups.
 use mathlib.Core.Path.{◌≡◌, refl, sym, ◌∙◌, ap, subst}
-use mathlib.Core.Bool.{Bool, true, false}
 use mathlib.Core.List.{List, [], ◌∷◌, map}
 use Prim.Native.Nat.{ℕ, zero, suc, ◌+◌, ◌<◌, ◌≤◌}
 use native.Mathlib.Omega.{arith}
@@ -9,15 +8,14 @@ use lib.Seq.{length-take-le, get_or-take, drop-cons}
 use lib.IntN.{ℤ}
 use Rattle.lists.specs.Lists.{All}
 use Rattle.lists.proofs.Lists.{all_at}
-use Rattle.lists.proofs.Tests.{is_true, is_false}
-use Rattle.integer.specs.declared.Ordering.{Ordering}
-use Rattle.integer.specs.declared.Ordering.TheVariants.{Less, Equal, Greater}
+use Rattle.std.specs.declared.cmp.Ordering.{Ordering}
+use Rattle.std.specs.declared.cmp.Ordering.TheVariants.{Less, Equal, Greater}
 use Rattle.integer.specs.Fraction.{Fraction}
 use Rattle.geometry.specs.declared.Line.{Line}
 use Rattle.geometry.specs.declared.Coefficients.{Coefficients}
 use Rattle.geometry.specs.declared.Meeting.{Meeting}
 use Rattle.geometry.specs.Positions.{right_of, is_less, is_greater, below}
-use Rattle.sorting.specs.declared.Place.TheVariants.{Before, Level}
+use Rattle.std.specs.Prelude.{Ok, Err}
 use Rattle.sorting.specs.Sorted.{Passed, Front, Same}
 use Rattle.sorting.proofs.Inserting.{drop_past}
 use Rattle.sorting.proofs.Merging.{passed_start, passed_next}
@@ -54,7 +52,7 @@ module _ (a : Coefficients) (x : Fraction) (ts : List ℤ) (m : ℕ) (ks : List 
   search_start = record { passed = λ l ls hl ht. passed_start (below x) l (ys ls) }
 
   module _ (i : ℕ) (s : Searching a x ts m ks i) where
-    pub search_end : m ≤ i → Found a x ts m ks (Before i)
+    pub search_end : m ≤ i → Found a x ts m ks (Err i)
     search_end le l ls hl ht = (s.passed l ls hl ht, subst (Front (below x) l) (sym (drop_past (ys ls) i (omega (arith, n_ys ls)))) tt)
 
     module _ (lt : i < m) where
@@ -74,10 +72,10 @@ module _ (a : Coefficients) (x : Fraction) (ts : List ℤ) (m : ℕ) (ks : List 
         first : (l : Line) (ls : List ℤ) → drop i (ys ls) ≡ line_number ls (get_or ks i 0) ∷ drop (suc i) (ys ls)
         first l ls = drop-cons (ys ls) i l (omega (arith, n_ys ls)) ∙ ap (λ (y : Line). y ∷ drop (suc i) (ys ls)) (line_here l ls)
 
-        pub search_before : o ≡ Less → Found a x ts m ks (Before i)
+        pub search_before : o ≡ Less → Found a x ts m ks (Err i)
         search_before f l ls hl ht = (s.passed l ls hl ht, subst (Front (below x) l) (sym (first l ls)) ((right_tests x l _ o (sym (order_here l ls hl ht))).0 ∙ ap is_less f))
 
-        pub search_level : o ≡ Equal → Found a x ts m ks (Level i)
+        pub search_level : o ≡ Equal → Found a x ts m ks (Ok i)
         search_level f l ls hl ht = (s.passed l ls hl ht, subst (Same (below x) l) (sym (first l ls)) (let t = right_tests x l _ o (sym (order_here l ls hl ht)) in (t.0 ∙ ap is_less f, t.1 ∙ ap is_greater f)))
 
         pub search_next : o ≡ Greater → Searching a x ts m ks (i + 1)

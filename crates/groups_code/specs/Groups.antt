@@ -1,7 +1,7 @@
 -- The groups of a column in arrays, in order: the number of the lowest-numbered edge of each, and the sum of its directions.
 use Rattle.std.specs.Prelude.{◌≡◌, cond, List, [], ◌∷◌, map, ℕ, ◌+◌, ◌<◌, ◌≤◌, length, get_or, set, take, ℤ, pos, nat_abs}
 use Rattle.lists.specs.Lists.{All}
-use Rattle.integer.specs.declared.Ordering.{Ordering}
+use Rattle.std.specs.declared.cmp.Ordering.{Ordering}
 use Rattle.integer.specs.Integer.{◌⊕◌}
 use Rattle.integer.specs.Fraction.{Fraction}
 use Rattle.geometry.specs.declared.Line.{Line}
@@ -10,8 +10,7 @@ use Rattle.geometry.specs.Limit.{coordinate_limit, OnGrid}
 use Rattle.geometry.specs.Positions.{right_of, below}
 use Rattle.sweep.specs.Segments.{spans, spanning}
 use Rattle.sweep.specs.Columns.{lower}
-use Rattle.sorting.specs.declared.Place.{Place}
-use Rattle.sorting.specs.declared.Place.TheVariants.{Before, Level}
+use Rattle.std.specs.Prelude.{Result, Ok, Err}
 use Rattle.sorting.specs.Sorted.{inserted, merged, Lands}
 use Rattle.sorting.specs.Weighed.{Weighed, joined, lighter, weighed}
 use Rattle.fracture.specs.Polygons.{Edge, line_of, direction_of, segment}
@@ -34,18 +33,18 @@ abbrev pub TermsOf : List ℤ → List ℤ → ℕ → List ℕ → Type 0
 TermsOf ls ts m ks = All (λ (k : ℕ). CoefficientsOf (line_number ls k) (terms_number ts k)) (take m ks)
 
 -- where a line with the numbers a belongs among the lines of the first m, right of x
-abbrev pub Found : Coefficients → Fraction → List ℤ → ℕ → List ℕ → Place → Type 0
+abbrev pub Found : Coefficients → Fraction → List ℤ → ℕ → List ℕ → Result ℕ ℕ → Type 0
 Found a x ts m ks r = (l : Line) (ls : List ℤ) → CoefficientsOf l a → TermsOf ls ts m ks → Lands (below x) l (map (line_number ls) (take m ks)) r
 
 -- ---- one more at a place
-abbrev pub Fits : Place → ℕ → Type 0
-Fits (Before i) m = i ≤ m
-Fits (Level i) m = i < m
+abbrev pub Fits : Result ℕ ℕ → ℕ → Type 0
+Fits (Err i) m = i ≤ m
+Fits (Ok i) m = i < m
 
 -- a number with a weight before number i, or in the place of number i with the sum of the weights
-abbrev pub AddedAt : Place → ℕ → ℤ → ℕ → List ℕ → List ℤ → ℕ → List ℕ → List ℤ → Type 0
-AddedAt (Before i) k w m ks ws r ks' ws' = (r ≡ m + 1) × (take (m + 1) ks' ≡ inserted i k (take m ks)) × (take (m + 1) ws' ≡ inserted i w (take m ws))
-AddedAt (Level i) k w m ks ws r ks' ws' = (r ≡ m) × (ks' ≡ set ks i k) × (ws' ≡ set ws i (get_or ws i (pos 0) ⊕ w))
+abbrev pub AddedAt : Result ℕ ℕ → ℕ → ℤ → ℕ → List ℕ → List ℤ → ℕ → List ℕ → List ℤ → Type 0
+AddedAt (Err i) k w m ks ws r ks' ws' = (r ≡ m + 1) × (take (m + 1) ks' ≡ inserted i k (take m ks)) × (take (m + 1) ws' ≡ inserted i w (take m ws))
+AddedAt (Ok i) k w m ks ws r ks' ws' = (r ≡ m) × (ks' ≡ set ks i k) × (ws' ≡ set ws i (get_or ws i (pos 0) ⊕ w))
 
 -- ---- groups
 abbrev pub gathered : List ℤ → List ℤ → List ℕ → List ℤ → List (Weighed Edge)

@@ -8,46 +8,46 @@ ghost use Rattle.polygon_edges_code.specs.Edges.{EdgesHeld};
 ghost use Rattle.groups_code.specs.Groups.{OrderBy, Comparables, Found, Fits, AddedAt, EdgeHeld, Held, Widened, Gathered};
 
 use geometry::{Coefficients, Position};
-use integer::{Int, Ordering};
-use sorting::Place;
+use integer::Int;
+use std::cmp::Ordering;
 
 // Which of two lines is the lower right of a position, or that they coincide, by their numbers.
 fn order_by(a: Coefficients, b: Coefficients, at: Position) -> Ordering
     requires { SmallCoefficients a × SmallCoefficients b × SmallPosition at }
     ensures { OrderBy a b (fraction_of at) result }
 {
-    let k = geometry_code::meeting_by(a, b);
-    geometry_code::order_right(k, at)
+    geometry_code::order_right(geometry_code::meeting_by(a, b), at)
 }
 
 // Where a line belongs among the first m groups, right of a position.
-fn place_group(terms: &[i64], numbers: &[u32], m: usize, a: Coefficients, at: Position) -> Place
+fn place_group(
+    terms: &[i64],
+    numbers: &[u32],
+    m: usize,
+    a: Coefficients,
+    at: Position,
+) -> Result<usize, usize>
     requires { Comparables terms.now m numbers.now × SmallCoefficients a × SmallPosition at }
     ensures { Found a (fraction_of at) terms.now m numbers.now result }
 {
-    let mut i = 0;
-    while i < m {
-        let k = numbers[i] as usize;
-        let b = polygon_edges_code::terms_at(terms, k);
-        let o = order_by(a, b, at);
-        match o {
+    for i in 0..m {
+        let b = polygon_edges_code::terms_at(terms, numbers[i] as usize);
+        match order_by(a, b, at) {
             Ordering::Less => {
-                return Place::Before(i);
+                return Err(i);
             }
             Ordering::Equal => {
-                return Place::Level(i);
+                return Ok(i);
             }
-            Ordering::Greater => {
-                i += 1;
-            }
+            Ordering::Greater => {}
         }
     }
-    Place::Before(i)
+    Err(m)
 }
 
 // An edge's number and direction put there; how many groups there are then.
 fn add_group(
-    place: Place,
+    place: Result<usize, usize>,
     id: u32,
     w: Int,
     numbers: &mut [u32],
@@ -58,14 +58,13 @@ fn add_group(
     ensures { AddedAt place id w.v m numbers.old weights.old result numbers.new weights.new }
 {
     match place {
-        Place::Before(i) => {
-            sorting_code::insert_word(numbers, m, i, id);
-            sorting_code::insert_number(weights, m, i, w);
+        Err(i) => {
+            sorting_code::insert(numbers, m, i, id);
+            sorting_code::insert(weights, m, i, w.v);
             m + 1
         }
-        Place::Level(i) => {
-            let u = integer_code::get_number(weights, i);
-            let s = integer_code::add(u, w);
+        Ok(i) => {
+            let s = integer_code::add(integer_code::get_number(weights, i), w);
             numbers[i] = id;
             integer_code::put_number(weights, i, s);
             m
@@ -88,13 +87,13 @@ fn add_spanning(
 {
     let l = polygon_edges_code::line_at(lines, k);
     if polygon_events_code::is_spanning(at, l) {
-        let id = k as u32;
         let a = polygon_edges_code::terms_at(terms, k);
         let w = integer_code::get_number(terms, 4 * k + 3);
         let place = place_group(terms, numbers, m, a, at);
-        return add_group(place, id, w, numbers, weights, m);
+        add_group(place, k as u32, w, numbers, weights, m)
+    } else {
+        m
     }
-    m
 }
 
 // The groups of the edges that span a position; how many there are.
@@ -110,9 +109,7 @@ pub fn gather(
     ensures { Gathered edges lines.now terms.now (fraction_of at) 0 result numbers.new weights.new }
 {
     let mut m = 0;
-    let mut i = edges;
-    while 0 < i {
-        i -= 1;
+    for i in (0..edges).rev() {
         m = add_spanning(lines, terms, i, at, numbers, weights, m);
     }
     m

@@ -7,7 +7,7 @@ use lib.Dec.{T, not_T}
 use lib.IntN.{ℤ, pos}
 use lib.Signed.{◌≤ℤ◌, ◌<ℤ◌, lt_z_yes, lt_z_no, clash_ℤ}
 use Rattle.lists.proofs.Tests.{yes_or_no}
-use Rattle.integer.specs.declared.Ordering.TheVariants.{Less, Equal, Greater}
+use Rattle.std.specs.declared.cmp.Ordering.TheVariants.{Less, Equal, Greater}
 use Rattle.integer.specs.Integer.{◌⊕◌, ◌⊖◌, ◌⊗◌, ⊝◌}
 use Rattle.integer.specs.Compare.{order_of}
 use Rattle.integer.specs.Fraction.{Fraction, Proper, before, order, mediant, linear, root}

@@ -7,8 +7,8 @@ use lib.Signed.{lt_z, le_z, ◌≤ℤ◌, ◌<ℤ◌, le_z_yes, lt_z_yes, lt_z_n
 use Rattle.lists.proofs.Tests.{true_is, false_is, is_true, is_false}
 use Rattle.integer.specs.Integer.{◌⊖◌, ⊝◌}
 use Rattle.integer.specs.Compare.{HasOrder, order_by, order_of, OrderExact}
-use Rattle.integer.specs.declared.Ordering.{Ordering}
-use Rattle.integer.specs.declared.Ordering.TheVariants.{Less, Equal, Greater}
+use Rattle.std.specs.declared.cmp.Ordering.{Ordering}
+use Rattle.std.specs.declared.cmp.Ordering.TheVariants.{Less, Equal, Greater}
 use Rattle.integer.proofs.Order.{antisymm, lt→le, lt_sub}
 use Rattle.integer.proofs.Ring.{ring, ◌⊟◌, minus, ◌≗◌}
 

@@ -1,8 +1,8 @@
 -- How two whole numbers stand to each other, as a case of the enum `Ordering`: the meaning, and the test that computes it.
 use Rattle.std.specs.Prelude.{◌≡◌, Bool, true, false, ◌↔◌, ℤ, ◌<ℤ◌}
 use Rattle.std.specs.Int.Signed.{lt_z}
-use Rattle.integer.specs.declared.Ordering.{Ordering}
-use Rattle.integer.specs.declared.Ordering.TheVariants.{Less, Equal, Greater}
+use Rattle.std.specs.declared.cmp.Ordering.{Ordering}
+use Rattle.std.specs.declared.cmp.Ordering.TheVariants.{Less, Equal, Greater}
 
 abbrev pub HasOrder : Ordering → ℤ → ℤ → Type 0
 HasOrder Less a b = a <ℤ b

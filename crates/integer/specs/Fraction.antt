@@ -1,7 +1,7 @@
 -- Fractions n/d. What is said of them holds where the denominators are positive.
 use Rattle.std.specs.Prelude.{Bool, cond, ℤ, pos, ◌<ℤ◌}
 use Rattle.std.specs.Int.Signed.{lt_z}
-use Rattle.integer.specs.declared.Ordering.{Ordering}
+use Rattle.std.specs.declared.cmp.Ordering.{Ordering}
 use Rattle.integer.specs.Integer.{◌⊕◌, ◌⊖◌, ◌⊗◌, ⊝◌}
 use Rattle.integer.specs.Compare.{order_of}
 

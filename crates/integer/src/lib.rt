@@ -6,10 +6,3 @@
 pub struct Int {
     pub v: i64,
 }
-
-#[derive(Clone, Copy)]
-pub enum Ordering {
-    Less,
-    Equal,
-    Greater,
-}

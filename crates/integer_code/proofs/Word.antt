@@ -19,7 +19,3 @@ module _ {w : Width} where
 
     pub result_is : to_z w (of_z w (f (to_z w (of_z w a)) (to_z w (of_z w b)))) ≡ f a b
     result_is = to_z-of_z result_fits ∙ ap₂ f (to_z-of_z fa) (to_z-of_z fb)
-
--- what holds of x holds of the result r
-pub with : (P : ℤ → Type 0) {r x : ℤ} → r ≡ x → P x → (r ≡ x) × P r
-with P e h = (e, subst P (sym e) h)

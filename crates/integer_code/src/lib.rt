@@ -6,7 +6,8 @@ ghost use Rattle.std.specs.Int.Signed.{lt_z, le_z};
 ghost use Rattle.integer.specs.Integer.{◌⊕◌, ◌⊖◌, ◌⊗◌, ⊝◌, limit32, limit64};
 ghost use Rattle.integer.specs.Compare.{order_of};
 
-use integer::{Int, Ordering};
+use integer::Int;
+use std::cmp::Ordering;
 
 pub fn of(x: i64) -> Int
     ensures v_value { result.v ≡ x }
@@ -19,7 +20,7 @@ pub fn natural(n: u32) -> Int
     ensures v_value { result.v ≡ pos n }
     ensures magnitude { nat_abs result.v ≡ n }
 {
-    Int { v: n as i64 }
+    Int { v: i64::from(n) }
 }
 
 // A 32-bit word as a number, for every word.
@@ -27,7 +28,7 @@ pub fn widen(x: i32) -> Int
     ensures v_value { result.v ≡ x }
     ensures magnitude { nat_abs result.v ≡ nat_abs x }
 {
-    Int { v: x as i64 }
+    Int { v: i64::from(x) }
 }
 
 // Back to a 32-bit word.
@@ -68,7 +69,7 @@ pub fn neg(a: Int) -> Int
     ensures v_value { result.v ≡ ⊝ a.v }
     ensures magnitude { nat_abs result.v ≡ nat_abs a.v }
 {
-    sub(of(0), a)
+    Int { v: -a.v }
 }
 
 pub fn less(a: Int, b: Int) -> bool
@@ -86,13 +87,7 @@ pub fn at_most(a: Int, b: Int) -> bool
 pub fn compare(a: Int, b: Int) -> Ordering
     ensures { result ≡ order_of a.v b.v }
 {
-    if less(a, b) {
-        return Ordering::Less;
-    }
-    if less(b, a) {
-        return Ordering::Greater;
-    }
-    Ordering::Equal
+    a.v.cmp(&b.v)
 }
 
 // Word number i of a slice, as a number.
@@ -101,8 +96,7 @@ pub fn get(s: &[i32], i: usize) -> Int
     ensures v_value { result.v ≡ get_or s.now i (pos 0) }
     ensures magnitude { nat_abs result.v ≤ limit32 }
 {
-    let x = s[i];
-    widen(x)
+    widen(s[i])
 }
 
 // Word number i of a slice set to a number.
@@ -110,8 +104,7 @@ pub fn put(s: &mut [i32], i: usize, a: Int)
     requires { (i < length s.old) × (nat_abs a.v < limit32) }
     ensures { s.new ≡ set s.old i a.v }
 {
-    let x = narrow(a);
-    s[i] = x;
+    s[i] = narrow(a);
 }
 
 // The same of a slice of 64-bit numbers.
@@ -119,14 +112,12 @@ pub fn get_number(s: &[i64], i: usize) -> Int
     requires { i < length s.now }
     ensures { result.v ≡ get_or s.now i (pos 0) }
 {
-    let x = s[i];
-    of(x)
+    of(s[i])
 }
 
 pub fn put_number(s: &mut [i64], i: usize, a: Int)
     requires { i < length s.old }
     ensures { s.new ≡ set s.old i a.v }
 {
-    let x = a.v;
-    s[i] = x;
+    s[i] = a.v;
 }

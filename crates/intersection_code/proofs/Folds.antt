@@ -1,4 +1,5 @@
 -- The parts common to one trapezoid and a layer, and to two layers, as folds.
+use Rattle.std.specs.Prelude.{Option, Result}
 use mathlib.Core.Path.{◌≡◌, refl, sym, ◌∙◌, ap, subst}
 use mathlib.Core.Bool.{false}
 use mathlib.Core.List.{List, [], ◌∷◌, ◌++◌, append-nil}
@@ -11,7 +12,6 @@ use Rattle.records.specs.Records.{record_at, image, count}
 use Rattle.records.proofs.Records.{length_from}
 use Rattle.geometry.specs.declared.Trapezoid.{Trapezoid}
 use Rattle.geometry.specs.Trapezoids.{trapezoid_codec, layer_of}
-use Rattle.geometry.specs.declared.Fill.{Fill}
 use Rattle.sources.specs.Sets.{joined}
 use Rattle.sources.specs.Sourced.{Sourced, sourced_codec, sourced_of, shapes, sources_at, bearing}
 use Rattle.sources.proofs.Sourced.{sourced_at, shapes_of, shapes-length, bearing-length}
@@ -24,11 +24,12 @@ use Rattle.boolean.specs.Space.{Stage, overlaid, enough, space, common_stages, i
 use Rattle.boolean.proofs.Forgetting.{common_forgets}
 use Rattle.boolean.proofs.Shifting.{overlaid_shift, common_shift}
 use Rattle.boolean.proofs.Apart.{common_apart}
+use Rattle.boolean.specs.declared.NoRoom.{NoRoom}
 use Rattle.trapezoids_code.specs.Tails.{FilledBy}
 use Rattle.trapezoids_code.proofs.Writing.{tail}
-use Rattle.remainder_code.specs.Code.{OverlaysWithin}
-use Rattle.remainder_code.proofs.Answers.{once, stages_within, within_least, space_overlaid}
-use Rattle.remainder_code.proofs.Folding.{Fold, Steps, Folding, fold_next, Turned, fill_turn, Part, appending, appending_steps}
+use Rattle.remainder_code.specs.Code.{OverlaysWithin, once}
+use Rattle.remainder_code.proofs.Answers.{stages_within, within_least, space_overlaid}
+use Rattle.remainder_code.proofs.Folding.{Fold, Steps, Folding, fold_next, Turned, fold_turn, fill_turn, Part, appending, appending_steps}
 use Rattle.bearing_code.specs.Code.{SourcedAs}
 use Rattle.bearing_code.proofs.Bearing.{sourced}
 
@@ -92,7 +93,7 @@ common_passed a {W} {room} {goal} {ms} {layer} {out} {k} {overlays} {i} h l e =
 -- a turn that writes the parts common to a and number i, which has this shape and the set z, with both sets joined
 pub common_turn : (a : Sourced) {W room : ℕ} {goal : List Sourced} {ms : List Stage} {layer out : List ℤ} {k overlays i : ℕ} (h : Folding (common_fold a) W room goal ms layer out k overlays i)
     → i < count trapezoid_codec layer → (shape : Trapezoid) → shape ≡ record_at trapezoid_codec layer i → (z : ℤ) → z ≡ sources_at layer i → (y : ℤ) → y ≡ joined a.sources z
-    → (f : Fill) (t : List ℤ) → FilledBy sourced_codec (length (tail out k)) (room - k) (bearing y (tagged 3 (overlay a.shape shape))) f t → Turned h (room - k) (once f) t
+    → (f : Option ℕ) (t : List ℤ) → FilledBy sourced_codec (length (tail out k)) (room - k) (bearing y (tagged 3 (overlay a.shape shape))) f t → Turned h (room - k) (once f) t
 common_turn a {W} {room} {goal} {ms} {layer} {out} {k} {overlays} {i} h l shape s z q y both f t g =
     let b : Sourced = owned shape z in
     let is : b ≡ record_at sourced_codec layer i = (λ j. record { shape = s j; sources = q j }) ∙ sym (sourced_at layer i) in
@@ -105,7 +106,7 @@ unfolding common_stages
 stages-length a k [] = refl
 stages-length a k (b ∷ bs) = let h = stages-length a (k + length (tagged 3 (overlay a b))) bs in omega (arith, h)
 
-pub common_few : (a : Trapezoid) (layer : List ℤ) → count trapezoid_codec layer ≤ max_records → (n room : ℕ) (rs : List Sourced) (f : Folded) (d : List ℤ)
+pub common_few : (a : Trapezoid) (layer : List ℤ) → count trapezoid_codec layer ≤ max_records → (n room : ℕ) (rs : List Sourced) (f : Result Folded NoRoom) (d : List ℤ)
     → SourcedAs n room rs (common_stages 0 a (layer_of layer)) f d → OverlaysWithin max_records f
 common_few a layer l n room rs f d g =
     let ms = common_stages 0 a (layer_of layer) in
@@ -151,3 +152,9 @@ module _ (second : List ℤ) where
       → Part intersection_fold room done a left (room - k) (sourced_common a (sourced_of second)) (common_stages 0 a.shape (layer_of second))
   intersection_part {room} {k} {left} {done} a n l =
       record { next = refl; same = ap (λ (x : ℕ). space room (common_stages x a.shape bs)) (sym n) ∙ common_shift room k (room - k) a.shape bs (omega (arith, l)); within = omega (arith, n, l) }
+
+  -- one turn: `shape` with the set z is number i of the first layer, f answers what it has in common with the second, and t comes back as the tail
+  module _ {W room : ℕ} {goal : List Sourced} {ms : List Stage} {first out : List ℤ} {k overlays i : ℕ} (h : Folding intersection_fold W room goal ms first out k overlays i) (l : i < count trapezoid_codec first) where
+    pub intersection_turn : (shape : Trapezoid) → shape ≡ record_at trapezoid_codec first i → (z : ℤ) → z ≡ sources_at first i → (f : Result Folded NoRoom) (t : List ℤ)
+        → SourcedAs (length (tail out k)) (room - k) (sourced_common (owned shape z) (sourced_of second)) (common_stages 0 shape (layer_of second)) f t → Turned h (room - k) f t
+    intersection_turn shape s z q f t g = fold_turn h l (owned shape z) ((λ j. record { shape = s j; sources = q j }) ∙ sym (sourced_at first i)) (intersection_part (owned shape z) h.size h.within) f t g

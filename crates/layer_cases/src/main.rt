@@ -8,13 +8,24 @@ ghost use Rattle.std.specs.Prelude.{◌≡◌, length};
 use calls::{Combined, Connected, Deoverlapped, Equality};
 use std::io;
 
+fn show_combined(rt: &impl Print, answer: Combined) -> io::Result<()> {
+    match answer {
+        Combined::Refused { number, place } => case_parts::refused(rt, number, place),
+        Combined::Done { pieces, overlays } => case_parts::done(rt, pieces, overlays),
+    }
+}
+
+fn show_deoverlapped(rt: &impl Print, answer: Deoverlapped) -> io::Result<()> {
+    match answer {
+        Deoverlapped::Refused { number, place } => case_parts::refused(rt, number, place),
+        Deoverlapped::Done { pieces, overlays } => case_parts::done(rt, pieces, overlays),
+    }
+}
+
 fn combine(rt: &impl Print, code: u32, a: &[i32], b: &[i32]) -> io::Result<()> {
     let mut out = [7i32; records::MAX_WORDS];
     let mut scratch = [7i32; records::MAX_WORDS];
-    match loxurfa::combine(code, a, b, &mut out, &mut scratch) {
-        Combined::Refused { number, place } => case_parts::refused(rt, number, place)?,
-        Combined::Done { pieces, overlays } => case_parts::done(rt, pieces, overlays)?,
-    }
+    show_combined(rt, loxurfa::combine(code, a, b, &mut out, &mut scratch))?;
     case_parts::show_states(rt, &out, &scratch)
 }
 
@@ -40,10 +51,7 @@ fn combines(rt: &impl Print, a: &[i32], b: &[i32], more: &[i32], none: &[i32]) -
 fn deoverlap(rt: &impl Print, a: &[i32]) -> io::Result<()> {
     let mut out = [7i32; records::MAX_WORDS];
     let mut scratch = [7i32; records::MAX_WORDS];
-    match loxurfa::deoverlap(a, &mut out, &mut scratch) {
-        Deoverlapped::Refused { number, place } => case_parts::refused(rt, number, place)?,
-        Deoverlapped::Done { pieces, overlays } => case_parts::done(rt, pieces, overlays)?,
-    }
+    show_deoverlapped(rt, loxurfa::deoverlap(a, &mut out, &mut scratch))?;
     case_parts::show_states(rt, &out, &scratch)
 }
 
@@ -106,20 +114,14 @@ fn component_counts(rt: &impl Print, a: &[i32], more: &[i32]) -> io::Result<()> 
 fn combine_sources(rt: &impl Print, code: u32, a: &[i32], b: &[i32]) -> io::Result<()> {
     let mut out = [7i32; records::MEMORY_WIDTH];
     let mut scratch = [7i32; records::MEMORY_WIDTH];
-    match loxurfa::combine(code, a, b, &mut out, &mut scratch) {
-        Combined::Refused { number, place } => case_parts::refused(rt, number, place)?,
-        Combined::Done { pieces, overlays } => case_parts::done(rt, pieces, overlays)?,
-    }
+    show_combined(rt, loxurfa::combine(code, a, b, &mut out, &mut scratch))?;
     case_parts::show_sources(rt, out[records::FILE_WIDTH])
 }
 
 fn deoverlap_sources(rt: &impl Print, a: &[i32]) -> io::Result<()> {
     let mut out = [7i32; records::MEMORY_WIDTH];
     let mut scratch = [7i32; records::MEMORY_WIDTH];
-    match loxurfa::deoverlap(a, &mut out, &mut scratch) {
-        Deoverlapped::Refused { number, place } => case_parts::refused(rt, number, place)?,
-        Deoverlapped::Done { pieces, overlays } => case_parts::done(rt, pieces, overlays)?,
-    }
+    show_deoverlapped(rt, loxurfa::deoverlap(a, &mut out, &mut scratch))?;
     case_parts::show_sources(rt, out[records::FILE_WIDTH])
 }
 

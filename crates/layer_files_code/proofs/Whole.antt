@@ -24,17 +24,17 @@ use Rattle.files.proofs.Right.{right, file_body}
 use Rattle.files.proofs.Bounds.{units_are}
 use Rattle.files.proofs.Widths.{memory_is, memory_length, written_is, written-length}
 
--- ---- sizes: n pairs and so many trapezoids
-pub record FileSizes (bs : List ℕ) (n : ℕ) : Type 0 where
+-- ---- sizes: the k words up to the body, and so many trapezoids
+pub record FileSizes (bs : List ℕ) (k : ℕ) : Type 0 where
   pub total : ℕ
-  pub few : n ≤ 16
+  pub few : k ≤ 33
   pub small : total ≤ max_records
-  pub words : length bs / 4 ≡ 2 * n + 1 + file_width * total
+  pub words : length bs / 4 ≡ k + file_width * total
   pub units : length (units_of file_codec (file_words bs)) ≡ total
-  pub memory : length (memory_words (file_words bs)) ≡ 2 * n + 1 + memory_width * total
+  pub memory : length (memory_words (file_words bs)) ≡ k + memory_width * total
 
-pub file_sizes : (bs : List ℕ) → HasPairs layer_file (file_words bs) (count_in (file_words bs)) → {n : ℕ} → n ≡ count_in (file_words bs) → FileSizes bs n
-file_sizes bs h {n} e =
+pub file_sizes : (bs : List ℕ) → HasPairs layer_file (file_words bs) (count_in (file_words bs)) → {k : ℕ} → k ≡ 2 * count_in (file_words bs) + 1 → FileSizes bs k
+file_sizes bs h {k} e =
     let r = right layer_file (file_words bs) h.is in
     record {
       total = h.total;
@@ -46,16 +46,16 @@ file_sizes bs h {n} e =
     }
 
 -- the same of words in memory
-pub record WordSizes (ws : List ℤ) (n : ℕ) : Type 0 where
+pub record WordSizes (ws : List ℤ) (k : ℕ) : Type 0 where
   pub total : ℕ
-  pub few : n ≤ 16
+  pub few : k ≤ 33
   pub small : total ≤ max_records
-  pub words : length ws ≡ 2 * n + 1 + memory_width * total
+  pub words : length ws ≡ k + memory_width * total
   pub units : length (units_of trapezoid_codec ws) ≡ total
-  pub written : length (written_words ws) ≡ 2 * n + 1 + file_width * total
+  pub written : length (written_words ws) ≡ k + file_width * total
 
-pub word_sizes : (ws : List ℤ) → HasPairs layer_words ws (count_in ws) → {n : ℕ} → n ≡ count_in ws → WordSizes ws n
-word_sizes ws h {n} e =
+pub word_sizes : (ws : List ℤ) → HasPairs layer_words ws (count_in ws) → {k : ℕ} → k ≡ 2 * count_in ws + 1 → WordSizes ws k
+word_sizes ws h {k} e =
     let r = right layer_words ws h.is in
     record {
       total = h.total;
@@ -78,31 +78,38 @@ module _ {A : Type 0} (k m : ℕ) (head body out d t : List A) (l : length head 
       let b : t ≡ body ++ drop (k + m) out = q ∙ ap (λ (s : List A). body ++ drop m s) past ∙ ap (λ (s : List A). body ++ s) (drop-drop m k out) in
       put_tail k d t long ∙ (λ j. a j ++ b j) ∙ sym (append_assoc head body (drop (k + m) out))
 
+-- ---- the words up to the body, loaded to the front
+module _ (ws out x : List ℤ) (k : ℕ) (l : k ≤ length out) where
+  pub front_long : length x ≡ length (take k out) → length (x ++ drop k out) ≡ length out
+  front_long e = omega (arith, e, length-append x (drop k out), length-take-le k out l, length-drop k out)
+
+  pub front_loaded : x ≡ take (length (take k out)) ws → x ++ drop k out ≡ take k ws ++ drop k out
+  front_loaded e = ap (λ (y : List ℤ). y ++ drop k out) (e ∙ ap (λ (n : ℕ). take n ws) (length-take-le k out l))
+
 -- the words of a layer file in memory
-module _ (bs : List ℕ) (h : HasPairs layer_file (file_words bs) (count_in (file_words bs))) {n : ℕ} (e : n ≡ count_in (file_words bs)) where
-  head_file : take (2 * n + 1) (file_words bs) ≡ head_of (file_words bs)
-  head_file = ap (λ (k : ℕ). take (2 * k + 1) (file_words bs)) e
+module _ (bs : List ℕ) (h : HasPairs layer_file (file_words bs) (count_in (file_words bs))) {k : ℕ} (e : k ≡ 2 * count_in (file_words bs) + 1) where
+  head_file : take k (file_words bs) ≡ head_of (file_words bs)
+  head_file = ap (λ (j : ℕ). take j (file_words bs)) e
 
-  body_file : file_words (mid_of (4 * (2 * n + 1)) (length bs - 4 * (2 * n + 1)) bs) ≡ body_of (file_words bs)
-  body_file = ap (λ (k : ℕ). file_words (mid_of (4 * (2 * k + 1)) (length bs - 4 * (2 * k + 1)) bs)) e ∙ file_body bs (right layer_file (file_words bs) h.is)
+  body_file : file_words (mid_of (4 * k) (length bs - 4 * k) bs) ≡ body_of (file_words bs)
+  body_file = ap (λ (j : ℕ). file_words (mid_of (4 * j) (length bs - 4 * j) bs)) e ∙ file_body bs (right layer_file (file_words bs) h.is)
 
-  body_count : length (mid_of (4 * (2 * n + 1)) (length bs - 4 * (2 * n + 1)) bs) / 4 / file_width ≡ (file_sizes bs h e).total
+  body_count : length (mid_of (4 * k) (length bs - 4 * k) bs) / 4 / file_width ≡ (file_sizes bs h e).total
   body_count =
       let z = file_sizes bs h e in
-      let l = length-drop (4 * (2 * n + 1)) bs in
-      let w : length (drop (4 * (2 * n + 1)) bs) / 4 ≡ file_width * z.total = omega (arith, l, z.words) in
-      ap (λ (s : List ℕ). length s / 4 / file_width) (mid_tail (4 * (2 * n + 1)) bs) ∙ ap (λ (k : ℕ). k / file_width) w ∙ mul-div_cancel_left z.total (omega arith)
+      let l = length-drop (4 * k) bs in
+      let w : length (drop (4 * k) bs) / 4 ≡ file_width * z.total = omega (arith, l, z.words) in
+      ap (λ (s : List ℕ). length s / 4 / file_width) (mid_tail (4 * k) bs) ∙ ap (λ (k : ℕ). k / file_width) w ∙ mul-div_cancel_left z.total (omega arith)
 
   pub decode_room : (out d : List ℤ) → length (memory_words (file_words bs)) ≤ length out → length d ≡ length out
-      → memory_width * (length (mid_of (4 * (2 * n + 1)) (length bs - 4 * (2 * n + 1)) bs) / 4 / file_width) ≤ length (mid_of (2 * n + 1) (length d - (2 * n + 1)) d)
-  decode_room out d room l = omega (arith, body_count, (file_sizes bs h e).memory, room, l, ap length (mid_tail (2 * n + 1) d), length-drop (2 * n + 1) d)
+      → memory_width * (length (mid_of (4 * k) (length bs - 4 * k) bs) / 4 / file_width) ≤ length (mid_of k (length d - k) d)
+  decode_room out d room l = omega (arith, body_count, (file_sizes bs h e).memory, room, l, ap length (mid_tail k d), length-drop k d)
 
-  pub decoded : (out d t : List ℤ) → length (memory_words (file_words bs)) ≤ length out → d ≡ take (2 * n + 1) (file_words bs) ++ drop (2 * n + 1) out
-      → t ≡ words_of trapezoid_codec (records file_codec (file_words (mid_of (4 * (2 * n + 1)) (length bs - 4 * (2 * n + 1)) bs)))
-      ++ drop (memory_width * (length (mid_of (4 * (2 * n + 1)) (length bs - 4 * (2 * n + 1)) bs) / 4 / file_width)) (mid_of (2 * n + 1) (length d - (2 * n + 1)) d)
-      → put_mid (2 * n + 1) (length d - (2 * n + 1)) d t ≡ memory_words (file_words bs) ++ drop (length (memory_words (file_words bs))) out
+  pub decoded : (out d t : List ℤ) → length (memory_words (file_words bs)) ≤ length out → d ≡ take k (file_words bs) ++ drop k out
+      → t ≡ words_of trapezoid_codec (records file_codec (file_words (mid_of (4 * k) (length bs - 4 * k) bs)))
+      ++ drop (memory_width * (length (mid_of (4 * k) (length bs - 4 * k) bs) / 4 / file_width)) (mid_of k (length d - k) d)
+      → put_mid k (length d - k) d t ≡ memory_words (file_words bs) ++ drop (length (memory_words (file_words bs))) out
   decoded out d t room p q =
-      let k = 2 * n + 1 in
       let z = file_sizes bs h e in
       let c = body_count in
       let m = memory_width * (length (mid_of (4 * k) (length bs - 4 * k) bs) / 4 / file_width) in
@@ -114,38 +121,37 @@ module _ (bs : List ℕ) (h : HasPairs layer_file (file_words bs) (count_in (fil
       put_together k m head body out d t l (omega (arith, z.memory, room)) p q ∙ (λ j. is j ++ drop (long j) out)
 
 -- the bytes of a layer file's words
-module _ (ws : List ℤ) (h : HasPairs layer_words ws (count_in ws)) {n : ℕ} (e : n ≡ count_in ws) where
-  rest_count : length (mid_of (2 * n + 1) (length ws - (2 * n + 1)) ws) / memory_width ≡ (word_sizes ws h e).total
+module _ (ws : List ℤ) (h : HasPairs layer_words ws (count_in ws)) {k : ℕ} (e : k ≡ 2 * count_in ws + 1) where
+  rest_count : length (mid_of k (length ws - k) ws) / memory_width ≡ (word_sizes ws h e).total
   rest_count =
       let z = word_sizes ws h e in
-      let w : length (drop (2 * n + 1) ws) ≡ memory_width * z.total = omega (arith, length-drop (2 * n + 1) ws, z.words) in
-      ap (λ (s : List ℤ). length s / memory_width) (mid_tail (2 * n + 1) ws) ∙ ap (λ (k : ℕ). k / memory_width) w ∙ mul-div_cancel_left z.total (omega arith)
+      let w : length (drop k ws) ≡ memory_width * z.total = omega (arith, length-drop k ws, z.words) in
+      ap (λ (s : List ℤ). length s / memory_width) (mid_tail k ws) ∙ ap (λ (k : ℕ). k / memory_width) w ∙ mul-div_cancel_left z.total (omega arith)
 
-  pub head_long : length (take (2 * n + 1) ws) ≡ 2 * n + 1
-  head_long = length-take-le (2 * n + 1) ws (omega (arith, (word_sizes ws h e).words))
+  pub head_long : length (take k ws) ≡ k
+  head_long = length-take-le k ws (omega (arith, (word_sizes ws h e).words))
 
   pub encode_room : (out d : List ℕ) → 4 * length (written_words ws) ≤ length out → length d ≡ length out
-      → 4 * (file_width * (length (mid_of (2 * n + 1) (length ws - (2 * n + 1)) ws) / memory_width)) ≤ length (mid_of (4 * (2 * n + 1)) (length d - 4 * (2 * n + 1)) d)
-  encode_room out d room l = omega (arith, rest_count, (word_sizes ws h e).written, room, l, ap length (mid_tail (4 * (2 * n + 1)) d), length-drop (4 * (2 * n + 1)) d)
+      → 4 * (file_width * (length (mid_of k (length ws - k) ws) / memory_width)) ≤ length (mid_of (4 * k) (length d - 4 * k) d)
+  encode_room out d room l = omega (arith, rest_count, (word_sizes ws h e).written, room, l, ap length (mid_tail (4 * k) d), length-drop (4 * k) d)
 
-  pub encoded : (out d t : List ℕ) → 4 * length (written_words ws) ≤ length out → d ≡ words_of word_codec (take (2 * n + 1) ws) ++ drop (4 * length (take (2 * n + 1) ws)) out
-      → t ≡ words_of word_codec (words_of file_codec (layer_of (mid_of (2 * n + 1) (length ws - (2 * n + 1)) ws)))
-      ++ drop (4 * (file_width * (length (mid_of (2 * n + 1) (length ws - (2 * n + 1)) ws) / memory_width))) (mid_of (4 * (2 * n + 1)) (length d - 4 * (2 * n + 1)) d)
-      → put_mid (4 * (2 * n + 1)) (length d - 4 * (2 * n + 1)) d t ≡ words_of word_codec (written_words ws) ++ drop (4 * length (written_words ws)) out
+  pub encoded : (out d t : List ℕ) → 4 * length (written_words ws) ≤ length out → d ≡ words_of word_codec (take k ws) ++ drop (4 * length (take k ws)) out
+      → t ≡ words_of word_codec (words_of file_codec (layer_of (mid_of k (length ws - k) ws)))
+      ++ drop (4 * (file_width * (length (mid_of k (length ws - k) ws) / memory_width))) (mid_of (4 * k) (length d - 4 * k) d)
+      → put_mid (4 * k) (length d - 4 * k) d t ≡ words_of word_codec (written_words ws) ++ drop (4 * length (written_words ws)) out
   encoded out d t room p q =
-      let k = 4 * (2 * n + 1) in
       let z = word_sizes ws h e in
       let c = rest_count in
-      let rest = mid_of (2 * n + 1) (length ws - (2 * n + 1)) ws in
+      let rest = mid_of k (length ws - k) ws in
       let m = 4 * (file_width * (length rest / memory_width)) in
-      let head = words_of word_codec (take (2 * n + 1) ws) in
+      let head = words_of word_codec (take k ws) in
       let body = words_of word_codec (words_of file_codec (layer_of rest)) in
-      let u : 4 * length (take (2 * n + 1) ws) ≡ k = omega (arith, head_long) in
-      let l : length head ≡ k = length_words word_codec words_faithful.readable (take (2 * n + 1) ws) ∙ u in
-      let b : rest ≡ body_of ws = mid_tail (2 * n + 1) ws ∙ ap (λ (k : ℕ). drop (2 * k + 1) ws) e in
-      let a : take (2 * n + 1) ws ≡ head_of ws = ap (λ (k : ℕ). take (2 * k + 1) ws) e in
+      let u : 4 * length (take k ws) ≡ 4 * k = omega (arith, head_long) in
+      let l : length head ≡ 4 * k = length_words word_codec words_faithful.readable (take k ws) ∙ u in
+      let b : rest ≡ body_of ws = mid_tail k ws ∙ ap (λ (j : ℕ). drop j ws) e in
+      let a : take k ws ≡ head_of ws = ap (λ (j : ℕ). take j ws) e in
       let is : head ++ body ≡ words_of word_codec (written_words ws)
-      = sym (words_append word_codec (take (2 * n + 1) ws) (words_of file_codec (layer_of rest)))
+      = sym (words_append word_codec (take k ws) (words_of file_codec (layer_of rest)))
       ∙ (λ j. words_of word_codec (a j ++ words_of file_codec (layer_of (b j)))) ∙ ap (words_of word_codec) (sym (written_is ws)) in
-      let long : k + m ≡ 4 * length (written_words ws) = omega (arith, z.written, c) in
-      put_together k m head body out d t l (omega (arith, z.written, room)) (p ∙ ap (λ (i : ℕ). head ++ drop i out) u) q ∙ (λ j. is j ++ drop (long j) out)
+      let long : 4 * k + m ≡ 4 * length (written_words ws) = omega (arith, z.written, c) in
+      put_together (4 * k) m head body out d t l (omega (arith, z.written, room)) (p ∙ ap (λ (i : ℕ). head ++ drop i out) u) q ∙ (λ j. is j ++ drop (long j) out)

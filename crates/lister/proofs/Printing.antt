@@ -6,8 +6,6 @@ use native.Mathlib.Omega.{arith}
 use lib.IntN.{ℤ}
 use lib.ListN.{length, take, drop, length-append}
 use Rattle.records.specs.Limits.{memory_width, max_words}
-use Rattle.geometry.specs.declared.Checked.{Checked}
-use Rattle.geometry.specs.declared.Checked.TheVariants.{Passed, Refused}
 use Rattle.geometry.specs.Trapezoids.{layer_of}
 use Rattle.sources.specs.Sets.{single}
 use Rattle.sources.specs.Sourced.{Sourced, sourced_of, bearing}
@@ -26,6 +24,8 @@ use Rattle.listing.specs.Listing.{listing, refusal_line}
 use Rattle.listing.specs.Lister.{blank, printed_as, deoverlap_listed, listed_as, listed_by, listed}
 use Rattle.listing.proofs.Blank.{blank-length}
 use Rattle.lister.specs.Code.{Put}
+use Rattle.std.specs.Prelude.{Result, Ok, Err}
+use Rattle.geometry.specs.declared.Refusal.{Refusal}
 
 -- the same text, put into a buffer
 pub put_as : {s t : List ℕ} (d : List ℕ) (r : ℕ) (e : List ℕ) → s ≡ t → Put s d r e → Put t d r e
@@ -36,16 +36,16 @@ put_within t d r e (l, h) = omega (arith, l, ap length h, length-append t (drop 
 
 -- ---- a layer deoverlapped
 module _ (rs : List Sourced) (ms : List Stage) where
-  printed_outcome : (c : Checked) (out scratch : List ℤ) → length out ≡ max_words
+  printed_outcome : (c : Result (Unit {0}) Refusal) (out scratch : List ℤ) → length out ≡ max_words
       → printed_as (outcome c out scratch rs ms).answer (outcome c out scratch rs ms).out ≡ printed_as (outcome c blank blank rs ms).answer (outcome c blank blank rs ms).out
-  printed_outcome (Refused number place) out scratch e = refl
-  printed_outcome Passed out scratch e =
+  printed_outcome (Err refusal) out scratch e = refl
+  printed_outcome (Ok u) out scratch e =
       ap (λ (n : ℕ). printed_as (written n rs (space (n / memory_width) ms)).answer (written n rs (space (n / memory_width) ms)).out) (e ∙ sym blank-length)
 
-  listed_outcome : (c : Checked) (out scratch : List ℤ) → length out ≡ max_words
+  listed_outcome : (c : Result (Unit {0}) Refusal) (out scratch : List ℤ) → length out ≡ max_words
       → listed_as (outcome c out scratch rs ms).answer (outcome c out scratch rs ms).out ≡ listed_as (outcome c blank blank rs ms).answer (outcome c blank blank rs ms).out
-  listed_outcome (Refused number place) out scratch e = refl
-  listed_outcome Passed out scratch e =
+  listed_outcome (Err refusal) out scratch e = refl
+  listed_outcome (Ok u) out scratch e =
       ap (λ (n : ℕ). listed_as (written n rs (space (n / memory_width) ms)).answer (written n rs (space (n / memory_width) ms)).out) (e ∙ sym blank-length)
 
 module _ (a out scratch : List ℤ) (m : length out ≡ max_words) (n : length scratch ≡ max_words) where
@@ -59,7 +59,7 @@ module _ (a out scratch : List ℤ) (m : length out ≡ max_words) (n : length s
       let rs = sourced_deoverlapped (sourced_of a) in
       let ms = deoverlapped_stages [] (layer_of a) in
       printed_outcome rs ms (deoverlap_checked plate_limit a (length out) (length scratch)) out scratch m
-      ∙ ap (λ (c : Checked). printed_as (outcome c blank blank rs ms).answer (outcome c blank blank rs ms).out) checked_blank
+      ∙ ap (λ (c : Result (Unit {0}) Refusal). printed_as (outcome c blank blank rs ms).answer (outcome c blank blank rs ms).out) checked_blank
 
   module _ (answer : Deoverlapped) (o s : List ℤ) (e : observed (deoverlapped_answer answer) o s ≡ deoverlap_outcome plate_limit a out scratch) where
     answered : printed_as (deoverlapped_answer answer) o ≡ deoverlap_listed a
@@ -84,7 +84,7 @@ module _ (file : List ℕ) (out scratch : List ℤ) (m : length out ≡ max_word
       let rs = bearing (single 0) ts in
       let ms = addition (length ts) ∷ [] in
       listed_outcome rs ms (fracture_checked New plate_limit 0 file (length out) (length scratch)) out scratch m
-      ∙ ap (λ (c : Checked). listed_as (outcome c blank blank rs ms).answer (outcome c blank blank rs ms).out) fracture_blank
+      ∙ ap (λ (c : Result (Unit {0}) Refusal). listed_as (outcome c blank blank rs ms).answer (outcome c blank blank rs ms).out) fracture_blank
 
   module _ (answer : Fractured) (o s : List ℤ) (e : observed (fractured_answer answer) o s ≡ fracture_outcome New plate_limit 0 file out scratch) where
     fractured_answer_lem : listed_as (fractured_answer answer) o ≡ listed file

@@ -21,14 +21,9 @@ fn list_layer(layer: &[i32], out: &mut [i32], scratch: &mut [i32], text: &mut [u
     requires { (length out.old ≡ max_words) × (length scratch.old ≡ max_words) × (listing_room ≤ length text.old) }
     ensures { Put (deoverlap_listed layer.now) text.old result text.new }
 {
-    let d = loxurfa::deoverlap(layer, out, scratch);
-    match d {
-        Deoverlapped::Refused { number, place } => {
-            return listing_code::refuse_into(number, place, text);
-        }
-        Deoverlapped::Done { pieces, overlays } => {
-            return listing_code::list_into(out, pieces, text);
-        }
+    match loxurfa::deoverlap(layer, out, scratch) {
+        Deoverlapped::Refused { number, place } => listing_code::refuse_into(number, place, text),
+        Deoverlapped::Done { pieces, .. } => listing_code::list_into(out, pieces, text),
     }
 }
 
@@ -43,14 +38,11 @@ fn list_file(
     requires { (length first.old ≡ max_words) × (length out.old ≡ max_words) × (length scratch.old ≡ max_words) × (listing_room ≤ length text.old) }
     ensures { Put (listed file.now) text.old result text.new }
 {
-    let f = loxurfa_files::fracture(0, file, first, scratch);
-    match f {
-        Fractured::Refused { number, place } => {
-            return listing_code::refuse_into(number, place, text);
-        }
-        Fractured::Done { pieces, overlays } => {
+    match loxurfa_files::fracture(0, file, first, scratch) {
+        Fractured::Refused { number, place } => listing_code::refuse_into(number, place, text),
+        Fractured::Done { pieces, .. } => {
             let end = records::MEMORY_WIDTH * pieces;
-            return list_layer(&first[..end], out, scratch, text);
+            list_layer(&first[..end], out, scratch, text)
         }
     }
 }

@@ -17,8 +17,6 @@ use Rattle.records.specs.Limits.{memory_width, sized}
 use Rattle.records.specs.Records.{records_from, image, words_of}
 use Rattle.records.proofs.Records.{length_words}
 use Rattle.records.proofs.Buffer.{image_records}
-use Rattle.geometry.specs.declared.Checked.{Checked}
-use Rattle.geometry.specs.declared.Checked.TheVariants.{Passed, Refused}
 use Rattle.geometry.specs.Points.{Point, IsPoint}
 use Rattle.geometry.specs.Trapezoids.{trapezoid_codec, layer_of, LiesInLayer}
 use Rattle.sources.specs.Sets.{is_source_layer, single}
@@ -47,6 +45,9 @@ use Rattle.listing.specs.Lister.{blank, printed_as, deoverlap_listed, listed_as,
 use Rattle.listing.specs.Listed.{Lists, Printed, lists, refuses, ListedExact, ListedByStart, ListedAsBefore}
 use Rattle.listing.proofs.Layers.{layer-listed}
 use Rattle.listing.proofs.Blank.{blank-length}
+use Rattle.std.specs.Prelude.{Result, Ok, Err}
+use Rattle.geometry.specs.declared.Refusal.{Refusal}
+use Rattle.geometry.specs.Refusals.{refused_by}
 
 -- ---- the text of a success lists the trapezoids written, without their sets
 module _ (n : ℕ) (rs : List Sourced) where
@@ -66,10 +67,10 @@ written_listed : (n : ℕ) (rs : List Sourced) (s : Space) → T (is_done (writt
 written_listed n rs (enough cuts) h = image_listed n rs
 written_listed n rs (no_room cuts) h = absurd h
 
-outcome-listed : (c : Checked) (rs : List Sourced) (ms : List Stage) → T (is_done (outcome c blank blank rs ms).answer)
+outcome-listed : (c : Result (Unit {0}) Refusal) (rs : List Sourced) (ms : List Stage) → T (is_done (outcome c blank blank rs ms).answer)
     → printed_as (outcome c blank blank rs ms).answer (outcome c blank blank rs ms).out ≡ layer_listing (shapes rs)
-outcome-listed Passed rs ms h = written_listed (length blank) rs (space (room_of blank) ms) h
-outcome-listed (Refused number place) rs ms h = absurd h
+outcome-listed (Ok u) rs ms h = written_listed (length blank) rs (space (room_of blank) ms) h
+outcome-listed (Err refusal) rs ms h = absurd h
 
 layer-listing : (a : List ℤ) → T (is_done (deoverlap_outcome plate_limit a blank blank).answer) → deoverlap_listed a ≡ layer_listing (deoverlapped (layer_of a))
 unfolding deoverlap_listed deoverlap_outcome
@@ -129,7 +130,7 @@ blank-sized : buffers_sized (length blank) (length blank) ≡ true
 unfolding sized
 blank-sized = ap (λ (n : ℕ). buffers_sized n n) blank-length
 
-long_checked : (file : List ℕ) → 65532 < length file → fracture_checked New plate_limit 0 file (length blank) (length blank) ≡ Refused 4 0
+long_checked : (file : List ℕ) → 65532 < length file → fracture_checked New plate_limit 0 file (length blank) (length blank) ≡ refused_by 4 0
 unfolding fracture_checked polygon_file_checked
 long_checked file l =
     let below = directory_rows (directory_of (polygon_file New) (file_words file)) (first_off_grid plate_limit 0 (polygons_of New (file_words file))) in
@@ -141,7 +142,7 @@ long_listed file l =
     let ts = fractured_of New plate_limit file in
     let rs = bearing (single 0) ts in
     let ms = addition (length ts) ∷ [] in
-    ap (λ (c : Checked). listed_as (outcome c blank blank rs ms).answer (outcome c blank blank rs ms).out) (long_checked file l)
+    ap (λ (c : Result (Unit {0}) Refusal). listed_as (outcome c blank blank rs ms).answer (outcome c blank blank rs ms).out) (long_checked file l)
 
 start_listed : (k : ℕ) (file : List ℕ) → 65532 < k → (b : Bool) → leb (length file) k ≡ b → listed (take k file) ≡ listed file
 start_listed k file l true e = ap listed (take_all k file (leb-true (length file) k e))

@@ -1,5 +1,4 @@
 pub mod Writing
-pub mod Spelling
-pub mod Signs
+pub mod Numbers
 pub mod Texts
 pub mod Sizes

@@ -1,9 +1,10 @@
 -- How long the texts can be.
-use mathlib.Core.Path.{◌≡◌, subst}
+use mathlib.Core.Path.{◌≡◌}
 use mathlib.Core.List.{List, [], ◌∷◌, ◌++◌}
 use Prim.Native.Nat.{ℕ, suc, ◌+◌, ◌<◌, ◌≤◌}
 use native.Mathlib.Omega.{arith}
-use lib.IntN.{ℤ, pos, negsuc, nat_abs}
+use lib.IntN.{ℤ, pos, negsuc}
+use lib.Signed.{mag}
 use lib.ListN.{length, get_or, length-append}
 use lib.Seq.{slice}
 use Rattle.records.specs.Limits.{max_records}
@@ -11,16 +12,15 @@ use Rattle.listing.specs.Listing.{decimal, decimal_word, separator, field, numbe
 use Rattle.listing.proofs.Decimal.{length_most}
 
 -- "-2147483648"
-pub word_length : (a : ℤ) → nat_abs a ≤ 2147483648 → length (decimal_word a) ≤ 11
+pub word_length : (a : ℤ) → mag a < 2147483648 → length (decimal_word a) ≤ 11
 unfolding decimal_word
 word_length (pos n) l = omega (arith, length_most 9 n (omega arith))
 word_length (negsuc n) l = omega (arith, length_most 9 (suc n) (omega arith))
 
-pub field-length : (s : List ℤ) (j end : ℕ) (a : ℤ) → a ≡ get_or s j (pos 0) → nat_abs a ≤ 2147483648 → length (field s j end) ≤ field_room
+pub field-length : (s : List ℤ) (j end : ℕ) → mag (get_or s j (pos 0)) < 2147483648 → length (field s j end) ≤ field_room
 unfolding field
-field-length s j end a e l =
-    let k : length (decimal_word (get_or s j (pos 0))) ≤ 11 = word_length (get_or s j (pos 0)) (subst (λ (x : ℤ). nat_abs x ≤ 2147483648) e l) in
-    omega (arith, length-append (decimal_word (get_or s j (pos 0))) (separator (slice (j + 1) end s) ∷ []))
+field-length s j end l =
+    omega (arith, word_length (get_or s j (pos 0)) l, length-append (decimal_word (get_or s j (pos 0))) (separator (slice (j + 1) end s) ∷ []))
 
 numbered-length : (t : List ℕ) (n : ℕ) → length (numbered t n) ≡ length t + length (decimal n)
 unfolding numbered

@@ -7,7 +7,7 @@ use native.Mathlib.Numerals.{add-one}
 use native.Mathlib.Omega.{arith}
 use lib.ListN.{length, get_or, drop, length-append}
 use lib.IntN.{ℤ, pos}
-use lib.Seq.{drop-cons, slice, slice-cons, slice_empty, length-slice}
+use lib.Seq.{slice, slice-cons, slice_empty, length-slice}
 use Rattle.listing.specs.Listing.{with_text, Room, Wrote, decimal_word, separator, field, words_line, record_line, lines_from, decimal, numbered, head_line, listing}
 use Rattle.listing_code.proofs.Writing.{written_nothing, written_append, written-length}
 
@@ -66,14 +66,10 @@ room_last h = omega (arith, h.going.total, h.going.long, h.room)
 pub complete : {d₀ d whole rest e : List ℕ} {at p q : ℕ} → Writing d₀ at whole d p rest → Wrote d p rest q e → Wrote d₀ at whole q e
 complete h w = at_last h.going w
 
--- ---- byte by byte
-pub next_byte : (t : List ℕ) (i : ℕ) → i < length t → drop i t ≡ (get_or t i 0 ∷ []) ++ drop (i + 1) t
-next_byte t i l = rw (add-one) (drop-cons t i 0 l)
-
 -- ---- word by word
-pub field_is : (s : List ℤ) (j end : ℕ) (a : ℤ) (b : ℕ) → a ≡ get_or s j (pos 0) → separator (slice (j + 1) end s) ≡ b → field s j end ≡ decimal_word a ++ (b ∷ [])
+pub field_is : (s : List ℤ) (j end : ℕ) (t : List ℕ) → t ≡ separator (slice (j + 1) end s) ∷ [] → field s j end ≡ decimal_word (get_or s j (pos 0)) ++ t
 unfolding field
-field_is s j end a b e f = ap (λ (x : ℤ). decimal_word x ++ (separator (slice (j + 1) end s) ∷ [])) (sym e) ∙ ap (λ (x : ℕ). decimal_word a ++ (x ∷ [])) f
+field_is s j end t e = ap (λ (x : List ℕ). decimal_word (get_or s j (pos 0)) ++ x) (sym e)
 
 line_cons : (w : ℤ) (ws : List ℤ) → words_line (w ∷ ws) ≡ decimal_word w ++ (separator ws ∷ []) ++ words_line ws
 unfolding words_line

@@ -1,12 +1,12 @@
 -- Laws of a text written into a buffer.
-use mathlib.Core.Path.{◌≡◌, sym, ap, ◌∙◌}
-use mathlib.Core.List.{List, [], ◌∷◌, ◌++◌, append_assoc}
-use Prim.Native.Nat.{ℕ, suc, ◌+◌, ◌-◌, ◌<◌, ◌≤◌}
+use mathlib.Core.Path.{◌≡◌, refl, sym, ap, ◌∙◌}
+use mathlib.Core.List.{List, [], ◌++◌, append_assoc}
+use Prim.Native.Nat.{ℕ, ◌+◌, ◌-◌, ◌≤◌}
 use native.Mathlib.Nat.{add-zero}
-use native.Mathlib.Numerals.{add-one}
 use native.Mathlib.Omega.{arith}
-use lib.ListN.{length, set, take, drop, length-append, length-drop, take-append-drop}
-use lib.Seq.{length-take-le, take_at, drop_at, set_split, take-set-le, drop-drop}
+use lib.ListN.{length, take, drop, length-append, length-drop, take-append-drop}
+use lib.Seq.{length-take-le, take_at, drop_at, drop-drop}
+use borrow.Rule.Slice.PartMut.{put_mid}
 use Rattle.listing.specs.Listing.{with_text}
 
 -- nothing written
@@ -14,10 +14,12 @@ pub written_nothing : (d : List ℕ) (at : ℕ) → with_text d at [] ≡ d
 unfolding with_text
 written_nothing d at = rw (add-zero) (take-append-drop at d)
 
--- one byte
-pub written_byte : (d : List ℕ) (at b : ℕ) → at < length d → set d at b ≡ with_text d at (b ∷ [])
+-- one text, as a part of the buffer
+pub written_part : (d s t : List ℕ) (at : ℕ) → s ≡ t → put_mid at (at + length t - at) d s ≡ with_text d at t
 unfolding with_text
-written_byte d at b l = rw (add-one) (set_split d at b l)
+written_part d s t at e =
+    let k : at + length t - at ≡ length t = omega arith in
+    rw (k, drop-drop (length t) at d, e) refl
 
 pub written-length : (d : List ℕ) (at : ℕ) (t : List ℕ) → at + length t ≤ length d → length (with_text d at t) ≡ length d
 unfolding with_text
@@ -39,14 +41,3 @@ written_append d at s t l =
     let n : at + length s + length t ≡ at + length (s ++ t) = omega (arith, length-append s t) in
     let b : drop (at + length s + length t) (p ++ (s ++ q)) ≡ drop (at + length (s ++ t)) d = sym (drop-drop (length t) (at + length s) (p ++ (s ++ q))) ∙ ap (drop (length t)) f ∙ drop-drop (length t) (at + length s) d ∙ ap (λ (m : ℕ). drop m d) n in
     rw (a, b) (append_assoc p s (t ++ drop (at + length (s ++ t)) d) ∙ ap (λ (x : List ℕ). p ++ x) (sym (append_assoc s t (drop (at + length (s ++ t)) d))))
-
--- the last byte first
-pub written_last : (d : List ℕ) (at : ℕ) (s : List ℕ) (b : ℕ) → at + length s < length d → with_text (set d (at + length s) b) at s ≡ with_text d at (s ++ (b ∷ []))
-unfolding with_text
-written_last d at s b l =
-    let i : ℕ = at + length s in
-    let a : take at (set d i b) ≡ take at d = take-set-le at d i b (omega arith) in
-    let e : drop i (set d i b) ≡ b ∷ drop (suc i) d = ap (drop i) (set_split d i b l) ∙ drop_at (take i d) (b ∷ drop (suc i) d) i (length-take-le i d (omega arith)) in
-    let n : suc i ≡ at + length (s ++ (b ∷ [])) = omega (arith, length-append s (b ∷ [])) in
-    let f : b ∷ drop (suc i) d ≡ (b ∷ []) ++ drop (at + length (s ++ (b ∷ []))) d = ap (λ (m : ℕ). b ∷ drop m d) n in
-    rw (a, e, f) (ap (λ (x : List ℕ). take at d ++ x) (sym (append_assoc s (b ∷ []) (drop (at + length (s ++ (b ∷ []))) d))))

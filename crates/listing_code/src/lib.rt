@@ -1,91 +1,29 @@
 // The text that the lister prints, written into a buffer of bytes.
 #![tactic(auto)]
 
-ghost use Rattle.std.specs.Prelude.{◌≡◌, [], ◌∷◌, ◌++◌, ◌+◌, ◌*◌, ◌<◌, ◌≤◌, nat_abs, length, drop};
-ghost use Rattle.integer.specs.Integer.{limit32};
+ghost use Rattle.std.specs.Prelude.{◌≡◌, ◌++◌, ◌+◌, ◌*◌, ◌<◌, ◌≤◌, length, drop};
 ghost use Rattle.records.specs.Limits.{memory_width, max_records};
-ghost use Rattle.listing.specs.Listing.{decimal, decimal_word, field, numbered, head_line, record_line, lines_from, listing, refusal_line, Room, Wrote, field_room, line_room, listing_room, refusal_room};
+ghost use Rattle.listing.specs.Listing.{field, numbered, head_line, record_line, lines_from, listing, refusal_line, Room, Wrote, field_room, line_room, listing_room, refusal_room};
 
-use integer::Int;
+use itoa::{Buffer, Integer};
 
-// A byte put at a position. The answer is the position past it.
-fn put_byte(b: u8, out: &mut [u8], at: usize) -> usize
-    requires { Room out.old at (b ∷ []) }
-    ensures { Wrote out.old at (b ∷ []) result out.new }
-{
-    out[at] = b;
-    at + 1
-}
-
-// How many digits a number has.
-fn digit_count(n: u64) -> usize
-    ensures { result ≡ length (decimal n) }
-{
-    let mut count = 1;
-    let mut rest = n;
-    while rest >= 10 {
-        rest /= 10;
-        count += 1;
-    }
-    count
-}
-
-// A number in decimal, put from the last digit to the first.
-fn put_natural(n: u64, out: &mut [u8], at: usize) -> usize
-    requires { Room out.old at (decimal n) }
-    ensures { Wrote out.old at (decimal n) result out.new }
-{
-    let end = at + digit_count(n);
-    let mut i = end - 1;
-    let mut rest = n;
-    while rest >= 10 {
-        let digit = (rest % 10) as u8;
-        out[i] = b'0' + digit;
-        rest /= 10;
-        i -= 1;
-    }
-    let digit = rest as u8;
-    out[i] = b'0' + digit;
-    end
-}
-
-// How far a word is from 0.
-fn magnitude(a: Int) -> u64
-    requires { nat_abs a.v ≤ limit32 }
-    ensures { result ≡ nat_abs a.v }
-{
-    if integer_code::less(a, integer_code::of(0)) {
-        let b = integer_code::neg(a);
-        return b.v as u64;
-    }
-    a.v as u64
-}
-
-// A word in decimal.
-fn put_word(a: Int, out: &mut [u8], at: usize) -> usize
-    requires { (nat_abs a.v ≤ limit32) × Room out.old at (decimal_word a.v) }
-    ensures { Wrote out.old at (decimal_word a.v) result out.new }
-{
-    let n = magnitude(a);
-    if integer_code::less(a, integer_code::of(0)) {
-        let next = put_byte(b'-', out, at);
-        return put_natural(n, out, next);
-    }
-    put_natural(n, out, at)
-}
-
-// A text, byte by byte.
+// A text put at a position. The answer is the position past it.
 fn put_text(text: &[u8], out: &mut [u8], at: usize) -> usize
     requires { Room out.old at text.now }
     ensures { Wrote out.old at text.now result out.new }
 {
-    let mut next = at;
-    let mut i = 0;
-    while i < text.len() {
-        next = put_byte(text[i], out, next);
-        i += 1;
-    }
-    next
+    let end = at + text.len();
+    out[at..end].copy_from_slice(text);
+    end
+}
+
+// A number in decimal.
+fn put_number<I: Integer>(n: I, out: &mut [u8], at: usize) -> usize
+    requires { Room out.old at (I.text n) }
+    ensures { Wrote out.old at (I.text n) result out.new }
+{
+    let mut buffer = Buffer::new();
+    put_text(buffer.format(n).as_bytes(), out, at)
 }
 
 // Word number j of a line whose words end before number `end`, and a blank or the line's end.
@@ -94,12 +32,8 @@ fn put_field(words: &[i32], j: usize, end: usize, out: &mut [u8], at: usize) -> 
     ensures wrote { Wrote out.old at (field words.now j end) result out.new }
     ensures within { result ≤ at + field_room }
 {
-    let a = integer_code::get(words, j);
-    let next = put_word(a, out, at);
-    if j + 1 < end {
-        return put_byte(b' ', out, next);
-    }
-    put_byte(b'\n', out, next)
+    let next = put_number(words[j], out, at);
+    put_text(if j + 1 < end { b" " } else { b"\n" }, out, next)
 }
 
 // The line of record number i, without its set.
@@ -111,10 +45,8 @@ fn put_line(words: &[i32], i: usize, out: &mut [u8], at: usize) -> usize
     let start = records::MEMORY_WIDTH * i;
     let end = start + records::FILE_WIDTH;
     let mut next = at;
-    let mut j = start;
-    while j < end {
+    for j in start..end {
         next = put_field(words, j, end, out, next);
-        j += 1;
     }
     next
 }
@@ -125,7 +57,7 @@ fn put_numbered(text: &[u8], n: u64, out: &mut [u8], at: usize) -> usize
     ensures { Wrote out.old at (numbered text.now n) result out.new }
 {
     let next = put_text(text, out, at);
-    put_natural(n, out, next)
+    put_number(n, out, next)
 }
 
 // The line `pieces N`.
@@ -134,7 +66,7 @@ fn put_head(n: usize, out: &mut [u8], at: usize) -> usize
     ensures { Wrote out.old at (head_line n) result out.new }
 {
     let next = put_numbered(b"pieces ", n as u64, out, at);
-    put_byte(b'\n', out, next)
+    put_text(b"\n", out, next)
 }
 
 // The lines of n records.
@@ -143,10 +75,8 @@ fn put_lines(words: &[i32], n: usize, out: &mut [u8], at: usize) -> usize
     ensures { Wrote out.old at (lines_from n words.now 0) result out.new }
 {
     let mut next = at;
-    let mut i = 0;
-    while i < n {
+    for i in 0..n {
         next = put_line(words, i, out, next);
-        i += 1;
     }
     next
 }
@@ -158,7 +88,7 @@ fn put_refusal(number: u32, place: usize, out: &mut [u8], at: usize) -> usize
 {
     let first = put_numbered(b"refused ", number as u64, out, at);
     let second = put_numbered(b" place ", place as u64, out, first);
-    put_byte(b'\n', out, second)
+    put_text(b"\n", out, second)
 }
 
 // The listing of the first n records, from the first byte of `out` on. The answer is the text's length.

@@ -12,7 +12,7 @@ ghost use Rattle.geometry_code.specs.Code.{point_of};
 
 use boolean::Folded;
 use calls::{Combined, Containment, Deoverlapped, Equality};
-use geometry::Checked;
+use geometry::Refusal;
 use integer::Int;
 
 // The set operation with this code on a and b, written to `out`. `scratch` is as long as `out`.
@@ -28,11 +28,8 @@ pub fn combine(code: u32, a: &[i32], b: &[i32], out: &mut [i32], scratch: &mut [
         out.len(),
         scratch.len(),
     );
-    match checked {
-        Checked::Refused { number, place } => {
-            return Combined::Refused { number, place };
-        }
-        Checked::Passed => {}
+    if let Err(Refusal { number, place }) = checked {
+        return Combined::Refused { number, place };
     }
     searched_code::combine_searched(code, a, b, out, scratch)
 }
@@ -43,31 +40,25 @@ pub fn deoverlap(a: &[i32], out: &mut [i32], scratch: &mut [i32]) -> Deoverlappe
     ensures small { SmallAnswer (deoverlapped_answer result) }
 {
     let checked = rows_code::deoverlap_checked(calls::PLATE_LIMIT, a, out.len(), scratch.len());
-    match checked {
-        Checked::Refused { number, place } => {
-            return Deoverlapped::Refused { number, place };
-        }
-        Checked::Passed => {}
+    if let Err(Refusal { number, place }) = checked {
+        return Deoverlapped::Refused { number, place };
     }
     let room = out.len() / records::MEMORY_WIDTH;
     records_code::clear_both(out, scratch);
-    let f = deoverlap_code::deoverlap_into(a, out, scratch, room);
-    match f {
-        Folded::NoRoom(_) => {
-            return Deoverlapped::Refused {
-                number: 12,
-                place: 0,
-            };
-        }
-        Folded::Done {
-            trapezoids,
-            overlays,
-        } => {
-            return Deoverlapped::Done {
-                pieces: trapezoids,
+    match deoverlap_code::deoverlap_into(a, out, scratch, room) {
+        Ok(
+            Folded {
+                trapezoids,
                 overlays,
-            };
-        }
+            },
+        ) => Deoverlapped::Done {
+            pieces: trapezoids,
+            overlays,
+        },
+        Err(_) => Deoverlapped::Refused {
+            number: 12,
+            place: 0,
+        },
     }
 }
 
@@ -77,11 +68,8 @@ pub fn equal(a: &[i32], b: &[i32], out: &mut [i32], scratch: &mut [i32]) -> Equa
     ensures small { SmallEqualityAnswer (equality_answer result) }
 {
     let checked = rows_code::equal_checked(calls::PLATE_LIMIT, a, b, out.len(), scratch.len());
-    match checked {
-        Checked::Refused { number, place } => {
-            return Equality::Refused { number, place };
-        }
-        Checked::Passed => {}
+    if let Err(Refusal { number, place }) = checked {
+        return Equality::Refused { number, place };
     }
     searched_code::equal_searched(a, b, out, scratch)
 }
@@ -92,16 +80,14 @@ fn contains_at(x: Int, y: Int, d: Int, a: &[i32], b: &[i32], code: u32) -> Conta
     ensures small { SmallPointAnswer (point_answer result) }
 {
     let checked = rows_code::contains_checked(calls::PLATE_LIMIT, x, y, d, a, b, code);
-    match checked {
-        Checked::Refused { number, place } => {
-            return Containment::Refused { number, place };
-        }
-        Checked::Passed => {}
+    if let Err(Refusal { number, place }) = checked {
+        return Containment::Refused { number, place };
     }
     if point_code::lies_in_result(code, a, b, x, y, d) {
-        return Containment::Yes;
+        Containment::Yes
+    } else {
+        Containment::No
     }
-    Containment::No
 }
 
 // Whether the point (x/d, y/d) lies in the result of the set operation with this code on a and b.

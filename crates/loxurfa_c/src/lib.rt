@@ -5,6 +5,8 @@ ghost use Rattle.files.specs.declared.Edition.TheVariants.{First, New};
 ghost use Rattle.calls.specs.Rows.{plate_limit};
 ghost use Rattle.calls.specs.Promises.{FractureKeptForC, CombineKeptForC, DeoverlapKeptForC, EqualKeptForC, ContainsKeptForC, ReadKeptForC, WriteKeptForC, ComponentsKeptForC, TransistorsKeptForC};
 
+use packed_code::Packed;
+
 #[unsafe(no_mangle)]
 pub extern "C" fn loxurfa_fracture(
     layer: u32,
@@ -14,8 +16,7 @@ pub extern "C" fn loxurfa_fracture(
 ) -> u64
     ensures { FractureKeptForC New plate_limit layer file.now out.old scratch.old result out.new scratch.new }
 {
-    let answer = loxurfa_files::fracture(layer, file, out, scratch);
-    packed_code::pack_fractured(answer)
+    loxurfa_files::fracture(layer, file, out, scratch).pack()
 }
 
 #[unsafe(no_mangle)]
@@ -27,8 +28,7 @@ pub extern "C" fn loxurfa_fracture_first_edition(
 ) -> u64
     ensures { FractureKeptForC First plate_limit layer file.now out.old scratch.old result out.new scratch.new }
 {
-    let answer = loxurfa_files::fracture_first_edition(layer, file, out, scratch);
-    packed_code::pack_fractured(answer)
+    loxurfa_files::fracture_first_edition(layer, file, out, scratch).pack()
 }
 
 #[unsafe(no_mangle)]
@@ -41,56 +41,49 @@ pub extern "C" fn loxurfa_combine(
 ) -> u64
     ensures { CombineKeptForC plate_limit code a.now b.now out.old scratch.old result out.new scratch.new }
 {
-    let answer = loxurfa::combine(code, a, b, out, scratch);
-    packed_code::pack_combined(answer)
+    loxurfa::combine(code, a, b, out, scratch).pack()
 }
 
 #[unsafe(no_mangle)]
 pub extern "C" fn loxurfa_deoverlap(a: &[i32], out: &mut [i32], scratch: &mut [i32]) -> u64
     ensures { DeoverlapKeptForC plate_limit a.now out.old scratch.old result out.new scratch.new }
 {
-    let answer = loxurfa::deoverlap(a, out, scratch);
-    packed_code::pack_deoverlapped(answer)
+    loxurfa::deoverlap(a, out, scratch).pack()
 }
 
 #[unsafe(no_mangle)]
 pub extern "C" fn loxurfa_equal(a: &[i32], b: &[i32], out: &mut [i32], scratch: &mut [i32]) -> u64
     ensures { EqualKeptForC plate_limit a.now b.now out.old scratch.old result out.new scratch.new }
 {
-    let answer = loxurfa::equal(a, b, out, scratch);
-    packed_code::pack_equality(answer)
+    loxurfa::equal(a, b, out, scratch).pack()
 }
 
 #[unsafe(no_mangle)]
 pub extern "C" fn loxurfa_contains(x: i32, y: i32, d: i32, a: &[i32], b: &[i32], code: u32) -> u64
     ensures { ContainsKeptForC plate_limit x y d a.now b.now code result }
 {
-    let answer = loxurfa::contains(x, y, d, a, b, code);
-    packed_code::pack_containment(answer)
+    loxurfa::contains(x, y, d, a, b, code).pack()
 }
 
 #[unsafe(no_mangle)]
 pub extern "C" fn loxurfa_read_layers(file: &[u8], out: &mut [i32]) -> u64
     ensures { ReadKeptForC plate_limit file.now out.old result out.new }
 {
-    let answer = loxurfa_files::read_layers(file, out);
-    packed_code::pack_read(answer)
+    loxurfa_files::read_layers(file, out).pack()
 }
 
 #[unsafe(no_mangle)]
 pub extern "C" fn loxurfa_write_layers(words: &[i32], out: &mut [u8]) -> u64
     ensures { WriteKeptForC plate_limit words.now out.old result out.new }
 {
-    let answer = loxurfa_files::write_layers(words, out);
-    packed_code::pack_written(answer)
+    loxurfa_files::write_layers(words, out).pack()
 }
 
 #[unsafe(no_mangle)]
 pub extern "C" fn loxurfa_components(a: &[i32], numbers: &mut [u32]) -> u64
     ensures { ComponentsKeptForC plate_limit a.now numbers.old result numbers.new }
 {
-    let answer = loxurfa_shapes::components(a, numbers);
-    packed_code::pack_connected(answer)
+    loxurfa_shapes::components(a, numbers).pack()
 }
 
 #[unsafe(no_mangle)]
@@ -104,6 +97,5 @@ pub extern "C" fn loxurfa_transistors(
 ) -> u64
     ensures { TransistorsKeptForC plate_limit collectors.now bases.now emitters.now list.old out.old scratch.old result list.new out.new scratch.new }
 {
-    let answer = loxurfa_shapes::transistors(collectors, bases, emitters, list, out, scratch);
-    packed_code::pack_extracted(answer)
+    loxurfa_shapes::transistors(collectors, bases, emitters, list, out, scratch).pack()
 }

@@ -9,7 +9,6 @@ use Rattle.lists.proofs.Parts.{drop_replicate}
 use Rattle.records.specs.Limits.{max_records}
 use Rattle.records.specs.Records.{words_of}
 use Rattle.records.specs.Words.{word_codec}
-use Rattle.geometry.specs.declared.Checked.TheVariants.{Passed, Refused}
 use Rattle.geometry.specs.Trapezoids.{trapezoid_codec}
 use Rattle.geometry.specs.Fitness.{SmallRefusal}
 use Rattle.geometry.proofs.Refusals.{SmallChecked}
@@ -21,14 +20,16 @@ use Rattle.files.proofs.Bounds.{units_bound}
 use Rattle.files.proofs.Small.{layer_file_small, layer_words_small}
 use Rattle.files.proofs.Answers.{refused_is, no_room_is, done_is}
 use Rattle.files.proofs.Calls.{file_passes, length_bytes}
+use Rattle.std.specs.Prelude.{Ok}
+use Rattle.geometry.specs.Refusals.{refused_by}
 
 -- ---- the reader
 module _ (L : ℕ) (bs : List ℕ) (out : List ℤ) where
-  pub read_refused : {number place : ℕ} → layer_file_checked L bs ≡ Refused number place → (observed_file (refused number place) out ≡ read_layers L bs out) × SmallRefusal number place
+  pub read_refused : {number place : ℕ} → layer_file_checked L bs ≡ refused_by number place → (observed_file (refused number place) out ≡ read_layers L bs out) × SmallRefusal number place
   unfolding read_layers
   read_refused e = (refused_is (pos 0) (length (units_of file_codec (file_words bs))) (memory_words (file_words bs)) out e, subst SmallChecked e (layer_file_small L bs))
 
-  module _ (e : layer_file_checked L bs ≡ Passed) {blank : List ℤ} (z : blank ≡ replicate (length out) (pos 0)) where
+  module _ (e : layer_file_checked L bs ≡ Ok tt) {blank : List ℤ} (z : blank ≡ replicate (length out) (pos 0)) where
     long : length blank ≡ length out
     long = ap length z ∙ length-replicate (length out) (pos 0)
 
@@ -49,11 +50,11 @@ module _ (L : ℕ) (bs : List ℕ) (out : List ℤ) where
 
 -- ---- the writer
 module _ (L : ℕ) (ws : List ℤ) (out : List ℕ) where
-  pub write_refused : {number place : ℕ} → layer_words_checked L ws ≡ Refused number place → (observed_file (refused number place) out ≡ write_layers L ws out) × SmallRefusal number place
+  pub write_refused : {number place : ℕ} → layer_words_checked L ws ≡ refused_by number place → (observed_file (refused number place) out ≡ write_layers L ws out) × SmallRefusal number place
   unfolding write_layers
   write_refused e = (refused_is 0 (length (units_of trapezoid_codec ws)) (words_of word_codec (written_words ws)) out e, subst SmallChecked e (layer_words_small L ws))
 
-  module _ (e : layer_words_checked L ws ≡ Passed) {blank : List ℕ} (z : blank ≡ replicate (length out) 0) where
+  module _ (e : layer_words_checked L ws ≡ Ok tt) {blank : List ℕ} (z : blank ≡ replicate (length out) 0) where
     blank_long : length blank ≡ length out
     blank_long = ap length z ∙ length-replicate (length out) 0
 

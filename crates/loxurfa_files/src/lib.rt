@@ -9,7 +9,7 @@ ghost use Rattle.calls.specs.Rows.{plate_limit};
 
 use calls::Fractured;
 use files::{Edition, LayersRead, LayersWritten};
-use geometry::{Checked, Fill};
+use geometry::Refusal;
 
 // The trapezoids of the polygons of a polygon file of an edition, written to `out` with this source layer in their sets.
 fn fracture_edition(
@@ -30,31 +30,21 @@ fn fracture_edition(
         out.len(),
         scratch.len(),
     );
-    match checked {
-        Checked::Refused { number, place } => {
-            return Fractured::Refused { number, place };
-        }
-        Checked::Passed => {}
+    if let Err(Refusal { number, place }) = checked {
+        return Fractured::Refused { number, place };
     }
     let room = out.len() / records::MEMORY_WIDTH;
     records_code::clear_both(out, scratch);
-    let f = polygons_code::fracture_file(edition, file, calls::PLATE_LIMIT, out, room);
-    match f {
-        Fill::NoRoom => {
-            return Fractured::Refused {
-                number: 12,
-                place: 0,
-            };
-        }
-        Fill::Written(n) => {
-            let sources = sources_code::single(layer);
-            sources_code::set_sources(out, n, sources);
-            return Fractured::Done {
-                pieces: n,
-                overlays: 0,
-            };
-        }
-    }
+    let Some(pieces) = polygons_code::fracture_file(edition, file, calls::PLATE_LIMIT, out, room)
+    else {
+        return Fractured::Refused {
+            number: 12,
+            place: 0,
+        };
+    };
+    sources_code::set_sources(out, pieces, sources_code::single(layer));
+    let overlays = 0;
+    Fractured::Done { pieces, overlays }
 }
 
 // The trapezoids of the polygons of a polygon file of the new edition, written to `out` with this source layer, 0 to 31, in their sets.
@@ -84,14 +74,11 @@ pub fn read_layers(file: &[u8], out: &mut [i32]) -> LayersRead
     ensures read_kept { ReadKept plate_limit file.now out.old result out.new }
     ensures small { SmallAnswer (read_answer result) }
 {
-    let c = files_code::check_layer_file(file, calls::PLATE_LIMIT);
-    match c {
-        Checked::Passed => {}
-        Checked::Refused { number, place } => {
-            return LayersRead::Refused { number, place };
-        }
+    let checked = files_code::check_layer_file(file, calls::PLATE_LIMIT);
+    if let Err(Refusal { number, place }) = checked {
+        return LayersRead::Refused { number, place };
     }
-    records_code::clear(out);
+    out.fill(0);
     if out.len() < layer_files_code::memory_length(file) {
         return LayersRead::Refused {
             number: 12,
@@ -111,14 +98,11 @@ pub fn write_layers(words: &[i32], out: &mut [u8]) -> LayersWritten
     ensures write_kept { WriteKept plate_limit words.now out.old result out.new }
     ensures small { SmallAnswer (written_answer result) }
 {
-    let c = files_code::check_layer_words(words, calls::PLATE_LIMIT);
-    match c {
-        Checked::Passed => {}
-        Checked::Refused { number, place } => {
-            return LayersWritten::Refused { number, place };
-        }
+    let checked = files_code::check_layer_words(words, calls::PLATE_LIMIT);
+    if let Err(Refusal { number, place }) = checked {
+        return LayersWritten::Refused { number, place };
     }
-    records_code::clear_bytes(out);
+    out.fill(0);
     if out.len() / 4 < layer_files_code::written_length(words) {
         return LayersWritten::Refused {
             number: 12,

@@ -12,23 +12,20 @@ ghost use Rattle.calls.specs.Transistors.{extracted_answer};
 ghost use Rattle.boxes_code.specs.Code.{BoxedLayer, RoomForBoxes};
 ghost use Rattle.loxurfa_shapes.specs.Code.{ComponentsSearched};
 
+use boxes_code::Layer;
 use calls::{Connected, Extracted};
-use geometry::Checked;
+use geometry::Refusal;
 
 // The component numbers, by the boxes of the layer.
-fn components_boxed(a: &[i32], boxes: &[i64], numbers: &mut [u32]) -> Connected
-    requires { BoxedLayer a.now boxes.now × (length numbers.old ≡ count trapezoid_codec a.now) }
-    ensures components_searched { ComponentsSearched a.now numbers.old result numbers.new }
+fn components_boxed(a: Layer, numbers: &mut [u32]) -> Connected
+    requires { length numbers.old ≡ count trapezoid_codec a.words.now }
+    ensures components_searched { ComponentsSearched a.entry.words.now numbers.old result numbers.new }
     ensures small { SmallComponentsAnswer (connected_answer result) }
 {
-    let checked = disjoint_code::first_overlap(a, boxes, 0);
-    match checked {
-        Checked::Refused { number, place } => {
-            return Connected::Refused { number, place };
-        }
-        Checked::Passed => {}
+    if let Err(Refusal { number, place }) = disjoint_code::first_overlap(a, 0) {
+        return Connected::Refused { number, place };
     }
-    let n = connectivity_code::components_boxed(a, boxes, numbers);
+    let n = connectivity_code::components_boxed(a.words, a.boxes, numbers);
     Connected::Done { components: n }
 }
 
@@ -38,8 +35,7 @@ fn components_with(a: &[i32], boxes: &mut [i64], numbers: &mut [u32]) -> Connect
     ensures components_searched { ComponentsSearched a.now numbers.old result numbers.new }
     ensures small { SmallComponentsAnswer (connected_answer result) }
 {
-    boxes_code::fill_boxes(a, boxes);
-    components_boxed(a, boxes, numbers)
+    components_boxed(boxes_code::boxed(a, boxes), numbers)
 }
 
 // Each trapezoid's component number, the lowest of its component, written to `numbers`, which has an entry for each trapezoid.
@@ -48,11 +44,8 @@ pub fn components(a: &[i32], numbers: &mut [u32]) -> Connected
     ensures small { SmallComponentsAnswer (connected_answer result) }
 {
     let checked = rows_code::components_checked(calls::PLATE_LIMIT, a, numbers.len());
-    match checked {
-        Checked::Refused { number, place } => {
-            return Connected::Refused { number, place };
-        }
-        Checked::Passed => {}
+    if let Err(Refusal { number, place }) = checked {
+        return Connected::Refused { number, place };
     }
     if numbers.len() <= boxes::FEW {
         let mut boxes = [0; boxes::FEW_WORDS];
@@ -83,11 +76,8 @@ pub fn transistors(
         out.len(),
         scratch.len(),
     );
-    match checked {
-        Checked::Refused { number, place } => {
-            return Extracted::Refused { number, place };
-        }
-        Checked::Passed => {}
+    if let Err(Refusal { number, place }) = checked {
+        return Extracted::Refused { number, place };
     }
     transistors_code::transistors_into(collectors, bases, emitters, list, out, scratch)
 }

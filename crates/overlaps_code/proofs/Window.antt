@@ -1,4 +1,5 @@
 -- The overlap test, branch by branch as the functions take it.
+use Rattle.std.specs.Prelude.{Option, Some, None}
 use mathlib.Core.Path.{◌≡◌, refl, sym, ◌∙◌, ap, subst}
 use mathlib.Core.Bool.{Bool, true, false, ◌&&◌}
 use Rattle.integer.specs.Fraction.{Fraction, before}
@@ -8,8 +9,6 @@ use Rattle.geometry.specs.declared.Trapezoid.{Trapezoid}
 use Rattle.geometry.specs.declared.Meeting.{Meeting}
 use Rattle.geometry.specs.Positions.{crosses, position, is_less, is_greater, below}
 use Rattle.geometry.specs.declared.Position.{Position}
-use Rattle.geometry.specs.declared.Crossing.{Crossing}
-use Rattle.geometry.specs.declared.Crossing.TheVariants.{Nowhere, At}
 use Rattle.geometry.specs.Ranges.{crossing, common_left, common_right}
 use Rattle.overlay.specs.Overlaps.{crosses_in_common, overlap_right, overlap_from, overlaps}
 use Rattle.geometry.proofs.Heights.{right_tests}
@@ -55,11 +54,11 @@ module _ (lo hi : Fraction) (k : Base) where
     unfolding cross_between
     between_inside e f = rw (c, e, f)
 
-module _ (lo hi : Fraction) (l m : Line) (r : Crossing) (h : CrossingBetween lo hi l m r) where
-  pub between_none : r ≡ Nowhere → cross_between lo hi (crossing l m) ≡ false
+module _ (lo hi : Fraction) (l m : Line) (r : Option Position) (h : CrossingBetween lo hi l m r) where
+  pub between_none : r ≡ None → cross_between lo hi (crossing l m) ≡ false
   between_none e = subst (CrossingBetween lo hi l m) e h
 
-  pub between_at : (p : Position) → r ≡ At p → (cross_between lo hi (crossing l m) ≡ true) × PositionOf (crossing l m) p
+  pub between_at : (p : Position) → r ≡ Some p → (cross_between lo hi (crossing l m) ≡ true) × PositionOf (crossing l m) p
   between_at p e = subst (CrossingBetween lo hi l m) e h
 
 -- ---- the whole test

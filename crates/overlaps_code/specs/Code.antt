@@ -1,12 +1,12 @@
 -- Crossings between two positions, and the overlap test by where the sides meet.
-use Rattle.std.specs.Prelude.{◌≡◌, Bool, true, false, ◌&&◌}
+use Rattle.std.specs.Prelude.{◌≡◌, Bool, true, false, ◌&&◌, Option, Some, None}
 use Rattle.integer.specs.Fraction.{Fraction, before}
+use Rattle.geometry.specs.declared.Position.{Position}
 use Rattle.geometry.specs.declared.Line.{Line}
 use Rattle.geometry.specs.declared.Base.{Base}
 use Rattle.geometry.specs.declared.Trapezoid.{Trapezoid}
 use Rattle.geometry.specs.declared.Meeting.{Meeting}
-use Rattle.geometry.specs.declared.Crossing.{Crossing}
-use Rattle.geometry.specs.declared.Crossing.TheVariants.{Nowhere, At}
+use Rattle.geometry.specs.declared.Position.{Position}
 use Rattle.geometry.specs.Positions.{crosses, position}
 use Rattle.geometry.specs.Ranges.{crossing, common_left, common_right}
 use Rattle.overlay.specs.declared.Meetings.{Meetings}
@@ -17,12 +17,12 @@ use Rattle.geometry_code.specs.Code.{MeetingOf, PositionOf}
 unfoldable pub cross_between : Fraction → Fraction → Base → Bool
 cross_between lo hi k = crosses k.first k.second && (before lo (position k) && before (position k) hi)
 
-abbrev pub CrossingBetween : Fraction → Fraction → Line → Line → Crossing → Type 0
-CrossingBetween lo hi l m Nowhere = cross_between lo hi (crossing l m) ≡ false
-CrossingBetween lo hi l m (At p) = (cross_between lo hi (crossing l m) ≡ true) × PositionOf (crossing l m) p
+abbrev pub CrossingBetween : Fraction → Fraction → Line → Line → Option Position → Type 0
+CrossingBetween lo hi l m None = cross_between lo hi (crossing l m) ≡ false
+CrossingBetween lo hi l m (Some p) = (cross_between lo hi (crossing l m) ≡ true) × PositionOf (crossing l m) p
 
 -- of whichever lines have this meeting
-abbrev pub MeetingBetween : Fraction → Fraction → Meeting → Crossing → Type 0
+abbrev pub MeetingBetween : Fraction → Fraction → Meeting → Option Position → Type 0
 MeetingBetween lo hi k r = (l m : Line) → MeetingOf l m k → CrossingBetween lo hi l m r
 
 -- where the sides of A meet those of B

@@ -11,7 +11,6 @@ use Rattle.levels.specs.Levels.{insert, levels}
 use Rattle.geometry.specs.declared.Line.{Line}
 use Rattle.geometry.specs.declared.Base.{Base}
 use Rattle.geometry.specs.declared.Trapezoid.{Trapezoid}
-use Rattle.geometry.specs.declared.Checked.TheVariants.{Passed, Refused}
 use Rattle.geometry.specs.Lines.{dx, dy, offset, det, numer}
 use Rattle.geometry.specs.Positions.{crosses, ratio, meet, heights, right_of, below}
 use Rattle.geometry.specs.Ranges.{crossing, common_left, common_right}
@@ -19,6 +18,8 @@ use Rattle.sweep.specs.Segments.{spans}
 use Rattle.sweep.specs.Sweep.{columns, sweep}
 use Rattle.overlay.specs.Overlaps.{crosses_in_common, overlap_right, overlap_from, overlaps, overlap_past, first_overlap}
 use Rattle.overlay.specs.Overlay.{Part, sides, side_crossings, overlay_events, fills, tag_above, stack, parts, subdivision, overlay, tagged}
+use Rattle.std.specs.Prelude.{Ok}
+use Rattle.geometry.specs.Refusals.{refused_by}
 
 abbrev line : ℕ → ℕ → ℕ → ℕ → Line
 line a b c d = record { x1 = pos a; y1 = pos b; x2 = pos c; y2 = pos d }
@@ -251,8 +252,8 @@ seconds = (refl, refl, refl, refl, refl, refl, refl, refl, refl)
 -- row 13, "taken by its later piece and then its earlier", places numbered on from 5: the pairs are 1 with 2 and 0 with 3; squares side by side pass
 abbrev Searched : Type 0
 Searched =
-    (first_overlap 5 (box 0 0 4 4 ∷ box 4 0 8 4 ∷ box 6 2 9 3 ∷ box 2 2 4 6 ∷ []) ≡ Refused 13 7)
-    × (first_overlap 5 (box 0 0 4 4 ∷ box 4 0 8 4 ∷ box 0 4 8 8 ∷ []) ≡ Passed)
+    (first_overlap 5 (box 0 0 4 4 ∷ box 4 0 8 4 ∷ box 6 2 9 3 ∷ box 2 2 4 6 ∷ []) ≡ refused_by 13 7)
+    × (first_overlap 5 (box 0 0 4 4 ∷ box 4 0 8 4 ∷ box 0 4 8 8 ∷ []) ≡ Ok tt)
 
 searched : Searched
 unfolding ◌⊕◌ ◌⊖◌ ◌⊗◌ ⊝◌ order_of before dx dy offset det numer crosses ratio meet heights right_of below common_left common_right crosses_in_common overlap_right overlap_from overlaps overlap_past

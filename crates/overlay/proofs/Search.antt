@@ -12,13 +12,15 @@ use Rattle.lists.specs.Tests.{any}
 use Rattle.lists.proofs.Tests.{yes_or_no, true_is, false_is, is_true}
 use Rattle.lists.proofs.Lists.{all_append, all_map, all_with, any_with, any_exact, any_none, pairs_append, pairs_across}
 use Rattle.geometry.specs.declared.Trapezoid.{Trapezoid}
-use Rattle.geometry.specs.declared.Checked.{Checked}
-use Rattle.geometry.specs.declared.Checked.TheVariants.{Passed, Refused}
 use Rattle.geometry.specs.Trapezoids.{Apart, Disjoint}
 use Rattle.geometry.specs.Fitness.{FitFor}
 use Rattle.geometry.proofs.Refusals.{SmallChecked}
 use Rattle.overlay.specs.Overlaps.{Common, overlaps, refuse_overlap, overlap_past, first_overlap, FirstOverlapExact}
 use Rattle.overlay.proofs.Overlaps.{overlaps_exact, apart_exact}
+use Rattle.std.specs.Prelude.{Result, Ok}
+use Rattle.geometry.specs.declared.Refusal.{Refusal}
+use Rattle.geometry.specs.Refusals.{refused_by}
+use Rattle.geometry.proofs.Refused.{refused_same}
 
 -- ---- one more behind others
 apart_turn : (t u : Trapezoid) → Apart t u → Apart u t
@@ -46,7 +48,7 @@ module _ (L : ℕ) (earlier : List Trapezoid) (t : Trapezoid) (hs : All (FitFor 
   grown_disjoint d a = pairs_append Apart earlier (t ∷ []) d (tt, tt) (all_with (λ u x k. (k, tt)) earlier hs a)
 
 -- ---- what the rest of the search says, one by one
-pub past_yes : (earlier : List Trapezoid) (i : ℕ) (t : Trapezoid) (ts : List Trapezoid) → any (overlaps t) earlier ≡ true → overlap_past earlier i (t ∷ ts) ≡ Refused 13 i
+pub past_yes : (earlier : List Trapezoid) (i : ℕ) (t : Trapezoid) (ts : List Trapezoid) → any (overlaps t) earlier ≡ true → overlap_past earlier i (t ∷ ts) ≡ refused_by 13 i
 unfolding overlap_past
 past_yes earlier i t ts e = rw e
 
@@ -54,11 +56,11 @@ pub past_no : (earlier : List Trapezoid) (i : ℕ) (t : Trapezoid) (ts : List Tr
 unfolding overlap_past
 past_no earlier i t ts e = rw e
 
-pub past_end : (earlier : List Trapezoid) (i : ℕ) → overlap_past earlier i [] ≡ Passed
+pub past_end : (earlier : List Trapezoid) (i : ℕ) → overlap_past earlier i [] ≡ Ok tt
 unfolding overlap_past
 past_end earlier i = refl
 
-differ : {n k : ℕ} → Passed ≡ Refused n k → ⊥
+differ : {n k : ℕ} → (Ok tt) ≡ refused_by n k → ⊥
 differ e = let z : ◌≡◌ {A = ℕ} 0 1 = cc in absurd (omega arith)
 
 -- the first that overlaps one before it, of a list behind others
@@ -86,7 +88,7 @@ past_more earlier i t ts k r =
 
 module _ (L : ℕ) where
   -- ---- the whole is disjoint
-  passed_disjoint : (earlier : List Trapezoid) (i : ℕ) (ts : List Trapezoid) → All (FitFor L) earlier → All (FitFor L) ts → Disjoint earlier → overlap_past earlier i ts ≡ Passed → Disjoint (earlier ++ ts)
+  passed_disjoint : (earlier : List Trapezoid) (i : ℕ) (ts : List Trapezoid) → All (FitFor L) earlier → All (FitFor L) ts → Disjoint earlier → overlap_past earlier i ts ≡ Ok tt → Disjoint (earlier ++ ts)
   passed_disjoint earlier i [] hs h d e = subst Disjoint (sym (append-nil earlier)) d
   passed_disjoint earlier i (t ∷ ts) hs h d e =
       elim (yes_or_no (any (overlaps t) earlier)) [
@@ -97,7 +99,7 @@ module _ (L : ℕ) where
             (passed_disjoint (earlier ++ (t ∷ [])) (i + 1) ts (grown_fit L earlier t hs h.0) h.1 (grown_disjoint L earlier t hs h.0 d (none_apart L earlier t hs h.0 f)) (sym (past_no earlier i t ts f) ∙ e))
       ]
 
-  disjoint_passed : (earlier : List Trapezoid) (i : ℕ) (ts : List Trapezoid) → All (FitFor L) earlier → All (FitFor L) ts → Disjoint (earlier ++ ts) → overlap_past earlier i ts ≡ Passed
+  disjoint_passed : (earlier : List Trapezoid) (i : ℕ) (ts : List Trapezoid) → All (FitFor L) earlier → All (FitFor L) ts → Disjoint (earlier ++ ts) → overlap_past earlier i ts ≡ Ok tt
   disjoint_passed earlier i [] hs h d = past_end earlier i
   disjoint_passed earlier i (t ∷ ts) hs h d =
       let a = all_map (λ u k. k.0) earlier (pairs_across Apart earlier (t ∷ ts) d) in
@@ -105,14 +107,15 @@ module _ (L : ℕ) where
       ∙ disjoint_passed (earlier ++ (t ∷ [])) (i + 1) ts (grown_fit L earlier t hs h.0) h.1 (subst Disjoint (sym (append_assoc earlier (t ∷ []) ts)) d)
 
   -- ---- some two overlap
-  refused_past : (earlier : List Trapezoid) (i : ℕ) (ts : List Trapezoid) → All (FitFor L) earlier → All (FitFor L) ts → Disjoint earlier → (n k : ℕ) → overlap_past earlier i ts ≡ Refused n k → (n ≡ 13) × Past earlier i ts k
+  refused_past : (earlier : List Trapezoid) (i : ℕ) (ts : List Trapezoid) → All (FitFor L) earlier → All (FitFor L) ts → Disjoint earlier → (n k : ℕ) → overlap_past earlier i ts ≡ refused_by n k → (n ≡ 13) × Past earlier i ts k
   refused_past earlier i [] hs h d n k e = absurd (differ (sym (past_end earlier i) ∙ e))
   refused_past earlier i (t ∷ ts) hs h d n k e =
       elim (yes_or_no (any (overlaps t) earlier)) [
         | inl y ↦
-            let here : Refused 13 i ≡ Refused n k = sym (past_yes earlier i t ts (true_is y)) ∙ e in
-            let number : 13 ≡ n = cc in
-            let place : i ≡ k = cc in (
+            let here : refused_by 13 i ≡ refused_by n k = sym (past_yes earlier i t ts (true_is y)) ∙ e in
+            let alike = refused_same {m = 13} {i = i} {n = n} {k = k} here in
+            let number = alike.0 in
+            let place = alike.1 in (
               sym number,
               record {
                 first = [];
@@ -131,16 +134,16 @@ module _ (L : ℕ) where
       ]
 
   past_refused : (earlier : List Trapezoid) (i : ℕ) (first : List Trapezoid) (later : Trapezoid) (rest : List Trapezoid) → All (FitFor L) earlier → All (FitFor L) (first ++ (later ∷ rest))
-      → Disjoint (earlier ++ first) → Any (Common later) (earlier ++ first) → overlap_past earlier i (first ++ (later ∷ rest)) ≡ Refused 13 (i + length first)
+      → Disjoint (earlier ++ first) → Any (Common later) (earlier ++ first) → overlap_past earlier i (first ++ (later ∷ rest)) ≡ refused_by 13 (i + length first)
   past_refused earlier i [] later rest hs h d c =
-      past_yes earlier i later rest (common_some L earlier later hs h.0 (subst (Any (Common later)) (append-nil earlier) c)) ∙ ap (Refused 13) (sym (add-zero i))
+      past_yes earlier i later rest (common_some L earlier later hs h.0 (subst (Any (Common later)) (append-nil earlier) c)) ∙ ap (refused_by 13) (sym (add-zero i))
   past_refused earlier i (t ∷ first) later rest hs h d c =
       let a = all_map (λ u k. k.0) earlier (pairs_across Apart earlier (t ∷ first) d) in
       let e = sym (append_assoc earlier (t ∷ []) first) in
       let k : i + 1 + length first ≡ i + length (t ∷ first) = omega arith in
       past_no earlier i t (first ++ (later ∷ rest)) (apart_none L earlier t hs h.0 a)
       ∙ past_refused (earlier ++ (t ∷ [])) (i + 1) first later rest (grown_fit L earlier t hs h.0) h.1 (subst Disjoint e d) (subst (Any (Common later)) e c)
-      ∙ ap (Refused 13) k
+      ∙ ap (refused_by 13) k
 
 -- ---- of a layer
 pub first_overlap_exact : FirstOverlapExact
@@ -155,12 +158,12 @@ first_overlap_exact L i ts h =
         (λ r.
             let p = r.1 in
             ap (first_overlap i) p.split ∙ past_refused L [] i p.first p.later p.rest tt (subst (All (FitFor L)) p.split h) p.disjoint p.overlap
-            ∙ ap₂ Refused (sym r.0) (sym p.place)),
+            ∙ ap₂ refused_by (sym r.0) (sym p.place)),
       );
     }
 
 -- the sizes of its number and place
-small_one : (b : Bool) (i : ℕ) (c : Checked) → i < 4294967296 → SmallChecked c → SmallChecked (refuse_overlap b i c)
+small_one : (b : Bool) (i : ℕ) (c : Result (Unit {0}) Refusal) → i < 4294967296 → SmallChecked c → SmallChecked (refuse_overlap b i c)
 small_one true i c l h = (omega arith, l)
 small_one false i c l h = h
 

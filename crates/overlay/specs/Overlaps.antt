@@ -1,17 +1,17 @@
 -- Whether a rational point lies in both of two trapezoids A and B: the meaning, and the test that computes it; and the first two of a list that have one.
-use Rattle.std.specs.Prelude.{◌≡◌, Bool, true, false, not, ◌&&◌, ◌||◌, List, [], ◌∷◌, ◌++◌, ◌↔◌, ℕ, ◌+◌, T, length}
+use Rattle.std.specs.Prelude.{◌≡◌, Bool, true, false, not, ◌&&◌, ◌||◌, List, [], ◌∷◌, ◌++◌, ◌↔◌, ℕ, ◌+◌, T, length, Result, Ok}
 use Rattle.lists.specs.Lists.{All, Any, Pairs}
 use Rattle.lists.specs.Tests.{any}
 use Rattle.integer.specs.Fraction.{Fraction, before}
 use Rattle.geometry.specs.declared.Base.{Base}
 use Rattle.geometry.specs.declared.Trapezoid.{Trapezoid}
-use Rattle.geometry.specs.declared.Checked.{Checked}
-use Rattle.geometry.specs.declared.Checked.TheVariants.{Passed, Refused}
 use Rattle.geometry.specs.Positions.{crosses, position, below}
 use Rattle.geometry.specs.Points.{Point, IsPoint}
 use Rattle.geometry.specs.Trapezoids.{lies_in, Disjoint}
 use Rattle.geometry.specs.Fitness.{FitFor}
 use Rattle.geometry.specs.Ranges.{common_left, common_right, crossing}
+use Rattle.geometry.specs.declared.Refusal.{Refusal}
+use Rattle.geometry.specs.Refusals.{refused_by}
 
 -- the meaning: "no rational point in both" denies it
 abbrev pub Common : Trapezoid → Trapezoid → Type 0
@@ -45,17 +45,17 @@ abbrev pub DisjointExact : Type 0
 DisjointExact = (L : ℕ) (ts : List Trapezoid) → All (FitFor L) ts → Disjoint ts ↔ Pairs (λ (t u : Trapezoid). T (not (overlaps t u))) ts
 
 -- ---- row 13: "refused at the first overlapping pair, taken by its later piece and then its earlier"
-abbrev pub refuse_overlap : Bool → ℕ → Checked → Checked
-refuse_overlap true i c = Refused 13 i
+abbrev pub refuse_overlap : Bool → ℕ → Result (Unit {0}) Refusal → Result (Unit {0}) Refusal
+refuse_overlap true i c = refused_by 13 i
 refuse_overlap false i c = c
 
 -- of a list behind others, its places numbered on from i: each in turn with all before it
-unfoldable pub overlap_past : List Trapezoid → ℕ → List Trapezoid → Checked
-overlap_past earlier i [] = Passed
+unfoldable pub overlap_past : List Trapezoid → ℕ → List Trapezoid → Result (Unit {0}) Refusal
+overlap_past earlier i [] = Ok tt
 overlap_past earlier i (t ∷ ts) = refuse_overlap (any (overlaps t) earlier) i (overlap_past (earlier ++ (t ∷ [])) (i + 1) ts)
 
 -- of a layer
-abbrev pub first_overlap : ℕ → List Trapezoid → Checked
+abbrev pub first_overlap : ℕ → List Trapezoid → Result (Unit {0}) Refusal
 first_overlap i ts = overlap_past [] i ts
 
 -- the trapezoid at place k, counted from i on, has a rational point in common with one before it, and no two before it have one
@@ -70,8 +70,8 @@ pub record OverlapAt (i : ℕ) (ts : List Trapezoid) (k : ℕ) : Type 0 where
 
 -- a list of fit trapezoids passes exactly if it is disjoint, and is refused exactly with 13 at the first that overlaps one before it (proofs/Search.antt: `first_overlap_exact`)
 pub record FirstOverlap (i : ℕ) (ts : List Trapezoid) : Type 0 where
-  pub passed : (first_overlap i ts ≡ Passed) ↔ Disjoint ts
-  pub refused : (n k : ℕ) → (first_overlap i ts ≡ Refused n k) ↔ ((n ≡ 13) × OverlapAt i ts k)
+  pub passed : (first_overlap i ts ≡ Ok tt) ↔ Disjoint ts
+  pub refused : (n k : ℕ) → (first_overlap i ts ≡ refused_by n k) ↔ ((n ≡ 13) × OverlapAt i ts k)
 
 abbrev pub FirstOverlapExact : Type 0
 FirstOverlapExact = (L i : ℕ) (ts : List Trapezoid) → All (FitFor L) ts → FirstOverlap i ts

@@ -2,7 +2,7 @@
 #![tactic(auto)]
 
 use geometry::Meeting;
-use integer::Ordering;
+use std::cmp::Ordering;
 
 // A column: the numbers of the four sides in their vertical order, carried from column to column, and whether the column lies in the range of the
 // one trapezoid and of the other. Side 0 is the first trapezoid's bottom, 1 its top, 2 the second one's bottom, 3 its top.

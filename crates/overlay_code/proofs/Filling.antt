@@ -1,4 +1,5 @@
 -- The columns filled from left to right: what holds before each event, that a turn keeps it, and what it says at each way out.
+use Rattle.std.specs.Prelude.{Option, Some, None}
 use mathlib.Core.Path.{◌≡◌, refl, sym, ◌∙◌, ap, subst}
 use mathlib.Core.Bool.{Bool, true, false, cond}
 use mathlib.Core.List.{List, [], ◌∷◌, ◌++◌, map}
@@ -13,21 +14,18 @@ use borrow.Rule.Slice.PartMut.{put_mid}
 use Rattle.integer.specs.declared.Int.{Int}
 use Rattle.integer.specs.Fraction.{Fraction, Proper}
 use Rattle.records.specs.Limits.{memory_width}
-use Rattle.levels.specs.Levels.{levels}
 use Rattle.geometry.specs.declared.Base.{Base}
 use Rattle.geometry.specs.declared.Position.{Position}
 use Rattle.geometry.specs.declared.Trapezoid.{Trapezoid}
 use Rattle.geometry.specs.Limit.{coordinate_limit}
 use Rattle.geometry.specs.Fitness.{FitFor}
 use Rattle.geometry.specs.Positions.{position}
-use Rattle.geometry.specs.declared.Fill.{Fill}
-use Rattle.geometry.specs.declared.Fill.TheVariants.{NoRoom, Written}
 use Rattle.sweep.specs.Segments.{Segment, spanning}
-use Rattle.sweep.specs.Sweep.{earlier, columns}
+use Rattle.sweep.specs.Sweep.{columns}
 use Rattle.overlay.specs.declared.Column.{Column}
 use Rattle.overlay.specs.declared.Orders.{Orders}
 use Rattle.overlay.specs.Overlaps.{overlaps}
-use Rattle.overlay.specs.Overlay.{Part, sides, in_range, parts, subdivision, overlay, tagged}
+use Rattle.overlay.specs.Overlay.{sides, in_range, parts, subdivision, overlay, tagged}
 use Rattle.geometry_code.specs.Code.{fraction_of, PositionOf}
 use Rattle.geometry_code.proofs.Branches.{small_position}
 use Rattle.trapezoids_code.specs.Tails.{in_front, Borrowed, FilledAs}
@@ -100,7 +98,7 @@ fill_start A B tag room n a b c out h r = record { writing = write_start (tagged
 
 module _ {A B : Trapezoid} (ha : FitFor coordinate_limit A) (hb : FitFor coordinate_limit B) {tag : ℕ} (ht : 1 ≤ tag) {W room n : ℕ} {a b : List ℤ} {c : List ℕ} {out : List ℤ} {order : List ℕ} {k i : ℕ}
     (s : Standing A B n a b c) (h : Filling A B tag W room n a b c out order k i) where
-  pub fill_stop : n ≤ i + 1 → FilledAs W room (tagged tag (columns_of A B (bases s))) (Written k) out
+  pub fill_stop : n ≤ i + 1 → FilledAs W room (tagged tag (columns_of A B (bases s))) (Some k) out
   fill_stop l =
       write_stop h.writing
       (ap (tagged tag) (few_columns A B (drop i (bases s)) (let e = length-drop i (bases s) in omega (arith, e, bases_length s))) ∙ (unfold tagged in refl))
@@ -144,15 +142,15 @@ module _ {A B : Trapezoid} (ha : FitFor coordinate_limit A) (hb : FitFor coordin
         (ap (strips tag A B from to d.in_a d.in_b) (col.order ∙ ap (λ (y : Fraction). order_at A B y d.in_a d.in_b) p.is)
         ∙ strips_exact ha hb from to proper tag ht d.in_a d.in_b (col.in_a_is ∙ ap (λ (y : Fraction). in_range y A) p.is) (col.in_b_is ∙ ap (λ (y : Fraction). in_range y B) p.is)))
 
-    module _ (f : Fill) (t : List ℤ) (g : FilledAs (length (tail out k)) (room - k) more f t) where
+    module _ (f : Option ℕ) (t : List ℤ) (g : FilledAs (length (tail out k)) (room - k) more f t) where
       -- they do not fit
-      pub fill_full : f ≡ NoRoom → room < length (tagged tag (columns_of A B (bases s)))
+      pub fill_full : f ≡ None → room < length (tagged tag (columns_of A B (bases s)))
       fill_full e = write_full h.writing more later turn f t g e
 
-      pub fill_upto : (m : ℕ) → f ≡ Written m → k + m ≤ room
+      pub fill_upto : (m : ℕ) → f ≡ Some m → k + m ≤ room
       fill_upto m e = write_upto h.writing more later turn f t g m e
 
-      pub fill_turn : (m : ℕ) → f ≡ Written m → Filling A B tag W room n a b c (put_mid (memory_width * k) (length out - memory_width * k) out t) d.order (k + m) (i + 1)
+      pub fill_turn : (m : ℕ) → f ≡ Some m → Filling A B tag W room n a b c (put_mid (memory_width * k) (length out - memory_width * k) out t) d.order (k + m) (i + 1)
       fill_turn m e = record { writing = write_turn h.writing more later turn f t g m e; four = column_four ha hb (fraction_of at) d col; within = omega arith; ranged = ranged_next l }
 
 -- the same orders, told of the column
@@ -174,19 +172,19 @@ test_swap zero (suc n) = eqb-zero-suc n ∙ sym (eqb-suc-zero n)
 test_swap (suc m) zero = eqb-suc-zero m ∙ sym (eqb-zero-suc m)
 test_swap (suc m) (suc n) = eqb-suc-suc m n ∙ test_swap m n ∙ sym (eqb-suc-suc n m)
 
-module _ (A B : Trapezoid) (tag room n : ℕ) (f : Fill) (d : List ℤ) where
+module _ (A B : Trapezoid) (tag room n : ℕ) (f : Option ℕ) (d : List ℤ) where
   pub overlay_columns : overlaps A B ≡ true → FilledAs n room (tagged tag (subdivision A B)) f d → FilledAs n room (tagged tag (overlay A B)) f d
   unfolding overlay
   overlay_columns e h = rw e h
   -- by the events within the range of A
 
-module _ {A B : Trapezoid} (ha : FitFor coordinate_limit A) (hb : FitFor coordinate_limit B) (tag : ℕ) (ht : of_first tag ≡ true) (room W : ℕ) (f : Fill) (d : List ℤ) where
+module _ {A B : Trapezoid} (ha : FitFor coordinate_limit A) (hb : FitFor coordinate_limit B) (tag : ℕ) (ht : of_first tag ≡ true) (room W : ℕ) (f : Option ℕ) (d : List ℤ) where
   pub overlay_filled : overlaps A B ≡ true → {n : ℕ} {a b : List ℤ} {c : List ℕ} → EventsWithin A B n a b c → FilledAs W room (tagged tag (columns_of A B (map (entry_name A B) (stored n a b c)))) f d → FilledAs W room (tagged tag (overlay A B)) f d
   overlay_filled o {n} {a} {b} {c} e h =
       overlay_columns A B tag room W f d o
       (subst (λ (ts : List Trapezoid). FilledAs W room ts f d) (ap (λ (ks : List Base). tagged tag (columns_of A B ks)) e.names.is ∙ sym (within_enough ha hb tag ht (overlap_wide A B o))) h)
 
-module _ (A B : Trapezoid) (tag room n : ℕ) (f : Fill) (d : List ℤ) where
+module _ (A B : Trapezoid) (tag room n : ℕ) (f : Option ℕ) (d : List ℤ) where
   pub overlay_apart : overlaps A B ≡ false → of_first tag ≡ true → FilledAs n room (in_front (eqb tag 1) A []) f d → FilledAs n room (tagged tag (overlay A B)) f d
   overlay_apart apart ht h = subst (λ (ts : List Trapezoid). FilledAs n room ts f d) (sym is) h
     where

@@ -2,7 +2,7 @@
 use mathlib.Core.Path.{◌≡◌, refl, sym, ◌∙◌, ap, subst}
 use mathlib.Core.Bool.{Bool, true, false, not, cond, ◌&&◌}
 use mathlib.Core.List.{List, [], ◌∷◌, ◌++◌}
-use mathlib.Core.Logic.{◌⊎◌, inl, inr}
+use mathlib.Core.Logic.{inl, inr}
 use Prim.Native.Nat.{ℕ, zero, suc, ◌≤◌}
 use native.Mathlib.Omega.{arith}
 use lib.Dec.{T, eqb, eqb_refl}
@@ -13,7 +13,7 @@ use Rattle.lists.specs.Tests.{keep}
 use Rattle.lists.proofs.Tests.{true_is, false_is, is_true, is_false, yes_or_no}
 use Rattle.lists.proofs.Lists.{all_map, all_of}
 use Rattle.lists.proofs.Kept.{keep_all}
-use Rattle.integer.specs.Fraction.{Fraction, Proper, before}
+use Rattle.integer.specs.Fraction.{Proper, before}
 use Rattle.integer.proofs.Fraction.{before→at_most, at_most_refl, before_at_most_trans}
 use Rattle.levels.specs.Levels.{insert, levels, Rising}
 use Rattle.levels.proofs.Laws.{insert_all, levels_all, levels_rising}

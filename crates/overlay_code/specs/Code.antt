@@ -1,18 +1,13 @@
 -- Parts of the first trapezoid, and columns between events in arrays.
 use Rattle.std.specs.Prelude.{◌≡◌, Bool, true, not, ◌&&◌, List, [], ◌∷◌, ℕ, ◌≤◌, eqb, length, ℤ}
 use Rattle.lists.specs.Lists.{All}
-use Rattle.integer.specs.Fraction.{Fraction, before}
 use Rattle.geometry.specs.declared.Base.{Base}
 use Rattle.geometry.specs.declared.Trapezoid.{Trapezoid}
-use Rattle.geometry.specs.declared.Meeting.{Meeting}
 use Rattle.geometry.specs.Positions.{position}
-use Rattle.geometry.specs.Ranges.{common_left, common_right}
 use Rattle.sweep.specs.Segments.{Segment}
 use Rattle.sweep.specs.Sweep.{columns}
-use Rattle.overlay.specs.Overlaps.{overlaps}
 use Rattle.overlay.specs.Overlay.{Part, sides, parts, in_range}
 use Rattle.sorting_code.specs.Entries.{stored, Stands}
-use Rattle.overlaps_code.specs.Code.{Opposed}
 use Rattle.overlay_events_code.specs.Events.{entry_name}
 
 -- what has the tag lies in the first trapezoid
@@ -35,8 +30,3 @@ abbrev pub Ranged : Trapezoid → List Base → Type 0
 Ranged A [] = Unit {0}
 Ranged A (k ∷ []) = Unit {0}
 Ranged A (k ∷ l ∷ ks) = (in_range (position k) A ≡ true) × Ranged A (l ∷ ks)
-
--- yes, or by the test
-abbrev pub KnownOr : Bool → Meeting → Meeting → Fraction → Fraction → Bool → Type 0
-KnownOr known m k lo hi r =
-    (A B : Trapezoid) → (known ≡ true → overlaps A B ≡ true) → Opposed A B m k → lo ≡ common_left A B → hi ≡ common_right A B → before lo hi ≡ true → r ≡ overlaps A B

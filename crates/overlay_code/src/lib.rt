@@ -4,15 +4,14 @@
 ghost use Rattle.std.specs.Prelude.{◌≡◌, true, map, ◌≤◌, length};
 ghost use Rattle.overlay.specs.Overlay.{overlay, tagged};
 ghost use Rattle.overlay.specs.Overlaps.{overlaps};
-ghost use Rattle.geometry_code.specs.Code.{fraction_of, SmallMeeting, SmallPosition};
 ghost use Rattle.trapezoids_code.specs.Tails.{Borrowed, FilledAs};
 ghost use Rattle.trapezoids_code.specs.Placed.{Pair, CommonLeft, CommonRight};
 ghost use Rattle.sorting_code.specs.Entries.{stored};
 ghost use Rattle.overlaps_code.specs.Code.{MeetingsOf, Opposed};
 ghost use Rattle.overlay_events_code.specs.Events.{entry_name};
-ghost use Rattle.overlay_code.specs.Code.{of_first, columns_of, Standing, Ranged, KnownOr};
+ghost use Rattle.overlay_code.specs.Code.{of_first, columns_of, Standing, Ranged};
 
-use geometry::{Fill, Meeting, Placed, Position};
+use geometry::{Meeting, Placed, Position};
 use overlay::{Column, Meetings};
 
 // The trapezoids with the tag of the columns between neighbouring events in the range of the first, from left to right.
@@ -27,7 +26,7 @@ fn fill_columns(
     tag: u8,
     out: &mut [i32],
     room: usize,
-) -> Fill
+) -> Option<usize>
     requires pair { Pair a b × MeetingsOf a.shape b.shape m × Standing a.shape b.shape count num.now den.now name.now × (1 ≤ tag) × Borrowed out.old room }
     requires ranged { Ranged a.shape (map (entry_name a.shape b.shape) (stored count num.now den.now name.now)) }
     ensures { FilledAs (length out.old) room (tagged tag (columns_of a.shape b.shape (map (entry_name a.shape b.shape) (stored count num.now den.now name.now)))) result out.new }
@@ -39,15 +38,15 @@ fn fill_columns(
         in_b: false,
     };
     let mut n = 0;
-    let mut i = 0;
-    while i + 1 < count {
-        let x = integer_code::get_number(num, i);
-        let y = integer_code::get_number(den, i);
-        let at = Position { num: x, den: y };
+    for i in 0..count.saturating_sub(1) {
+        let at = Position {
+            num: integer_code::get_number(num, i),
+            den: integer_code::get_number(den, i),
+        };
         let in_b = columns_code::in_range(b, at);
         let o = columns_code::orders_at(m, at);
         c = columns_code::column_at(o, true, in_b, c);
-        let f = strips_code::fill_column(
+        let Some(k) = strips_code::fill_column(
             a.shape,
             b.shape,
             tag,
@@ -57,15 +56,13 @@ fn fill_columns(
             c,
             &mut out[records::MEMORY_WIDTH * n..],
             room - n,
-        );
-        let Fill::Written(k) = f else {
-            records_code::clear(out);
-            return Fill::NoRoom;
+        ) else {
+            out.fill(0);
+            return None;
         };
         n += k;
-        i += 1;
     }
-    Fill::Written(n)
+    Some(n)
 }
 
 // The trapezoids with the tag of the overlay of two that overlap, with a common range from lo to hi, by two of their meetings.
@@ -79,16 +76,17 @@ fn fill_overlapping(
     tag: u8,
     out: &mut [i32],
     room: usize,
-) -> Fill
+) -> Option<usize>
     requires pair { Pair a b × Opposed a.shape b.shape m03 m12 × CommonLeft a b lo × CommonRight a b hi }
     requires shape_value { (overlaps a.shape b.shape ≡ true) × (of_first tag ≡ true) × Borrowed out.old room }
     ensures { FilledAs (length out.old) room (tagged tag (overlay a.shape b.shape)) result out.new }
 {
-    let s = a.shape;
-    let t = b.shape;
-    let m02 = geometry_code::meeting_of(s.bottom, t.bottom);
-    let m13 = geometry_code::meeting_of(s.top, t.top);
-    let m = Meetings { m02, m03, m12, m13 };
+    let m = Meetings {
+        m02: geometry_code::meeting_of(a.shape.bottom, b.shape.bottom),
+        m03,
+        m12,
+        m13: geometry_code::meeting_of(a.shape.top, b.shape.top),
+    };
     let mut num = [0; 8];
     let mut den = [0; 8];
     let mut name = [0; 8];
@@ -96,49 +94,42 @@ fn fill_overlapping(
     fill_columns(a, b, m, &num, &den, &name, count, tag, out, room)
 }
 
-// Whether two trapezoids overlap that are known to overlap, or by their meetings.
-fn overlaps_or(known: bool, m03: Meeting, m12: Meeting, lo: Position, hi: Position) -> bool
-    requires { SmallMeeting m03 × SmallMeeting m12 × SmallPosition lo × SmallPosition hi }
-    ensures { KnownOr known m03 m12 (fraction_of lo) (fraction_of hi) result }
+// The trapezoids of the overlay of two that overlap that have the tag, of parts in the first, written into a blank tail of which `room` records
+// may be filled.
+pub fn overlapping_into(
+    a: Placed,
+    b: Placed,
+    tag: u8,
+    out: &mut [i32],
+    room: usize,
+) -> Option<usize>
+    requires { Pair a b × (of_first tag ≡ true) × (overlaps a.shape b.shape ≡ true) × Borrowed out.old room }
+    ensures { FilledAs (length out.old) room (tagged tag (overlay a.shape b.shape)) result out.new }
 {
-    if known {
-        return true;
-    }
-    overlaps_code::overlapping_by(m03, m12, lo, hi)
+    let lo = trapezoids_code::common_left(a, b);
+    let hi = trapezoids_code::common_right(a, b);
+    let m03 = geometry_code::meeting_of(a.shape.bottom, b.shape.top);
+    let m12 = geometry_code::meeting_of(a.shape.top, b.shape.bottom);
+    fill_overlapping(a, b, m03, m12, lo, hi, tag, out, room)
 }
 
-// The trapezoids of the overlay that have the tag, of parts in the first, written into a blank tail of which `room` records may be filled. The
-// test whether the two overlap is left out where that is known.
-fn overlay_known(known: bool, a: Placed, b: Placed, tag: u8, out: &mut [i32], room: usize) -> Fill
-    requires { Pair a b × (known ≡ true → overlaps a.shape b.shape ≡ true) × (of_first tag ≡ true) × Borrowed out.old room }
+// The same of any two.
+pub fn overlay_into(a: Placed, b: Placed, tag: u8, out: &mut [i32], room: usize) -> Option<usize>
+    requires { Pair a b × (of_first tag ≡ true) × Borrowed out.old room }
     ensures { FilledAs (length out.old) room (tagged tag (overlay a.shape b.shape)) result out.new }
 {
     let lo = trapezoids_code::common_left(a, b);
     let hi = trapezoids_code::common_right(a, b);
     if geometry_code::is_left(geometry_code::compare(lo, hi)) {
-        let s = a.shape;
-        let t = b.shape;
-        let m03 = geometry_code::meeting_of(s.bottom, t.top);
-        let m12 = geometry_code::meeting_of(s.top, t.bottom);
-        if overlaps_or(known, m03, m12, lo, hi) {
+        let m03 = geometry_code::meeting_of(a.shape.bottom, b.shape.top);
+        let m12 = geometry_code::meeting_of(a.shape.top, b.shape.bottom);
+        if overlaps_code::overlapping_by(m03, m12, lo, hi) {
             return fill_overlapping(a, b, m03, m12, lo, hi, tag, out, room);
         }
     }
-    trapezoids_code::put_if(tag == 1, a.shape, out, room)
-}
-
-// The same of two that overlap.
-pub fn overlapping_into(a: Placed, b: Placed, tag: u8, out: &mut [i32], room: usize) -> Fill
-    requires { Pair a b × (of_first tag ≡ true) × (overlaps a.shape b.shape ≡ true) × Borrowed out.old room }
-    ensures { FilledAs (length out.old) room (tagged tag (overlay a.shape b.shape)) result out.new }
-{
-    overlay_known(true, a, b, tag, out, room)
-}
-
-// And of any two.
-pub fn overlay_into(a: Placed, b: Placed, tag: u8, out: &mut [i32], room: usize) -> Fill
-    requires { Pair a b × (of_first tag ≡ true) × Borrowed out.old room }
-    ensures { FilledAs (length out.old) room (tagged tag (overlay a.shape b.shape)) result out.new }
-{
-    overlay_known(false, a, b, tag, out, room)
+    if tag == 1 {
+        trapezoids_code::put(a.shape, out, room)
+    } else {
+        Some(0)
+    }
 }

@@ -1,10 +1,11 @@
 -- Events put into the arrays one by one.
+use Rattle.std.specs.Prelude.{Option, Some, None}
+use Rattle.std.specs.Bool.{then_some}
 use mathlib.Core.Path.{◌≡◌, refl, sym, ◌∙◌, ap, subst}
-use mathlib.Core.Bool.{Bool, true, false, cond}
+use mathlib.Core.Bool.{Bool, true, false}
 use mathlib.Core.List.{List, [], ◌∷◌}
 use Prim.Native.Nat.{ℕ, ◌+◌, ◌<◌, ◌≤◌}
 use native.Mathlib.Omega.{arith}
-use lib.Dec.{eqb}
 use lib.ListN.{length}
 use lib.IntN.{ℤ}
 use Rattle.integer.specs.Fraction.{Fraction, before}
@@ -13,18 +14,16 @@ use Rattle.geometry.specs.declared.Base.{Base}
 use Rattle.geometry.specs.declared.Trapezoid.{Trapezoid}
 use Rattle.geometry.specs.declared.Meeting.{Meeting}
 use Rattle.geometry.specs.declared.Position.{Position}
-use Rattle.geometry.specs.declared.Crossing.{Crossing}
-use Rattle.geometry.specs.declared.Crossing.TheVariants.{Nowhere, At}
 use Rattle.geometry.specs.Positions.{position}
 use Rattle.geometry.specs.Ranges.{crossing, common_left, common_right}
 use Rattle.lists.specs.Tests.{keep}
 use Rattle.overlay.specs.Overlaps.{crosses_in_common}
 use Rattle.overlay.specs.Overlay.{side_crossings}
-use Rattle.geometry_code.specs.Code.{MeetingOf, fraction_of, SmallPosition, PositionOf}
-use Rattle.sorting_code.specs.Entries.{entry_of, SmallKey, Stored, Room, Names, Grown}
+use Rattle.geometry_code.specs.Code.{MeetingOf, SmallPosition, SmallCrossing, PositionOf}
+use Rattle.sorting_code.specs.Entries.{entry_of, Stored, Room, Names, Grown}
 use Rattle.sorting_code.proofs.Naming.{none_named, named_stored, named_more}
-use Rattle.overlaps_code.specs.Code.{cross_between, CrossingBetween}
-use Rattle.overlay_events_code.specs.Events.{named, entry_name, front_if, events_within, Eight, AddedIf, MeetingAdded, place_if}
+use Rattle.overlaps_code.specs.Code.{cross_between, CrossingBetween, MeetingBetween}
+use Rattle.overlay_events_code.specs.Events.{named, entry_name, front_if, events_within, Eight, AddedIf}
 
 -- at most j events, which name the levels of ks
 pub record Having (A B : Trapezoid) (ks : List Base) (j n : ℕ) (a b : List ℤ) (c : List ℕ) : Type 0 where
@@ -33,12 +32,9 @@ pub record Having (A B : Trapezoid) (ks : List Base) (j n : ℕ) (a b : List ℤ
   pub eight : Eight a b c
 
 -- the event k is put in if t says so: x is where it stands
-abbrev StandsIf : Bool → Base → Crossing → Type 0
-StandsIf t k Nowhere = t ≡ false
-StandsIf t k (At p) = (t ≡ true) × PositionOf k p
-
-pub eight_kept : {a b a' b' : List ℤ} {c c' : List ℕ} → Eight a b c → length a' ≡ length a → length b' ≡ length b → length c' ≡ length c → Eight a' b' c'
-eight_kept e p q r = record { nums = p ∙ e.nums; dens = q ∙ e.dens; names = r ∙ e.names }
+abbrev StandsIf : Bool → Base → Option Position → Type 0
+StandsIf t k None = t ≡ false
+StandsIf t k (Some p) = (t ≡ true) × PositionOf k p
 
 module _ (A B : Trapezoid) where
   pub having_none : (a b : List ℤ) (c : List ℕ) → Eight a b c → Having A B [] 0 0 a b c
@@ -56,42 +52,47 @@ module _ (A B : Trapezoid) where
           let e = h.eight in
           record { nums = omega (arith, h.upto, e.nums); dens = omega (arith, h.upto, e.dens); names = omega (arith, h.upto, e.names) }
 
-    module _ {r : ℕ} {a' b' : List ℤ} {c' : List ℕ} (e : Eight a' b' c') where
-      pub having_more : (k : Base) (id : ℕ) (p : Position) → PositionOf k p → named A B id ≡ k → Grown n a b c (entry_of p id) r a' b' c' → Having A B (k ∷ ks) (j + 1) r a' b' c'
-      having_more k id p s i g =
+    -- the arrays keep their lengths
+    module _ {a' b' : List ℤ} {c' : List ℕ} (nums : length a' ≡ length a) (dens : length b' ≡ length b) (names : length c' ≡ length c) where
+      kept : Eight a' b' c'
+      kept = record { nums = nums ∙ h.eight.nums; dens = dens ∙ h.eight.dens; names = names ∙ h.eight.names }
+
+      pub having_more : {r : ℕ} (k : Base) (id : ℕ) (p : Position) → PositionOf k p → named A B id ≡ k → Grown n a b c (entry_of p id) r a' b' c' → Having A B (k ∷ ks) (j + 1) r a' b' c'
+      having_more {r} k id p s i g =
           record {
             names = subst (λ (q : Base). Names position (entry_name A B) (q ∷ ks) r a' b' c') i
                 (named_more position (entry_name A B) ks n a b c h.names (entry_of p id)
                 (record { is = s.is ∙ ap position (sym i); small = record { num_small = s.small.comparable.num_small; den_small = s.small.comparable.den_small; proper = s.small.proper } })
                 r a' b' c' g);
             upto = omega (arith, g.upto, h.upto);
-            eight = e;
+            eight = kept;
           }
 
-      having_if : (t : Bool) (k : Base) (id : ℕ) (x : Crossing) → StandsIf t k x → named A B id ≡ k → AddedIf x id n a b c r a' b' c' → Having A B (front_if t k ks) (j + 1) r a' b' c'
-      having_if t k id Nowhere s i g =
+      having_if : {r : ℕ} (t : Bool) (k : Base) (id : ℕ) (x : Option Position) → StandsIf t k x → named A B id ≡ k → AddedIf x id n a b c r a' b' c' → Having A B (front_if t k ks) (j + 1) r a' b' c'
+      having_if {r} t k id None s i g =
           subst (λ (q : Bool). Having A B (front_if q k ks) (j + 1) r a' b' c') (sym s)
-          (record { names = rw (g.0, g.1, g.2, g.3) h.names; upto = omega (arith, g.0, h.upto); eight = e })
-      having_if t k id (At p) s i g = subst (λ (q : Bool). Having A B (front_if q k ks) (j + 1) r a' b' c') (sym s.0) (having_more k id p s.1 i g)
+          (record { names = rw (g.0, g.1, g.2, g.3) h.names; upto = omega (arith, g.0, h.upto); eight = kept })
+      having_if {r} t k id (Some p) s i g = subst (λ (q : Bool). Having A B (front_if q k ks) (j + 1) r a' b' c') (sym s.0) (having_more k id p s.1 i g)
 
       -- a crossing
-      pub having_meeting : {lo hi : Fraction} (l m : Line) (k : Meeting) (id : ℕ) → lo ≡ common_left A B → hi ≡ common_right A B → MeetingOf l m k → named A B id ≡ crossing l m → MeetingAdded lo hi k id n a b c r a' b' c'
+      pub having_meeting : {r : ℕ} {lo hi : Fraction} (l m : Line) {k : Meeting} (id : ℕ) (x : Option Position) → lo ≡ common_left A B → hi ≡ common_right A B → MeetingOf l m k → named A B id ≡ crossing l m → MeetingBetween lo hi k x → AddedIf x id n a b c r a' b' c'
           → Having A B (front_if (crosses_in_common A B (crossing l m)) (crossing l m) ks) (j + 1) r a' b' c'
-      having_meeting {lo} {hi} l m k id el eh o i g =
-          subst (λ (t : Bool). Having A B (front_if t (crossing l m) ks) (j + 1) r a' b' c') same (having_if (cross_between lo hi (crossing l m)) (crossing l m) id g.found (stands g.found (g.between l m o)) i g.added)
+      having_meeting {r} {lo} {hi} l m id x el eh o i between g =
+          subst (λ (t : Bool). Having A B (front_if t (crossing l m) ks) (j + 1) r a' b' c') same (having_if (cross_between lo hi (crossing l m)) (crossing l m) id x (stands x (between l m o)) i g)
         where
           same : cross_between lo hi (crossing l m) ≡ crosses_in_common A B (crossing l m)
           same = unfold cross_between crosses_in_common in rw (el, eh)
 
-          stands : (x : Crossing) → CrossingBetween lo hi l m x → StandsIf (cross_between lo hi (crossing l m)) (crossing l m) x
-          stands Nowhere z = z
-          stands (At p) z = z
+          stands : (x : Option Position) → CrossingBetween lo hi l m x → StandsIf (cross_between lo hi (crossing l m)) (crossing l m) x
+          stands None z = z
+          stands (Some p) z = z
 
       -- a base that may lie outside the range
-      pub having_inside : (t : Bool) (k : Base) (id : ℕ) (p : Position) → PositionOf k p → named A B id ≡ k → AddedIf (place_if t p) id n a b c r a' b' c' → Having A B (front_if t k ks) (j + 1) r a' b' c'
-      having_inside t k id p s i g = having_if t k id (place_if t p) (go t) i g
+      pub having_inside : {r : ℕ} {t w : Bool} (k : Base) (id : ℕ) {p : Position} (x : Option Position) → t ≡ w → x ≡ then_some t p → PositionOf k p → named A B id ≡ k → AddedIf x id n a b c r a' b' c' → Having A B (front_if w k ks) (j + 1) r a' b' c'
+      having_inside {r} {t} {w} k id {p} x e f s i g =
+          subst (λ (q : Bool). Having A B (front_if q k ks) (j + 1) r a' b' c') e (having_if t k id (then_some t p) (go t) i (subst (λ (y : Option Position). AddedIf y id n a b c r a' b' c') f g))
         where
-          go : (t : Bool) → StandsIf t k (place_if t p)
+          go : (t : Bool) → StandsIf t k (then_some t p)
           go true = (refl, s)
           go false = refl
 
@@ -122,10 +123,10 @@ module _ (A B : Trapezoid) where
   unfolding events_within keep side_crossings
   all_held = refl
 
--- what is put in if it is wanted
-module _ {t : Bool} (p : Position) (id : ℕ) {n r : ℕ} {a b a' b' : List ℤ} {c c' : List ℕ} where
-  pub wanted_in : t ≡ true → Grown n a b c (entry_of p id) r a' b' c' → AddedIf (place_if t p) id n a b c r a' b' c'
-  wanted_in e g = rw e g
-
-  pub left_out : t ≡ false → r ≡ n → a' ≡ a → b' ≡ b → c' ≡ c → AddedIf (place_if t p) id n a b c r a' b' c'
-  left_out e f g h k = rw e (f, g, h, k)
+-- what may be put in
+pub small_some : (t : Bool) (p : Position) {x : Option Position} → x ≡ then_some t p → SmallPosition p → SmallCrossing x
+small_some t p e s = subst SmallCrossing (sym e) (go t)
+  where
+    go : (t : Bool) → SmallCrossing (then_some t p)
+    go true = s
+    go false = tt

@@ -1,19 +1,15 @@
 -- The events of an overlay in the range of the first trapezoid, in arrays, in order.
-use Rattle.std.specs.Prelude.{◌≡◌, Bool, true, false, cond, List, [], ◌∷◌, ℕ, ◌≤◌, eqb, length, ℤ}
+use Rattle.std.specs.Prelude.{◌≡◌, Bool, cond, List, ◌∷◌, ℕ, ◌≤◌, eqb, length, ℤ, Option, Some, None}
 use Rattle.lists.specs.Tests.{keep}
-use Rattle.integer.specs.Fraction.{Fraction, before}
+use Rattle.integer.specs.Fraction.{before}
 use Rattle.geometry.specs.declared.Base.{Base}
 use Rattle.geometry.specs.declared.Trapezoid.{Trapezoid}
-use Rattle.geometry.specs.declared.Meeting.{Meeting}
 use Rattle.geometry.specs.declared.Position.{Position}
-use Rattle.geometry.specs.declared.Crossing.{Crossing}
-use Rattle.geometry.specs.declared.Crossing.TheVariants.{Nowhere, At}
 use Rattle.geometry.specs.Positions.{position}
 use Rattle.geometry.specs.Ranges.{crossing}
 use Rattle.overlay.specs.Overlaps.{crosses_in_common}
 use Rattle.overlay.specs.Overlay.{side_crossings}
 use Rattle.sorting_code.specs.Entries.{Entry, entry_of, Names, Grown}
-use Rattle.overlaps_code.specs.Code.{MeetingBetween}
 
 -- the place of an event in the order of names: A left, A right, B left, B right, bottom-bottom, A bottom with B top, A top with B bottom, top-top
 unfoldable pub named : Trapezoid → Trapezoid → ℕ → Base
@@ -50,16 +46,6 @@ pub record EventsWithin (A B : Trapezoid) (n : ℕ) (a b : List ℤ) (c : List �
   pub few : n ≤ 8
 
 -- a position with a name, if there is one, has been put in
-abbrev pub AddedIf : Crossing → ℕ → ℕ → List ℤ → List ℤ → List ℕ → ℕ → List ℤ → List ℤ → List ℕ → Type 0
-AddedIf Nowhere id n a b c r a' b' c' = (r ≡ n) × (a' ≡ a) × (b' ≡ b) × (c' ≡ c)
-AddedIf (At p) id n a b c r a' b' c' = Grown n a b c (entry_of p id) r a' b' c'
-
-pub record MeetingAdded (lo hi : Fraction) (k : Meeting) (id n : ℕ) (a b : List ℤ) (c : List ℕ) (r : ℕ) (a' b' : List ℤ) (c' : List ℕ) : Type 0 where
-  pub found : Crossing
-  pub between : MeetingBetween lo hi k found
-  pub added : AddedIf found id n a b c r a' b' c'
-
--- p, if it is wanted
-abbrev pub place_if : Bool → Position → Crossing
-place_if true p = At p
-place_if false p = Nowhere
+abbrev pub AddedIf : Option Position → ℕ → ℕ → List ℤ → List ℤ → List ℕ → ℕ → List ℤ → List ℤ → List ℕ → Type 0
+AddedIf None id n a b c r a' b' c' = (r ≡ n) × (a' ≡ a) × (b' ≡ b) × (c' ≡ c)
+AddedIf (Some p) id n a b c r a' b' c' = Grown n a b c (entry_of p id) r a' b' c'

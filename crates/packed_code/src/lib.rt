@@ -1,7 +1,7 @@
 // Each answer as one 64-bit number. include/loxurfa.h says what its bits mean.
 #![tactic(auto)]
 
-ghost use Rattle.std.specs.Prelude.{◌≡◌, ◌<◌, ◌≤◌};
+ghost use Rattle.std.specs.Prelude.{◌≡◌, ℕ, ◌<◌, ◌≤◌};
 ghost use Rattle.records.specs.Limits.{max_records};
 ghost use Rattle.geometry.specs.Fitness.{SmallRefusal};
 ghost use Rattle.files.specs.Outcomes.{read_answer, written_answer, SmallAnswer};
@@ -27,134 +27,134 @@ fn success(high: usize, overlays: usize) -> u64
     4294967296 * (high as u64) + (overlays as u64)
 }
 
-pub fn pack_fractured(answer: Fractured) -> u64
-    requires { SmallAnswer (fractured_answer answer) }
-    ensures { result ≡ packed (fractured_answer answer) }
-{
-    match answer {
-        Fractured::Refused { number, place } => {
-            return refusal(number, place);
-        }
-        Fractured::Done { pieces, overlays } => {
-            return success(pieces, overlays);
+// An answer that a function of the C interface packs.
+pub trait Packed {
+    // What is known of the sizes in it.
+    ghost small: { Self → Type 0 };
+
+    // The number whose bits include/loxurfa.h describes.
+    ghost bits: { Self → ℕ };
+
+    fn pack(self) -> u64
+        requires { small self }
+        ensures { result ≡ bits self };
+}
+
+impl Packed for Fractured {
+    ghost small = { λ answer. SmallAnswer (fractured_answer answer) };
+
+    ghost bits = { λ answer. packed (fractured_answer answer) };
+
+    fn pack(self) -> u64 {
+        match self {
+            Fractured::Refused { number, place } => refusal(number, place),
+            Fractured::Done { pieces, overlays } => success(pieces, overlays),
         }
     }
 }
 
-pub fn pack_combined(answer: Combined) -> u64
-    requires { SmallAnswer (combined_answer answer) }
-    ensures { result ≡ packed (combined_answer answer) }
-{
-    match answer {
-        Combined::Refused { number, place } => {
-            return refusal(number, place);
-        }
-        Combined::Done { pieces, overlays } => {
-            return success(pieces, overlays);
+impl Packed for Combined {
+    ghost small = { λ answer. SmallAnswer (combined_answer answer) };
+
+    ghost bits = { λ answer. packed (combined_answer answer) };
+
+    fn pack(self) -> u64 {
+        match self {
+            Combined::Refused { number, place } => refusal(number, place),
+            Combined::Done { pieces, overlays } => success(pieces, overlays),
         }
     }
 }
 
-pub fn pack_deoverlapped(answer: Deoverlapped) -> u64
-    requires { SmallAnswer (deoverlapped_answer answer) }
-    ensures { result ≡ packed (deoverlapped_answer answer) }
-{
-    match answer {
-        Deoverlapped::Refused { number, place } => {
-            return refusal(number, place);
-        }
-        Deoverlapped::Done { pieces, overlays } => {
-            return success(pieces, overlays);
+impl Packed for Deoverlapped {
+    ghost small = { λ answer. SmallAnswer (deoverlapped_answer answer) };
+
+    ghost bits = { λ answer. packed (deoverlapped_answer answer) };
+
+    fn pack(self) -> u64 {
+        match self {
+            Deoverlapped::Refused { number, place } => refusal(number, place),
+            Deoverlapped::Done { pieces, overlays } => success(pieces, overlays),
         }
     }
 }
 
-pub fn pack_equality(answer: Equality) -> u64
-    requires { SmallEqualityAnswer (equality_answer answer) }
-    ensures { result ≡ packed_equality (equality_answer answer) }
-{
-    match answer {
-        Equality::Refused { number, place } => {
-            return refusal(number, place);
-        }
-        Equality::Same { overlays } => {
-            return success(0, overlays);
-        }
-        Equality::Differs { operand, overlays } => {
-            return success((operand + 1) as usize, overlays);
+impl Packed for Equality {
+    ghost small = { λ answer. SmallEqualityAnswer (equality_answer answer) };
+
+    ghost bits = { λ answer. packed_equality (equality_answer answer) };
+
+    fn pack(self) -> u64 {
+        match self {
+            Equality::Refused { number, place } => refusal(number, place),
+            Equality::Same { overlays } => success(0, overlays),
+            Equality::Differs { operand, overlays } => success((operand + 1) as usize, overlays),
         }
     }
 }
 
-pub fn pack_containment(answer: Containment) -> u64
-    requires { SmallPointAnswer (point_answer answer) }
-    ensures { result ≡ packed_point (point_answer answer) }
-{
-    match answer {
-        Containment::Refused { number, place } => {
-            return refusal(number, place);
-        }
-        Containment::Yes => {
-            return success(1, 0);
-        }
-        Containment::No => {
-            return success(0, 0);
+impl Packed for Containment {
+    ghost small = { λ answer. SmallPointAnswer (point_answer answer) };
+
+    ghost bits = { λ answer. packed_point (point_answer answer) };
+
+    fn pack(self) -> u64 {
+        match self {
+            Containment::Refused { number, place } => refusal(number, place),
+            Containment::Yes => success(1, 0),
+            Containment::No => success(0, 0),
         }
     }
 }
 
-pub fn pack_connected(answer: Connected) -> u64
-    requires { SmallComponentsAnswer (connected_answer answer) }
-    ensures { result ≡ packed_count (connected_answer answer) }
-{
-    match answer {
-        Connected::Refused { number, place } => {
-            return refusal(number, place);
-        }
-        Connected::Done { components } => {
-            return success(components, 0);
+impl Packed for Connected {
+    ghost small = { λ answer. SmallComponentsAnswer (connected_answer answer) };
+
+    ghost bits = { λ answer. packed_count (connected_answer answer) };
+
+    fn pack(self) -> u64 {
+        match self {
+            Connected::Refused { number, place } => refusal(number, place),
+            Connected::Done { components } => success(components, 0),
         }
     }
 }
 
-pub fn pack_extracted(answer: Extracted) -> u64
-    requires { SmallAnswer (extracted_answer answer) }
-    ensures { result ≡ packed (extracted_answer answer) }
-{
-    match answer {
-        Extracted::Refused { number, place } => {
-            return refusal(number, place);
-        }
-        Extracted::Done { triples, overlays } => {
-            return success(triples, overlays);
+impl Packed for Extracted {
+    ghost small = { λ answer. SmallAnswer (extracted_answer answer) };
+
+    ghost bits = { λ answer. packed (extracted_answer answer) };
+
+    fn pack(self) -> u64 {
+        match self {
+            Extracted::Refused { number, place } => refusal(number, place),
+            Extracted::Done { triples, overlays } => success(triples, overlays),
         }
     }
 }
 
-pub fn pack_read(answer: LayersRead) -> u64
-    requires { SmallAnswer (read_answer answer) }
-    ensures { result ≡ packed (read_answer answer) }
-{
-    match answer {
-        LayersRead::Refused { number, place } => {
-            return refusal(number, place);
-        }
-        LayersRead::Done { pieces, overlays } => {
-            return success(pieces, overlays);
+impl Packed for LayersRead {
+    ghost small = { λ answer. SmallAnswer (read_answer answer) };
+
+    ghost bits = { λ answer. packed (read_answer answer) };
+
+    fn pack(self) -> u64 {
+        match self {
+            LayersRead::Refused { number, place } => refusal(number, place),
+            LayersRead::Done { pieces, overlays } => success(pieces, overlays),
         }
     }
 }
 
-pub fn pack_written(answer: LayersWritten) -> u64
-    requires { SmallAnswer (written_answer answer) }
-    ensures { result ≡ packed (written_answer answer) }
-{
-    match answer {
-        LayersWritten::Refused { number, place } => {
-            return refusal(number, place);
-        }
-        LayersWritten::Done { pieces, overlays } => {
-            return success(pieces, overlays);
+impl Packed for LayersWritten {
+    ghost small = { λ answer. SmallAnswer (written_answer answer) };
+
+    ghost bits = { λ answer. packed (written_answer answer) };
+
+    fn pack(self) -> u64 {
+        match self {
+            LayersWritten::Refused { number, place } => refusal(number, place),
+            LayersWritten::Done { pieces, overlays } => success(pieces, overlays),
         }
     }
 }

@@ -35,14 +35,11 @@ fn lies_in(layer: &[i32], x: Int, y: Int, d: Int) -> bool
     requires { All (FitFor coordinate_limit) (layer_of layer.now) × SmallPoint x y d }
     ensures { result ≡ lies_in_layer (point_of x y d) (layer_of layer.now) }
 {
-    let n = layer.len() / records::MEMORY_WIDTH;
-    let mut i = 0;
-    while i < n {
+    for i in 0..layer.len() / records::MEMORY_WIDTH {
         let t = trapezoids_code::load(layer, i);
         if trapezoids_code::contains(t, x, y, d) {
             return true;
         }
-        i += 1;
     }
     false
 }
@@ -51,16 +48,12 @@ fn lies_in(layer: &[i32], x: Int, y: Int, d: Int) -> bool
 fn column_of(first: bool, second: bool) -> usize
     ensures { (result < length memberships) × (membership_at result ≡ record { first = first; second = second }) }
 {
-    if first {
-        if second {
-            return 3;
-        }
-        return 1;
+    match (first, second) {
+        (false, false) => 0,
+        (true, false) => 1,
+        (false, true) => 2,
+        (true, true) => 3,
     }
-    if second {
-        return 2;
-    }
-    0
 }
 
 // Whether a point lies in the result with this code, by whether it lies in the first layer and in the second.
@@ -68,10 +61,7 @@ fn says(code: u32, first: bool, second: bool) -> bool
     requires { code < 5 }
     ensures { result ≡ says_of (code_at code) first second }
 {
-    let answers = answers();
-    let row = code as usize;
-    let column = column_of(first, second);
-    answers[row][column]
+    answers()[code as usize][column_of(first, second)]
 }
 
 // Whether the point (x/d, y/d) lies in the result of the set operation with this code on two layers.

@@ -24,10 +24,11 @@ pub fn terms_at(terms: &[i64], k: usize) -> Coefficients
     requires { (length terms.now ≡ 128) × (k < 32) }
     ensures { result ≡ terms_number terms.now k }
 {
-    let dx = integer_code::get_number(terms, 4 * k);
-    let dy = integer_code::get_number(terms, 4 * k + 1);
-    let offset = integer_code::get_number(terms, 4 * k + 2);
-    Coefficients { dx, dy, offset }
+    Coefficients {
+        dx: integer_code::get_number(terms, 4 * k),
+        dy: integer_code::get_number(terms, 4 * k + 1),
+        offset: integer_code::get_number(terms, 4 * k + 2),
+    }
 }
 
 // Edge number n, with its line and its direction.
@@ -72,17 +73,15 @@ fn add_edge(
     let y = integer_code::get(words, b);
     if integer_code::less(x, y) {
         let l = line_between(words, a, b);
-        let rightward = integer_code::of(1);
-        put_edge(lines, terms, n, l, rightward);
-        return n + 1;
-    }
-    if integer_code::less(y, x) {
+        put_edge(lines, terms, n, l, integer_code::of(1));
+        n + 1
+    } else if integer_code::less(y, x) {
         let l = line_between(words, b, a);
-        let leftward = integer_code::of(-1);
-        put_edge(lines, terms, n, l, leftward);
-        return n + 1;
+        put_edge(lines, terms, n, l, integer_code::of(-1));
+        n + 1
+    } else {
+        n
     }
-    n
 }
 
 // The edges of the polygon whose vertices' coordinates are the words; how many there are.
@@ -90,15 +89,14 @@ pub fn edges_into(words: &[i32], lines: &mut [i32], terms: &mut [i64]) -> usize
     requires { PolygonOnGrid coordinate_limit (polygon_of words.now) × (length words.now ≤ 64) × (length lines.old ≡ 128) × (length terms.old ≡ 128) }
     ensures { EdgesOf (polygon_of words.now) result lines.new terms.new }
 {
-    let n = words.len();
-    if n < 2 {
+    let vertices = words.len() / 2;
+    if vertices == 0 {
         return 0;
     }
+    let last = vertices - 1;
     let mut m = 0;
-    let mut k = 0;
-    while k + 2 + 1 < n {
-        m = add_edge(words, k, k + 2, lines, terms, m);
-        k += 2;
+    for k in 0..last {
+        m = add_edge(words, 2 * k, 2 * k + 2, lines, terms, m);
     }
-    add_edge(words, k, 0, lines, terms, m)
+    add_edge(words, 2 * last, 0, lines, terms, m)
 }

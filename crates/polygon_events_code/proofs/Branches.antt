@@ -1,4 +1,7 @@
 -- Marks, spans and crossings, branch by branch as the functions take them.
+use Rattle.std.specs.Prelude.{None}
+use Rattle.std.specs.Bool.{then_some}
+use native.Mathlib.Omega.{arith}
 use mathlib.Core.Path.{◌≡◌, sym, ◌∙◌, ap, subst}
 use mathlib.Core.Bool.{Bool, true, false}
 use Prim.Native.Nat.{ℕ, ◌≤◌}
@@ -11,7 +14,6 @@ use Rattle.integer.proofs.Linear.{zarith, parts}
 use Rattle.geometry.specs.declared.Line.{Line}
 use Rattle.geometry.specs.declared.Base.{Base}
 use Rattle.geometry.specs.declared.Position.{Position}
-use Rattle.geometry.specs.declared.Crossing.TheVariants.{Nowhere, At}
 use Rattle.geometry.specs.Positions.{crosses, meet, position}
 use Rattle.sweep.specs.Segments.{spans, inside, cross_inside}
 use Rattle.fracture.specs.declared.Span.{Span}
@@ -78,7 +80,7 @@ module _ (p : Position) (l : Line) (s : Span) (h : SpanOf l s) where
 
 -- ---- crossings
 module _ (l m : Line) where
-  pub cross_parallel : crosses l m ≡ false → CrossingInside l m Nowhere
+  pub cross_parallel : crosses l m ≡ false → CrossingInside l m None
   unfolding cross_inside
   cross_parallel e = rw e
 
@@ -89,17 +91,17 @@ module _ (l m : Line) where
     at_second : inside (meet l m) (line_segment m) ≡ inside (fraction_of p) (line_segment m)
     at_second = ap (λ (x : Fraction). inside x (line_segment m)) (sym h.1)
 
-    pub cross_first : inside (fraction_of p) (line_segment l) ≡ false → CrossingInside l m Nowhere
-    unfolding cross_inside
-    cross_first e = rw (h.0, at_first ∙ e)
-
-    pub cross_second : inside (fraction_of p) (line_segment l) ≡ true → inside (fraction_of p) (line_segment m) ≡ false → CrossingInside l m Nowhere
-    unfolding cross_inside
-    cross_second e f = rw (h.0, at_first ∙ e, at_second ∙ f)
-
     cross_yes : inside (fraction_of p) (line_segment l) ≡ true → inside (fraction_of p) (line_segment m) ≡ true → cross_inside (line_segment l) (line_segment m) ≡ true
     unfolding cross_inside
     cross_yes e f = rw (h.0, at_first ∙ e, at_second ∙ f)
 
-    pub cross_both : inside (fraction_of p) (line_segment l) ≡ true → inside (fraction_of p) (line_segment m) ≡ true → CrossingInside l m (At p)
-    cross_both e f = (cross_yes e f, record { is = h.1; small = h.2 })
+    -- strictly inside the first span, the second decides
+    pub cross_second : inside (fraction_of p) (line_segment l) ≡ true → {t u : Bool} → t ≡ u → u ≡ inside (fraction_of p) (line_segment m) → CrossingInside l m (then_some t p)
+    unfolding cross_inside
+    cross_second e {t = true} g f = (cross_yes e (sym f ∙ sym g), record { is = h.1; small = h.2 })
+    cross_second e {t = false} g f = rw (h.0, at_first ∙ e, at_second ∙ sym f ∙ sym g)
+
+    pub cross_first : inside (fraction_of p) (line_segment l) ≡ false → {t : Bool} → t ≡ false → CrossingInside l m (then_some t p)
+    unfolding cross_inside
+    cross_first e {t = false} g = rw (h.0, at_first ∙ e)
+    cross_first e {t = true} g = let z : ◌≡◌ {A = ℕ} 0 1 = cc in absurd (omega arith)

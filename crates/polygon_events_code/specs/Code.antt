@@ -1,11 +1,9 @@
 -- How the functions' structs stand for what the definitions speak of.
-use Rattle.std.specs.Prelude.{◌≡◌, true, false, ℕ, ℤ}
+use Rattle.std.specs.Prelude.{◌≡◌, true, false, ℕ, ℤ, Option, Some, None}
 use Rattle.integer.specs.Fraction.{Fraction}
 use Rattle.geometry.specs.declared.Line.{Line}
 use Rattle.geometry.specs.declared.Base.{Base}
 use Rattle.geometry.specs.declared.Position.{Position}
-use Rattle.geometry.specs.declared.Crossing.{Crossing}
-use Rattle.geometry.specs.declared.Crossing.TheVariants.{Nowhere, At}
 use Rattle.sweep.specs.Segments.{Segment, cross_inside}
 use Rattle.sweep.specs.declared.Event.{Event}
 use Rattle.fracture.specs.declared.Span.{Span}
@@ -39,6 +37,6 @@ abbrev pub base_of : Line → Line → Base
 base_of l m = record { first = l; second = m }
 
 -- where two lines cross strictly inside both spans, or that they do not
-abbrev pub CrossingInside : Line → Line → Crossing → Type 0
-CrossingInside l m Nowhere = cross_inside (line_segment l) (line_segment m) ≡ false
-CrossingInside l m (At p) = (cross_inside (line_segment l) (line_segment m) ≡ true) × PositionOf (base_of l m) p
+abbrev pub CrossingInside : Line → Line → Option Position → Type 0
+CrossingInside l m None = cross_inside (line_segment l) (line_segment m) ≡ false
+CrossingInside l m (Some p) = (cross_inside (line_segment l) (line_segment m) ≡ true) × PositionOf (base_of l m) p

@@ -10,7 +10,7 @@ ghost use Rattle.geometry_code.specs.Code.{fraction_of, SmallPosition};
 ghost use Rattle.polygon_events_code.specs.Code.{PlacedAt, MarkOf, SpanOf, line_segment, CrossingInside};
 
 use fracture::Span;
-use geometry::{Base, Crossing, Line, Position};
+use geometry::{Base, Line, Position};
 use integer::Int;
 use sweep::Event;
 
@@ -19,8 +19,10 @@ pub fn whole_position(x: Int) -> Position
     requires { nat_abs x.v ≤ coordinate_limit }
     ensures { PlacedAt (whole x.v) result }
 {
-    let den = integer_code::of(1);
-    Position { num: x, den }
+    Position {
+        num: x,
+        den: integer_code::of(1),
+    }
 }
 
 // The second line of the mark of a vertex position.
@@ -28,24 +30,21 @@ fn mark_line(x: Int, limit: u32) -> Line
     requires { (nat_abs x.v ≤ limit) × (limit ≤ coordinate_limit) }
     ensures { result ≡ (mark limit x.v).second }
 {
-    let k = integer_code::narrow(x);
     let one = integer_code::of(1);
-    let last = integer_code::natural(limit);
-    if integer_code::less(x, last) {
-        let next = integer_code::narrow(integer_code::add(x, one));
-        return Line {
-            x1: k,
+    if integer_code::less(x, integer_code::natural(limit)) {
+        Line {
+            x1: integer_code::narrow(x),
             y1: 0,
-            x2: next,
+            x2: integer_code::narrow(integer_code::add(x, one)),
             y2: 1,
-        };
-    }
-    let previous = integer_code::narrow(integer_code::sub(x, one));
-    Line {
-        x1: previous,
-        y1: 1,
-        x2: k,
-        y2: 0,
+        }
+    } else {
+        Line {
+            x1: integer_code::narrow(integer_code::sub(x, one)),
+            y1: 1,
+            x2: integer_code::narrow(x),
+            y2: 0,
+        }
     }
 }
 
@@ -54,27 +53,29 @@ pub fn mark_at(x: Int, limit: u32) -> Event
     requires { (nat_abs x.v ≤ limit) × (limit ≤ coordinate_limit) }
     ensures { MarkOf limit x.v result }
 {
-    let first = Line {
+    let axis = Line {
         x1: 0,
         y1: 0,
         x2: 1,
         y2: 0,
     };
-    let second = mark_line(x, limit);
-    let at = whole_position(x);
-    let base = Base { first, second };
-    Event { base, at }
+    Event {
+        base: Base {
+            first: axis,
+            second: mark_line(x, limit),
+        },
+        at: whole_position(x),
+    }
 }
 
 fn span_of(l: Line) -> Span
     requires { OnGrid coordinate_limit l }
     ensures { SpanOf l result }
 {
-    let a = integer_code::widen(l.x1);
-    let b = integer_code::widen(l.x2);
-    let from = whole_position(a);
-    let to = whole_position(b);
-    Span { from, to }
+    Span {
+        from: whole_position(integer_code::widen(l.x1)),
+        to: whole_position(integer_code::widen(l.x2)),
+    }
 }
 
 // Whether a position is strictly inside a line's span.
@@ -83,10 +84,8 @@ fn is_inside(p: Position, l: Line) -> bool
     ensures { result ≡ inside (fraction_of p) (line_segment l) }
 {
     let s = span_of(l);
-    if geometry_code::is_left(geometry_code::compare(s.from, p)) {
-        return geometry_code::is_left(geometry_code::compare(p, s.to));
-    }
-    false
+    geometry_code::is_left(geometry_code::compare(s.from, p))
+        && geometry_code::is_left(geometry_code::compare(p, s.to))
 }
 
 // Whether a line's span holds a position.
@@ -95,25 +94,15 @@ pub fn is_spanning(p: Position, l: Line) -> bool
     ensures { result ≡ spans (fraction_of p) (line_segment l) }
 {
     let s = span_of(l);
-    if geometry_code::is_left(geometry_code::compare(p, s.from)) {
-        return false;
-    }
-    geometry_code::is_left(geometry_code::compare(p, s.to))
+    !geometry_code::is_left(geometry_code::compare(p, s.from))
+        && geometry_code::is_left(geometry_code::compare(p, s.to))
 }
 
-// Where two lines cross strictly inside both spans; `Nowhere` if they do not.
-pub fn crossing_inside(l: Line, m: Line) -> Crossing
+// Where two lines cross strictly inside both spans, if they do.
+pub fn crossing_inside(l: Line, m: Line) -> Option<Position>
     requires { OnGrid coordinate_limit l × OnGrid coordinate_limit m }
     ensures { CrossingInside l m result }
 {
-    let c = geometry_code::crossing_of(l, m);
-    let Crossing::At(p) = c else {
-        return Crossing::Nowhere;
-    };
-    if is_inside(p, l) {
-        if is_inside(p, m) {
-            return Crossing::At(p);
-        }
-    }
-    Crossing::Nowhere
+    let p = geometry_code::crossing_of(l, m)?;
+    (is_inside(p, l) && is_inside(p, m)).then_some(p)
 }

@@ -1,4 +1,5 @@
 -- The polygons of a file, fractured one after the other.
+use Rattle.std.specs.Prelude.{Option, Some, None, Ok}
 use mathlib.Core.Path.{◌≡◌, refl, ◌∙◌, ap, subst}
 use mathlib.Core.List.{List, ◌∷◌, ◌++◌}
 use Prim.Native.Nat.{ℕ, suc, ◌+◌, ◌*◌, ◌-◌, ◌<◌, ◌≤◌}
@@ -8,11 +9,8 @@ use lib.IntN.{ℤ}
 use borrow.Rule.Slice.PartMut.{put_mid}
 use Rattle.lists.specs.Lists.{All}
 use Rattle.records.specs.Limits.{memory_width}
-use Rattle.geometry.specs.declared.Checked.TheVariants.{Passed}
 use Rattle.geometry.specs.declared.Vertex.{Vertex}
 use Rattle.geometry.specs.Polygons.{Polygon, PolygonOnGrid}
-use Rattle.geometry.specs.declared.Fill.{Fill}
-use Rattle.geometry.specs.declared.Fill.TheVariants.{NoRoom, Written}
 use Rattle.fracture.specs.Fracture.{fracture, fracture_all}
 use Rattle.files.specs.declared.Edition.{Edition}
 use Rattle.files.specs.Formats.{file_words, polygon_file}
@@ -40,7 +38,7 @@ pub record Cutting (edition : Edition) (L : ℕ) (ws : List ℤ) (W room : ℕ) 
   pub grid : All (PolygonOnGrid L) (left edition ws i)
   pub within : i ≤ count_in ws
 
-pub cutting_start : (edition : Edition) (L : ℕ) (bytes : List ℕ) (out : List ℤ) (room : ℕ) → polygon_file_checked edition L bytes ≡ Passed → Borrowed out room → Cutting edition L (file_words bytes) (length out) room out 0 0
+pub cutting_start : (edition : Edition) (L : ℕ) (bytes : List ℕ) (out : List ℤ) (room : ℕ) → polygon_file_checked edition L bytes ≡ Ok tt → Borrowed out room → Cutting edition L (file_words bytes) (length out) room out 0 0
 cutting_start edition L bytes out room e b =
     let ws = file_words bytes in
     let z : count_in ws ≡ count_in ws - 0 = omega arith in
@@ -52,7 +50,7 @@ cutting_start edition L bytes out room e b =
     }
 
 module _ {edition : Edition} {L : ℕ} {ws : List ℤ} {W room : ℕ} {out : List ℤ} {i n : ℕ} (h : Cutting edition L ws W room out i n) where
-  pub cutting_stop : count_in ws ≤ i → FilledAs W room (fracture_all L (polygons_of edition ws)) (Written n) out
+  pub cutting_stop : count_in ws ≤ i → FilledAs W room (fracture_all L (polygons_of edition ws)) (Some n) out
   unfolding lists_from fracture_all
   cutting_stop l =
       let z : count_in ws - i ≡ 0 = omega arith in
@@ -69,14 +67,14 @@ module _ {edition : Edition} {L : ℕ} {ws : List ℤ} {W room : ℕ} {out : Lis
     unfolding fracture_all
     turn = ap (fracture_all L) (left_step edition ws i l)
 
-    module _ (f : Fill) (t : List ℤ) (g : FilledAs (length (tail out n)) (room - n) (fracture L (polygon_at edition ws i)) f t) where
-      pub cutting_full : f ≡ NoRoom → room < length (fracture_all L (polygons_of edition ws))
+    module _ (f : Option ℕ) (t : List ℤ) (g : FilledAs (length (tail out n)) (room - n) (fracture L (polygon_at edition ws i)) f t) where
+      pub cutting_full : f ≡ None → room < length (fracture_all L (polygons_of edition ws))
       cutting_full e = write_full h.writing (fracture L (polygon_at edition ws i)) (fracture_all L (left edition ws (i + 1))) turn f t g e
 
-      pub cutting_upto : (m : ℕ) → f ≡ Written m → n + m ≤ room
+      pub cutting_upto : (m : ℕ) → f ≡ Some m → n + m ≤ room
       cutting_upto m e = write_upto h.writing (fracture L (polygon_at edition ws i)) (fracture_all L (left edition ws (i + 1))) turn f t g m e
 
-      pub cutting_next : (m : ℕ) → f ≡ Written m → Cutting edition L ws W room (put_mid (memory_width * n) (length out - memory_width * n) out t) (i + 1) (n + m)
+      pub cutting_next : (m : ℕ) → f ≡ Some m → Cutting edition L ws W room (put_mid (memory_width * n) (length out - memory_width * n) out t) (i + 1) (n + m)
       cutting_next m e =
           record {
             writing = write_turn h.writing (fracture L (polygon_at edition ws i)) (fracture_all L (left edition ws (i + 1))) turn f t g m e;

@@ -2,7 +2,6 @@
 #![tactic(auto)]
 
 ghost use Rattle.std.specs.Prelude.{◌≡◌, ◌≤◌, length};
-ghost use Rattle.geometry.specs.declared.Checked.TheVariants.{Passed};
 ghost use Rattle.geometry.specs.Limit.{coordinate_limit};
 ghost use Rattle.fracture.specs.Fracture.{fracture, fracture_all};
 ghost use Rattle.files.specs.Formats.{file_words};
@@ -14,7 +13,6 @@ ghost use Rattle.files_code.specs.Code.{polygon_at};
 ghost use Rattle.polygons_code.specs.Code.{MayFracture};
 
 use files::Edition;
-use geometry::Fill;
 
 // The trapezoids of polygon number i of a polygon file that passes and has `count` polygons, written as `fracture_polygon` writes them.
 fn fracture_numbered(
@@ -28,15 +26,14 @@ fn fracture_numbered(
     name: &mut [u32],
     out: &mut [i32],
     room: usize,
-) -> Fill
+) -> Option<usize>
     requires { MayFracture edition file.now count i limit out.old room × Wide num.old den.old name.old }
     ensures { FilledAs (length out.old) room (fracture limit (polygon_at edition (file_words file.now) i)) result out.new }
 {
     let e = files_code::polygon_extent(edition, file, count, i);
     let mut words = [0; 64];
     files_code::load_polygon(file, count, e.offset, e.length, &mut words);
-    let end = 2 * e.length;
-    fracture_code::fracture_polygon(&words[..end], limit, num, den, name, out, room)
+    fracture_code::fracture_polygon(&words[..2 * e.length], limit, num, den, name, out, room)
 }
 
 // The trapezoids of the polygons of a file of an edition that passes, in order, written into a blank tail of which `room` records may be filled.
@@ -46,18 +43,17 @@ pub fn fracture_file(
     limit: u32,
     out: &mut [i32],
     room: usize,
-) -> Fill
-    requires { (polygon_file_checked edition limit file.now ≡ Passed) × (limit ≤ coordinate_limit) × Borrowed out.old room }
+) -> Option<usize>
+    requires { (polygon_file_checked edition limit file.now ≡ Ok tt) × (limit ≤ coordinate_limit) × Borrowed out.old room }
     ensures { FilledAs (length out.old) room (fracture_all limit (polygons_of edition (file_words file.now))) result out.new }
 {
     let count = files_code::polygon_count(file);
     let mut num = [0; 528];
     let mut den = [0; 528];
     let mut name = [0; 528];
-    let mut i = 0;
     let mut n = 0;
-    while i < count {
-        let f = fracture_numbered(
+    for i in 0..count {
+        let Some(m) = fracture_numbered(
             edition,
             file,
             count,
@@ -68,13 +64,11 @@ pub fn fracture_file(
             &mut name,
             &mut out[records::MEMORY_WIDTH * n..],
             room - n,
-        );
-        let Fill::Written(m) = f else {
-            records_code::clear(out);
-            return Fill::NoRoom;
+        ) else {
+            out.fill(0);
+            return None;
         };
         n += m;
-        i += 1;
     }
-    Fill::Written(n)
+    Some(n)
 }

@@ -1,4 +1,4 @@
-// Slices of words as storage for records, and 32-bit words in bytes: clear, copy, load and store.
+// Slices of words as storage for records, and 32-bit words in bytes: sized, cleared, loaded and stored.
 #![tactic(auto)]
 
 ghost use Rattle.std.specs.Prelude.{◌≡◌, ◌+◌, ◌*◌, ◌<◌, ◌≤◌, length, replicate, pos};
@@ -7,79 +7,19 @@ ghost use Rattle.records.specs.Limits.{sized as sized_layer};
 ghost use Rattle.records.specs.Words.{unsigned as unsigned_of, signed as signed_of, pattern as pattern_of, word_codec};
 
 // Whether a layer, an output or a scratch area may have this many words.
+#[tactic(auto, unfolding(records::specs::Limits::sized))]
 pub fn sized(words: usize) -> bool
     ensures { result ≡ sized_layer words }
 {
     words % records::MEMORY_WIDTH == 0 && words <= records::MAX_WORDS
 }
 
-// Every word is set to 0.
-pub fn clear(words: &mut [i32])
-    ensures { words.new ≡ replicate (length words.old) (pos 0) }
-{
-    let mut at = 0;
-    while at < words.len() {
-        words[at] = 0;
-        at += 1;
-    }
-}
-
 // An output and its scratch area set to 0.
 pub fn clear_both(out: &mut [i32], scratch: &mut [i32])
     ensures { (out.new ≡ replicate (length out.old) (pos 0)) × (scratch.new ≡ replicate (length scratch.old) (pos 0)) }
 {
-    clear(out);
-    clear(scratch);
-}
-
-// The same for bytes.
-pub fn clear_bytes(bytes: &mut [u8])
-    ensures { bytes.new ≡ replicate (length bytes.old) 0 }
-{
-    let mut i = 0;
-    while i < bytes.len() {
-        bytes[i] = 0;
-        i += 1;
-    }
-}
-
-// The same for numbers.
-pub fn clear_numbers(numbers: &mut [u32])
-    ensures { numbers.new ≡ replicate (length numbers.old) 0 }
-{
-    let mut i = 0;
-    while i < numbers.len() {
-        numbers[i] = 0;
-        i += 1;
-    }
-}
-
-// All words of src to dst, which is as long.
-pub fn copy(src: &[i32], dst: &mut [i32])
-    requires { length src.now ≡ length dst.old }
-    ensures { dst.new ≡ src.now }
-{
-    let mut i = 0;
-    while i < dst.len() {
-        let w = src[i];
-        dst[i] = w;
-        i += 1;
-    }
-}
-
-fn wide(b: u8) -> u64
-    ensures value { result ≡ b }
-    ensures byte { result < 256 }
-{
-    b as u64
-}
-
-// The number of four bytes, the low one first.
-fn unsigned(b0: u8, b1: u8, b2: u8, b3: u8) -> u64
-    ensures value { result ≡ unsigned_of b0 b1 b2 b3 }
-    ensures range { result < 4294967296 }
-{
-    wide(b0) + 256 * wide(b1) + 65536 * wide(b2) + 16777216 * wide(b3)
+    out.fill(0);
+    scratch.fill(0);
 }
 
 // Two's complement at 32 bits.
@@ -87,19 +27,14 @@ pub fn signed(n: u64) -> i32
     requires { n < 4294967296 }
     ensures { result ≡ signed_of n }
 {
-    if n < 2147483648 {
-        return n as i32;
-    }
-    let m = 4294967295 - n;
-    let k = m as i32;
-    -1 - k
+    (n as u32).cast_signed()
 }
 
 // The signed word of four bytes, the low one first.
 pub fn word(b0: u8, b1: u8, b2: u8, b3: u8) -> i32
     ensures { result ≡ signed_of (unsigned_of b0 b1 b2 b3) }
 {
-    signed(unsigned(b0, b1, b2, b3))
+    i32::from_le_bytes([b0, b1, b2, b3])
 }
 
 // Word number i of a slice of bytes.
@@ -116,11 +51,7 @@ pub fn pattern(x: i32) -> u64
     ensures value { result ≡ pattern_of x }
     ensures range { result < 4294967296 }
 {
-    if x < 0 {
-        let k = -1 - x;
-        return 4294967295 - (k as u64);
-    }
-    x as u64
+    u64::from(x.cast_unsigned())
 }
 
 // Word number i of a slice of bytes set to x.
@@ -128,10 +59,7 @@ pub fn store_word(s: &mut [u8], i: usize, x: i32)
     requires { 4 * i + 4 ≤ length s.old }
     ensures { s.new ≡ put_record word_codec s.old i x }
 {
-    let p = pattern(x);
     let at = 4 * i;
-    s[at] = (p % 256) as u8;
-    s[at + 1] = (p / 256 % 256) as u8;
-    s[at + 2] = (p / 65536 % 256) as u8;
-    s[at + 3] = (p / 16777216 % 256) as u8;
+    let bytes = x.to_le_bytes();
+    s[at..at + 4].copy_from_slice(&bytes);
 }

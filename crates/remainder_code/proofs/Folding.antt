@@ -1,5 +1,6 @@
 -- A fold over the records of a layer, built in a buffer, with any kind of record in each. Before turn i: the buffer holds `done`, the fold of the rest of the layer from
 -- there is the goal, and the stages of the rest, past the overlays made, decide the space.
+use Rattle.std.specs.Prelude.{Option, Some, Result}
 use mathlib.Core.Path.{◌≡◌, refl, sym, ◌∙◌, ap, subst}
 use mathlib.Core.List.{List, [], ◌∷◌, ◌++◌, append-nil, append_assoc}
 use Prim.Native.Nat.{ℕ, ◌+◌, ◌*◌, ◌-◌, ◌<◌, ◌≤◌}
@@ -16,16 +17,15 @@ use Rattle.geometry.specs.declared.Trapezoid.{Trapezoid}
 use Rattle.geometry.specs.Limit.{coordinate_limit}
 use Rattle.geometry.specs.Fitness.{FitFor}
 use Rattle.geometry.specs.Trapezoids.{trapezoid_codec, layer_of}
-use Rattle.geometry.specs.declared.Fill.{Fill}
-use Rattle.geometry.specs.declared.Fill.TheVariants.{Written}
 use Rattle.boolean.specs.declared.Folded.{Folded}
-use Rattle.boolean.specs.declared.Folded.TheVariants.{NoRoom, Done}
 use Rattle.boolean.specs.Space.{Stage, overlaid, enough, no_room, plus, space}
 use Rattle.boolean.proofs.Space.{plus_none, plus-plus, space_enough, space_no_room}
+use Rattle.boolean.specs.declared.NoRoom.{NoRoom}
+use Rattle.boolean.specs.Folds.{folded, no_room_after}
 use Rattle.trapezoids_code.specs.Tails.{Borrowed, FilledBy}
 use Rattle.trapezoids_code.proofs.Writing.{Kind, codec_of, tail, WritingBy, fill_none, write_stop, write_borrowed, write_turn}
-use Rattle.remainder_code.specs.Code.{from, FoldedBy}
-use Rattle.remainder_code.proofs.Answers.{once, fill_folded, filled_first}
+use Rattle.remainder_code.specs.Code.{from, FoldedBy, once}
+use Rattle.remainder_code.proofs.Answers.{fill_folded, filled_first}
 
 -- ---- a fold, step by step
 -- from what stands, the result and the stages of a list; one turn makes `next` of what stands, and has the stages `turn` with so many trapezoids after it
@@ -69,7 +69,7 @@ pub record Folding {R I : Type 0} (F : Fold R I) (W room : ℕ) (goal : List R) 
 
 module _ {R I : Type 0} (F : Fold R I) (steps : Steps F) (room : ℕ) (layer d : List ℤ) where
   -- from number i on
-  pub fold_from : (done : List R) (ms : List Stage) (k i : ℕ) → FilledBy (codec_of F.kind) (length d) room done (Written k) d → memory_width * room ≤ length d → ms ≡ F.stages done (items_from F layer i)
+  pub fold_from : (done : List R) (ms : List Stage) (k i : ℕ) → FilledBy (codec_of F.kind) (length d) room done (Some k) d → memory_width * room ≤ length d → ms ≡ F.stages done (items_from F layer i)
       → i ≤ count trapezoid_codec layer → All (FitFor coordinate_limit) (from layer i) → Folding F (length d) room (F.result done (items_from F layer i)) ms layer d k 0 i
   fold_from done ms k i h w e l f =
       record {
@@ -86,7 +86,7 @@ module _ {R I : Type 0} (F : Fold R I) (steps : Steps F) (room : ℕ) (layer d :
         long = refl;
       }
 
-  pub fold_start : (done : List R) (ms : List Stage) (k : ℕ) → FilledBy (codec_of F.kind) (length d) room done (Written k) d → memory_width * room ≤ length d → ms ≡ F.stages done (items_of F layer)
+  pub fold_start : (done : List R) (ms : List Stage) (k : ℕ) → FilledBy (codec_of F.kind) (length d) room done (Some k) d → memory_width * room ≤ length d → ms ≡ F.stages done (items_of F layer)
       → All (FitFor coordinate_limit) (layer_of layer) → Folding F (length d) room (F.result done (items_of F layer)) ms layer d k 0 0
   fold_start done ms k h w e f =
       let s : items_of F layer ≡ items_from F layer 0 = sym (from_start (codec_of F.items) (count trapezoid_codec layer) layer) in
@@ -106,13 +106,13 @@ module _ {R I : Type 0} {F : Fold R I} {W room : ℕ} {goal : List R} {ms : List
   fold_leading = filled_first F.kind W room h.done k out (h.size, omega (arith, h.size, h.within), h.laid)
 
   -- what stands stays
-  pub fold_stands : F.result h.done (items_from F layer i) ≡ h.done → space room (F.stages h.done (items_from F layer i)) ≡ enough 0 → (n : ℕ) → overlays ≡ n → FoldedBy (codec_of F.kind) W room goal ms (Done k n) out
+  pub fold_stands : F.result h.done (items_from F layer i) ≡ h.done → space room (F.stages h.done (items_from F layer i)) ≡ enough 0 → (n : ℕ) → overlays ≡ n → FoldedBy (codec_of F.kind) W room goal ms (folded k n) out
   fold_stands e u n is =
       let y : goal ≡ h.done = h.yields ∙ e in
       let z : overlays + 0 ≡ n = omega (arith, is) in
       (h.stages ∙ ap (plus overlays) u ∙ ap enough z, rw y (h.size, omega (arith, h.size, h.within), h.laid))
 
-  pub fold_stop : count trapezoid_codec layer ≤ i → (n : ℕ) → overlays ≡ n → FoldedBy (codec_of F.kind) W room goal ms (Done k n) out
+  pub fold_stop : count trapezoid_codec layer ≤ i → (n : ℕ) → overlays ≡ n → FoldedBy (codec_of F.kind) W room goal ms (folded k n) out
   fold_stop l n is =
       let e : items_from F layer i ≡ [] = from_none (codec_of F.items) (count trapezoid_codec layer) layer i l in
       fold_stands (ap (F.result h.done) e ∙ h.steps.none h.done) (ap (λ (ts : List I). space room (F.stages h.done ts)) e ∙ h.steps.no_stages room h.done) n is
@@ -124,9 +124,9 @@ module _ {R I : Type 0} {F : Fold R I} {W room : ℕ} {goal : List R} {ms : List
   fold_borrowed free l = let b = write_borrowed (writing []) in record { blank = b.blank; wide = omega (arith, b.wide, l) }
 
   -- t comes back as the tail
-  pub fold_added : (free : ℕ) (parts : List R) (m : ℕ) (t : List ℤ) → k + free ≤ room → FilledBy (codec_of F.kind) (length (tail out k)) free parts (Written m) t
-      → FilledBy (codec_of F.kind) W room (h.done ++ parts) (Written (k + m)) (put_mid (memory_width * k) (length out - memory_width * k) out t)
-  fold_added free parts m t l g = write_stop (write_turn (writing parts) parts [] (sym (append-nil parts)) (Written m) t (g.0, omega (arith, g.1, l), g.2) m refl) refl
+  pub fold_added : (free : ℕ) (parts : List R) (m : ℕ) (t : List ℤ) → k + free ≤ room → FilledBy (codec_of F.kind) (length (tail out k)) free parts (Some m) t
+      → FilledBy (codec_of F.kind) W room (h.done ++ parts) (Some (k + m)) (put_mid (memory_width * k) (length out - memory_width * k) out t)
+  fold_added free parts m t l g = write_stop (write_turn (writing parts) parts [] (sym (append-nil parts)) (Some m) t (g.0, omega (arith, g.1, l), g.2) m refl) refl
 
   pub fold_long : (t : List ℤ) → length t ≡ length (tail out k) → length (put_mid (memory_width * k) (length out - memory_width * k) out t) ≡ W
   fold_long t e = same_len_mid (memory_width * k) (length out - memory_width * k) out t e ∙ h.long
@@ -156,7 +156,7 @@ module _ {R I : Type 0} {F : Fold R I} {W room : ℕ} {goal : List R} {ms : List
     pub fold_no_room : (c : ℕ) → space room here ≡ no_room c → space room ms ≡ no_room (overlays + c)
     fold_no_room c e = unrolled ∙ ap (plus overlays) (space_no_room room c here later e)
 
-    pub fold_next : (m c : ℕ) (d : List ℤ) → space room here ≡ enough c → FilledBy (codec_of F.kind) W room (F.next h.done a) (Written m) d → Folding F W room goal ms layer d m (overlays + c) (i + 1)
+    pub fold_next : (m c : ℕ) (d : List ℤ) → space room here ≡ enough c → FilledBy (codec_of F.kind) W room (F.next h.done a) (Some m) d → Folding F W room goal ms layer d m (overlays + c) (i + 1)
     fold_next m c d e g =
         record {
           steps = h.steps;
@@ -181,34 +181,34 @@ pub record Part {R I : Type 0} (F : Fold R I) (room : ℕ) (done : List R) (a : 
 
 module _ {R I : Type 0} {F : Fold R I} {W room : ℕ} {goal : List R} {ms : List Stage} {layer out : List ℤ} {k overlays i : ℕ} (h : Folding F W room goal ms layer out k overlays i) where
   -- what an answer says of the loop, when the tail comes back as t
-  pub record Turned (free : ℕ) (f : Folded) (t : List ℤ) : Type 0 where
-    pub full : (c : ℕ) → f ≡ NoRoom c → space room ms ≡ no_room (overlays + c)
-    pub fits : (m c : ℕ) → f ≡ Done m c → m ≤ free
-    pub keeps : (m c : ℕ) → f ≡ Done m c → Folding F W room goal ms layer (put_mid (memory_width * k) (length out - memory_width * k) out t) (k + m) (overlays + c) (i + 1)
+  pub record Turned (free : ℕ) (f : Result Folded NoRoom) (t : List ℤ) : Type 0 where
+    pub full : (c : ℕ) → f ≡ no_room_after c → space room ms ≡ no_room (overlays + c)
+    pub fits : (m c : ℕ) → f ≡ folded m c → m ≤ free
+    pub keeps : (m c : ℕ) → f ≡ folded m c → Folding F W room goal ms layer (put_mid (memory_width * k) (length out - memory_width * k) out t) (k + m) (overlays + c) (i + 1)
 
   pub fold_turn : (l : i < count trapezoid_codec layer) (a : I) → a ≡ item_at F layer i → {free : ℕ} {parts : List R} {ns : List Stage}
-      → Part F room h.done a (count trapezoid_codec layer - (i + 1)) free parts ns → (f : Folded) (t : List ℤ) → FoldedBy (codec_of F.kind) (length (tail out k)) free parts ns f t → Turned free f t
+      → Part F room h.done a (count trapezoid_codec layer - (i + 1)) free parts ns → (f : Result Folded NoRoom) (t : List ℤ) → FoldedBy (codec_of F.kind) (length (tail out k)) free parts ns f t → Turned free f t
   fold_turn l a is {free} {parts} {ns} p f t g = record { full = full; fits = fits; keeps = keeps }
     where
-      known : (r : Folded) → f ≡ r → FoldedBy (codec_of F.kind) (length (tail out k)) free parts ns r t
-      known r e = subst (λ (x : Folded). FoldedBy (codec_of F.kind) (length (tail out k)) free parts ns x t) e g
+      known : (r : Result Folded NoRoom) → f ≡ r → FoldedBy (codec_of F.kind) (length (tail out k)) free parts ns r t
+      known r e = subst (λ (x : Result Folded NoRoom). FoldedBy (codec_of F.kind) (length (tail out k)) free parts ns x t) e g
 
-      full : (c : ℕ) → f ≡ NoRoom c → space room ms ≡ no_room (overlays + c)
-      full c e = fold_no_room h l a is c (p.same ∙ (known (NoRoom c) e).0)
+      full : (c : ℕ) → f ≡ no_room_after c → space room ms ≡ no_room (overlays + c)
+      full c e = fold_no_room h l a is c (p.same ∙ (known (no_room_after c) e).0)
 
-      fits : (m c : ℕ) → f ≡ Done m c → m ≤ free
-      fits m c e = let g = (known (Done m c) e).1 in omega (arith, g.0, g.1)
+      fits : (m c : ℕ) → f ≡ folded m c → m ≤ free
+      fits m c e = let g = (known (folded m c) e).1 in omega (arith, g.0, g.1)
 
-      keeps : (m c : ℕ) → f ≡ Done m c → Folding F W room goal ms layer (put_mid (memory_width * k) (length out - memory_width * k) out t) (k + m) (overlays + c) (i + 1)
+      keeps : (m c : ℕ) → f ≡ folded m c → Folding F W room goal ms layer (put_mid (memory_width * k) (length out - memory_width * k) out t) (k + m) (overlays + c) (i + 1)
       keeps m c e =
-          let g = known (Done m c) e in
+          let g = known (folded m c) e in
           let d = put_mid (memory_width * k) (length out - memory_width * k) out t in
           let w = fold_added h free parts m t (omega (arith, p.within, h.size)) g.1 in
-          fold_next h l a is (k + m) c d (p.same ∙ g.0) (subst (λ (ts : List R). FilledBy (codec_of F.kind) W room ts (Written (k + m)) d) (sym p.next) w)
+          fold_next h l a is (k + m) c d (p.same ∙ g.0) (subst (λ (ts : List R). FilledBy (codec_of F.kind) W room ts (Some (k + m)) d) (sym p.next) w)
 
   -- the same where the turn is one overlay
   pub fill_turn : (l : i < count trapezoid_codec layer) (a : I) → a ≡ item_at F layer i → {free : ℕ} {parts : List R}
-      → Part F room h.done a (count trapezoid_codec layer - (i + 1)) free parts (overlaid (length parts) ∷ []) → (f : Fill) (t : List ℤ) → FilledBy (codec_of F.kind) (length (tail out k)) free parts f t → Turned free (once f) t
+      → Part F room h.done a (count trapezoid_codec layer - (i + 1)) free parts (overlaid (length parts) ∷ []) → (f : Option ℕ) (t : List ℤ) → FilledBy (codec_of F.kind) (length (tail out k)) free parts f t → Turned free (once f) t
   fill_turn l a is {free} {parts} p f t g = fold_turn l a is p (once f) t (fill_folded (codec_of F.kind) (length (tail out k)) free parts f t g)
 
 -- ---- a fold that appends the same parts whatever stands

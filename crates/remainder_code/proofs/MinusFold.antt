@@ -1,4 +1,5 @@
 -- The trapezoids in hand minus one more, as a fold.
+use Rattle.std.specs.Prelude.{Option, Some, None, Result}
 use mathlib.Core.Path.{◌≡◌, refl, sym, ◌∙◌, ap, subst}
 use mathlib.Core.List.{List, [], ◌∷◌, ◌++◌}
 use Prim.Native.Nat.{ℕ, ◌+◌, ◌-◌, ◌<◌, ◌≤◌}
@@ -8,23 +9,21 @@ use lib.IntN.{ℤ}
 use Rattle.lists.specs.Lists.{All}
 use Rattle.records.specs.Records.{record_at, count}
 use Rattle.geometry.specs.declared.Trapezoid.{Trapezoid}
-use Rattle.geometry.specs.declared.Fill.{Fill}
-use Rattle.geometry.specs.declared.Fill.TheVariants.{Written}
-use Rattle.geometry.specs.declared.Fill.TheVariants as fill
 use Rattle.geometry.specs.Limit.{coordinate_limit}
 use Rattle.geometry.specs.Fitness.{FitFor}
 use Rattle.geometry.specs.Trapezoids.{trapezoid_codec, layer_of}
 use Rattle.overlay.specs.Overlay.{overlay, tagged}
 use Rattle.boolean.specs.Operations.{minus}
 use Rattle.boolean.specs.declared.Folded.{Folded}
-use Rattle.boolean.specs.declared.Folded.TheVariants.{NoRoom, Done}
 use Rattle.boolean.specs.Space.{overlaid, enough, no_room, space, minus_stages}
 use Rattle.boolean.proofs.Shifting.{overlaid_shift}
+use Rattle.boolean.specs.declared.NoRoom.{NoRoom}
+use Rattle.boolean.specs.Folds.{folded, no_room_after}
 use Rattle.trapezoids_code.specs.Tails.{Borrowed, FilledAs}
-use Rattle.trapezoids_code.proofs.Writing.{plain}
-use Rattle.remainder_code.specs.Code.{FoldedAs}
-use Rattle.remainder_code.proofs.Answers.{once, once_folded}
-use Rattle.remainder_code.proofs.Folding.{Fold, Steps, Folding, blank_start, fold_no_room, fold_next, Part, appending, appending_steps}
+use Rattle.trapezoids_code.proofs.Writing.{plain, tail}
+use Rattle.remainder_code.specs.Code.{FoldedAs, once}
+use Rattle.remainder_code.proofs.Answers.{once_folded}
+use Rattle.remainder_code.proofs.Folding.{Fold, Steps, Folding, blank_start, fold_no_room, fold_next, Part, Turned, fill_turn, appending, appending_steps}
 
 pub minus_none : (b : Trapezoid) → minus [] b ≡ []
 unfolding minus
@@ -66,9 +65,16 @@ module _ (b : Trapezoid) where
       let e : length done + m + left ≡ k + left + m = omega (arith, n) in
       record { next = refl; same = ap (λ (x : ℕ). space room (overlaid x ∷ [])) e ∙ overlaid_shift room (k + left) free m l; within = omega (arith, n, l) }
 
+  -- ---- one turn, whose overlay answers f, when the tail comes back as t
+  module _ (room : ℕ) {W : ℕ} {layer out : List ℤ} {k i : ℕ} (h : Folding minus_fold W room (minus (layer_of layer) b) (minus_stages 0 (layer_of layer) b) layer out k i i) (few : k + (count trapezoid_codec layer - i) ≤ room)
+      (l : i < count trapezoid_codec layer) (a : Trapezoid) (is : a ≡ record_at trapezoid_codec layer i) where
+    pub minus_turn : (f : Option ℕ) (t : List ℤ) → FilledAs (length (tail out k)) (room - k - (count trapezoid_codec layer - i - 1)) (tagged 1 (overlay a b)) f t
+        → Turned h (room - k - (count trapezoid_codec layer - i - 1)) (once f) t
+    minus_turn f t g = fill_turn h l a is (minus_part a (room - k - (count trapezoid_codec layer - i - 1)) h.size (omega (arith, few, l))) f t g
+
   -- ---- the first turn: nothing stands yet, a is the first trapezoid, and t comes back as the whole buffer
   module _ (room : ℕ) (layer d : List ℤ) (w : Borrowed d room) (fit : All (FitFor coordinate_limit) (layer_of layer)) (few : count trapezoid_codec layer ≤ room + 1) (l : 0 < count trapezoid_codec layer) (a : Trapezoid) (is : a ≡ record_at trapezoid_codec layer 0)
-      (f : Fill) (t : List ℤ) (g : FilledAs (length d) (room - (count trapezoid_codec layer - 1)) (tagged 1 (overlay a b)) f t) where
+      (f : Option ℕ) (t : List ℤ) (g : FilledAs (length d) (room - (count trapezoid_codec layer - 1)) (tagged 1 (overlay a b)) f t) where
     abbrev free : ℕ
     free = room - (count trapezoid_codec layer - 1)
 
@@ -81,17 +87,17 @@ module _ (b : Trapezoid) where
     part : Part minus_fold room start.done a (count trapezoid_codec layer - 1) free parts (overlaid (length parts) ∷ [])
     part = minus_part a free start.size (omega (arith, few, l))
 
-    known : (r : Folded) → once f ≡ r → FoldedAs (length d) free parts (overlaid (length parts) ∷ []) r t
-    known r e = subst (λ (x : Folded). FoldedAs (length d) free parts (overlaid (length parts) ∷ []) x t) e (once_folded (length d) free parts f t g)
+    known : (r : Result Folded NoRoom) → once f ≡ r → FoldedAs (length d) free parts (overlaid (length parts) ∷ []) r t
+    known r e = subst (λ (x : Result Folded NoRoom). FoldedAs (length d) free parts (overlaid (length parts) ∷ []) x t) e (once_folded (length d) free parts f t g)
 
-    pub first_full : f ≡ fill.NoRoom → space room (minus_stages 0 (layer_of layer) b) ≡ no_room 1
-    first_full e = fold_no_room start l a is 1 (part.same ∙ (known (NoRoom 1) (ap once e)).0)
+    pub first_full : f ≡ None → space room (minus_stages 0 (layer_of layer) b) ≡ no_room 1
+    first_full e = fold_no_room start l a is 1 (part.same ∙ (known (no_room_after 1) (ap once e)).0)
 
-    pub first_keeps : (m : ℕ) → f ≡ Written m → Folding minus_fold (length t) room (minus (layer_of layer) b) (minus_stages 0 (layer_of layer) b) layer t m 1 1 × (m + (count trapezoid_codec layer - 1) ≤ room)
+    pub first_keeps : (m : ℕ) → f ≡ Some m → Folding minus_fold (length t) room (minus (layer_of layer) b) (minus_stages 0 (layer_of layer) b) layer t m 1 1 × (m + (count trapezoid_codec layer - 1) ≤ room)
     first_keeps m e =
-        let k = known (Done m 1) (ap once e) in
+        let k = known (folded m 1) (ap once e) in
         let y : start.done ++ parts ≡ parts = ap (λ (ts : List Trapezoid). ts ++ parts) (none start.done start.size) in
-        let n = fold_next start l a is m 1 t (part.same ∙ k.0) (subst (λ (ts : List Trapezoid). FilledAs (length d) room ts (Written m) t) (sym y) (k.1.0, omega (arith, k.1.1), k.1.2)) in (
+        let n = fold_next start l a is m 1 t (part.same ∙ k.0) (subst (λ (ts : List Trapezoid). FilledAs (length d) room ts (Some m) t) (sym y) (k.1.0, omega (arith, k.1.1), k.1.2)) in (
           subst (λ (W : ℕ). Folding minus_fold W room (minus (layer_of layer) b) (minus_stages 0 (layer_of layer) b) layer t m 1 1) (sym n.long) n,
           omega (arith, k.1.0, k.1.1, few),
         )

@@ -1,4 +1,5 @@
 -- Trapezoids in the output that are moved to the scratch area, so that they can be replaced.
+use Rattle.std.specs.Prelude.{Result}
 use mathlib.Core.Path.{◌≡◌, sym, ◌∙◌, ap, subst}
 use mathlib.Core.Bool.{Bool}
 use mathlib.Core.List.{List, ◌++◌}
@@ -21,6 +22,7 @@ use Rattle.geometry.specs.Trapezoids.{trapezoid_codec, layer_of}
 use Rattle.boolean.specs.declared.Folded.{Folded}
 use Rattle.boolean.specs.Operations.{minus}
 use Rattle.boolean.specs.Space.{minus_stages}
+use Rattle.boolean.specs.declared.NoRoom.{NoRoom}
 use Rattle.trapezoids_code.specs.Placed.{PlacedAs}
 use Rattle.trapezoids_code.specs.Tails.{Borrowed}
 use Rattle.remainder_code.specs.Code.{leading, Remaining, FoldedAs, FirstPlaced}
@@ -34,9 +36,6 @@ module _ (d w d' w' : List ℤ) (n room : ℕ) (h : Remaining d n room) (blank :
 
   pub remainder_words : memory_width * n ≤ length d
   remainder_words = leading_fits d n room h
-
-  pub remainder_scratch : memory_width * n ≤ length w
-  remainder_scratch = omega (arith, remainder_words, same)
 
   first_words : length (take end d) ≡ end
   first_words = length-take-le end d remainder_words
@@ -85,7 +84,7 @@ module _ (d w d' w' : List ℤ) (n room : ℕ) (h : Remaining d n room) (blank :
       let g : t ≡ replicate end (pos 0) = e ∙ ap (λ (m : ℕ). replicate m (pos 0)) (sym remainder_length) in
       blank_of (pos 0) (t ++ drop end w') (end + (length w - end)) (ap (λ (u : List ℤ). u ++ drop end w') g ∙ ap (λ (u : List ℤ). replicate end (pos 0) ++ u) f ∙ replicate-append-replicate end (length w - end) (pos 0))
 
-  pub remainder_folded : (b : Trapezoid) (r : Folded) (t : List ℤ)
+  pub remainder_folded : (b : Trapezoid) (r : Result Folded NoRoom) (t : List ℤ)
       → FoldedAs (length d') room (minus (layer_of (take (memory_width * n) w')) b) (minus_stages 0 (layer_of (take (memory_width * n) w')) b) r t
       → FoldedAs (length d) room (minus (leading d n) b) (minus_stages 0 (leading d n) b) r t
   remainder_folded b r t g =

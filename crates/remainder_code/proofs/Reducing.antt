@@ -1,4 +1,5 @@
 -- The trapezoids in hand minus a layer, one after the other: a fold that replaces what stands at each turn.
+use Rattle.std.specs.Prelude.{Result, Ok, Err}
 use mathlib.Core.Path.{◌≡◌, refl, sym, ◌∙◌, ap, subst}
 use mathlib.Core.List.{List, [], ◌∷◌, ◌++◌}
 use Prim.Native.Nat.{ℕ, ◌+◌, ◌*◌, ◌-◌, ◌<◌, ◌≤◌}
@@ -15,13 +16,14 @@ use Rattle.geometry.specs.Limit.{coordinate_limit}
 use Rattle.geometry.specs.Fitness.{FitFor}
 use Rattle.geometry.specs.Trapezoids.{trapezoid_codec, layer_of}
 use Rattle.boolean.specs.declared.Folded.{Folded}
-use Rattle.boolean.specs.declared.Folded.TheVariants.{NoRoom, Done}
 use Rattle.boolean.specs.Operations.{minus, minus_all}
 use Rattle.boolean.specs.Space.{enough, space, minus_stages, minus_all_stages}
 use Rattle.boolean.proofs.Kept.{minus_fit}
+use Rattle.boolean.specs.declared.NoRoom.{NoRoom}
+use Rattle.boolean.specs.Folds.{folded}
 use Rattle.trapezoids_code.proofs.Writing.{plain}
-use Rattle.remainder_code.specs.Code.{from, leading, OverlaysWithin, Remaining, FoldedAs, ScratchFor}
-use Rattle.remainder_code.proofs.Answers.{folded_within, within_least, within_no_room, within_done, filled_remaining, leading_filled}
+use Rattle.remainder_code.specs.Code.{from, leading, with_overlays, OverlaysWithin, Remaining, FoldedAs, ScratchFor}
+use Rattle.remainder_code.proofs.Answers.{folded_within, within_least, filled_remaining, leading_filled}
 use Rattle.remainder_code.proofs.Folding.{Fold, Steps, Folding, fold_from, fold_leading, fold_stands, fold_fit, fold_no_room, fold_next}
 use Rattle.remainder_code.proofs.MinusFold.{stages-length}
 
@@ -92,7 +94,7 @@ reduce_start room layer out scratch k start h f l z =
     }
 
 module _ {W room : ℕ} {layer : List ℤ} {rs : List Trapezoid} {start : ℕ} {out scratch : List ℤ} {k made i : ℕ} (h : Reducing W room layer rs start out scratch k made i) where
-  pub reduce_none : k ≡ 0 → FoldedAs W room (minus_all rs (from layer start)) (minus_all_stages 0 rs (from layer start)) (Done k made) out
+  pub reduce_none : k ≡ 0 → FoldedAs W room (minus_all rs (from layer start)) (minus_all_stages 0 rs (from layer start)) (folded k made) out
   reduce_none z =
       let e : h.folding.done ≡ [] = sym (fold_leading h.folding) ∙ ap (λ (m : ℕ). records_from trapezoid_codec m out 0) z ∙ from_none trapezoid_codec 0 out 0 (omega arith) in
       fold_stands h.folding (ap (λ (ts : List Trapezoid). minus_all ts (from layer i)) e ∙ all-empty (from layer i) ∙ sym e)
@@ -101,36 +103,40 @@ module _ {W room : ℕ} {layer : List ℤ} {rs : List Trapezoid} {start : ℕ} {
   abbrev F : Folding minus_all_fold W room (minus_all rs (from layer start)) (minus_all_stages 0 rs (from layer start)) layer out k made i
   F = h.folding
 
-  -- what an answer says of the loop, when the buffer comes back as t and the scratch area as w
-  pub record Reduced (f : Folded) (t w : List ℤ) : Type 0 where
-    pub full : (c : ℕ) → f ≡ NoRoom c → FoldedAs W room (minus_all rs (from layer start)) (minus_all_stages 0 rs (from layer start)) (NoRoom (made + c)) t
-    pub full_few : (c : ℕ) → f ≡ NoRoom c → made + c ≤ max_records * (i + 1 - start)
-    pub keeps : (p c : ℕ) → f ≡ Done p c → Reducing W room layer rs start t w p (made + c) (i + 1)
+  -- what a turn's answer, with the overlays made before, says of the loop, when the buffer comes back as t and the scratch area as w
+  pub record Reduced (g : Result Folded NoRoom) (t w : List ℤ) : Type 0 where
+    pub full : (r : NoRoom) → g ≡ Err r → FoldedAs W room (minus_all rs (from layer start)) (minus_all_stages 0 rs (from layer start)) (Err r) t
+    pub full_few : (r : NoRoom) → g ≡ Err r → r.overlays ≤ max_records * (i + 1 - start)
+    pub keeps : (f : Folded) → g ≡ Ok f → Reducing W room layer rs start t w f.trapezoids f.overlays (i + 1)
 
-  pub reduce_turn : room ≤ max_records → (l : i < count trapezoid_codec layer) (b : Trapezoid) → b ≡ record_at trapezoid_codec layer i → (f : Folded) (t w : List ℤ)
-      → FoldedAs (length out) room (minus (leading out k) b) (minus_stages 0 (leading out k) b) f t → Blank (pos 0) w → length w ≡ length scratch → Reduced f t w
-  reduce_turn small l b is f t w g z n = record { full = full; full_few = full_few; keeps = keeps }
-    where
-      known : (r : Folded) → f ≡ r → FoldedAs W room (minus F.done b) (minus_stages 0 F.done b) r t
-      known r e = rw (fold_leading F, F.long, e) at g
+  module _ (small : room ≤ max_records) (b : Trapezoid) (f : Result Folded NoRoom) (t : List ℤ) (g : FoldedAs (length out) room (minus (leading out k) b) (minus_stages 0 (leading out k) b) f t) where
+    known : FoldedAs W room (minus F.done b) (minus_stages 0 F.done b) f t
+    known = rw (fold_leading F, F.long) at g
 
-      few : OverlaysWithin max_records f
-      few = let g = known f refl in within_least (length (minus_stages 0 F.done b)) max_records f (omega (arith, stages-length 0 F.done b, F.size, F.within, small)) (folded_within W room (minus F.done b) (minus_stages 0 F.done b) f t g)
+    pub reduce_few : OverlaysWithin max_records f
+    reduce_few = within_least (length (minus_stages 0 F.done b)) max_records f (omega (arith, stages-length 0 F.done b, F.size, F.within, small)) (folded_within W room (minus F.done b) (minus_stages 0 F.done b) f t known)
 
-      full : (c : ℕ) → f ≡ NoRoom c → FoldedAs W room (minus_all rs (from layer start)) (minus_all_stages 0 rs (from layer start)) (NoRoom (made + c)) t
-      full c e = let g = known (NoRoom c) e in (fold_no_room F l b is c g.0, g.1)
-
-      full_few : (c : ℕ) → f ≡ NoRoom c → made + c ≤ max_records * (i + 1 - start)
-      full_few c e = omega (arith, h.few, h.some, within_no_room max_records c f e few)
-
-      keeps : (p c : ℕ) → f ≡ Done p c → Reducing W room layer rs start t w p (made + c) (i + 1)
-      keeps p c e =
-          let g = known (Done p c) e in
-          let s = fold_next F l b is p c t g.0 g.1 in
-          record {
-            folding = s;
-            remainder = filled_remaining W room (minus F.done b) p t g.1 s.long s.wide (minus_fit coordinate_limit F.done b (subst (All (FitFor coordinate_limit)) (fold_leading F) h.remainder.fit) (fold_fit F l b is));
-            few = omega (arith, h.few, h.some, within_done max_records p c f e few);
-            some = omega (arith, h.some);
-            scratch_for = (z, n ∙ h.scratch_for.1 ∙ F.long ∙ sym s.long);
-          }
+    pub reduce_turn : (l : i < count trapezoid_codec layer) → b ≡ record_at trapezoid_codec layer i → (w : List ℤ) → Blank (pos 0) w → length w ≡ length scratch → Reduced (with_overlays made f) t w
+    reduce_turn l is w z n = go f known reduce_few
+      where
+        go : (f : Result Folded NoRoom) → FoldedAs W room (minus F.done b) (minus_stages 0 F.done b) f t → OverlaysWithin max_records f → Reduced (with_overlays made f) t w
+        go (Err r) g few =
+            record {
+              full = λ q e. subst (λ (x : Result Folded NoRoom). FoldedAs W room (minus_all rs (from layer start)) (minus_all_stages 0 rs (from layer start)) x t) e (fold_no_room F l b is r.overlays g.0, g.1);
+              full_few = λ q e. let s : made + r.overlays ≡ q.overlays = cc in omega (arith, h.few, h.some, few, s);
+              keeps = λ q e. cc;
+            }
+        go (Ok r) g few =
+            let s = fold_next F l b is r.trapezoids r.overlays t g.0 g.1 in
+            let next : Reducing W room layer rs start t w r.trapezoids (made + r.overlays) (i + 1) = record {
+              folding = s;
+              remainder = filled_remaining W room (minus F.done b) r.trapezoids t g.1 s.long s.wide (minus_fit coordinate_limit F.done b (subst (All (FitFor coordinate_limit)) (fold_leading F) h.remainder.fit) (fold_fit F l b is));
+              few = omega (arith, h.few, h.some, few);
+              some = omega (arith, h.some);
+              scratch_for = (z, n ∙ h.scratch_for.1 ∙ F.long ∙ sym s.long);
+            } in
+            record {
+              full = λ q e. cc;
+              full_few = λ q e. cc;
+              keeps = λ q e. let u : r.trapezoids ≡ q.trapezoids = cc in let v : made + r.overlays ≡ q.overlays = cc in rw (← u, ← v) next;
+            }

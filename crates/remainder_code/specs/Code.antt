@@ -1,5 +1,5 @@
 -- What folds answer and write, by the definitions.
-use Rattle.std.specs.Prelude.{◌≡◌, Bool, true, cond, List, [], ◌∷◌, ℕ, suc, ◌+◌, ◌*◌, ◌-◌, ◌<◌, ◌≤◌, length, take, drop, replicate, ℤ, pos}
+use Rattle.std.specs.Prelude.{◌≡◌, Bool, true, cond, List, [], ◌∷◌, ℕ, suc, ◌+◌, ◌*◌, ◌-◌, ◌<◌, ◌≤◌, length, take, drop, replicate, ℤ, pos, Option, Some, None, Result, Ok, Err}
 use Rattle.lists.specs.Lists.{All}
 use Rattle.records.specs.Limits.{memory_width, max_records}
 use Rattle.records.specs.Records.{Codec, record_at, records_from, image, count, Blank}
@@ -8,33 +8,33 @@ use Rattle.geometry.specs.declared.Placed.{Placed}
 use Rattle.geometry.specs.Limit.{coordinate_limit}
 use Rattle.geometry.specs.Fitness.{FitFor}
 use Rattle.geometry.specs.Trapezoids.{trapezoid_codec, layer_of}
-use Rattle.geometry.specs.declared.Fill.TheVariants.{Written}
 use Rattle.boolean.specs.Operations.{minus, minus_all}
 use Rattle.boolean.specs.declared.Folded.{Folded}
-use Rattle.boolean.specs.declared.Folded.TheVariants.{NoRoom, Done}
 use Rattle.boolean.specs.Space.{Stage, enough, no_room, space, minus_stages, minus_all_stages, one_stages}
+use Rattle.boolean.specs.declared.NoRoom.{NoRoom}
+use Rattle.boolean.specs.Folds.{folded, no_room_after}
 use Rattle.boxes.specs.declared.Found.{Found}
 use Rattle.trapezoids_code.specs.Placed.{PlacedAs}
 use Rattle.trapezoids_code.specs.Tails.{FilledBy}
 
 -- of a tail of n words, for a fold with the result rs, kept as C keeps it, and the stages ms: there was no room after so many overlays, and the tail is
 -- blank; or the tail holds rs and is blank past them
-abbrev pub FoldedBy : {R : Type 0} → Codec ℤ R → ℕ → ℕ → List R → List Stage → Folded → List ℤ → Type 0
-FoldedBy C n room rs ms (NoRoom overlays) d = (space room ms ≡ no_room overlays) × (d ≡ replicate n (pos 0))
-FoldedBy C n room rs ms (Done trapezoids overlays) d = (space room ms ≡ enough overlays) × FilledBy C n room rs (Written trapezoids) d
+abbrev pub FoldedBy : {R : Type 0} → Codec ℤ R → ℕ → ℕ → List R → List Stage → Result Folded NoRoom → List ℤ → Type 0
+FoldedBy C n room rs ms (Err r) d = (space room ms ≡ no_room r.overlays) × (d ≡ replicate n (pos 0))
+FoldedBy C n room rs ms (Ok f) d = (space room ms ≡ enough f.overlays) × FilledBy C n room rs (Some f.trapezoids) d
 
 -- of trapezoids, with empty sets
-abbrev pub FoldedAs : ℕ → ℕ → List Trapezoid → List Stage → Folded → List ℤ → Type 0
+abbrev pub FoldedAs : ℕ → ℕ → List Trapezoid → List Stage → Result Folded NoRoom → List ℤ → Type 0
 FoldedAs n room ts ms r d = FoldedBy trapezoid_codec n room ts ms r d
 
 -- the trapezoids rs minus b, the trapezoids rs minus all of bs, and one trapezoid a minus all of bs and added, written into a tail that was d₀
-abbrev pub MinusWritten : List ℤ → ℕ → List Trapezoid → Trapezoid → Folded → List ℤ → Type 0
+abbrev pub MinusWritten : List ℤ → ℕ → List Trapezoid → Trapezoid → Result Folded NoRoom → List ℤ → Type 0
 MinusWritten d₀ room rs b r d = FoldedAs (length d₀) room (minus rs b) (minus_stages 0 rs b) r d
 
-abbrev pub MinusAllWritten : List ℤ → ℕ → List Trapezoid → List Trapezoid → Folded → List ℤ → Type 0
+abbrev pub MinusAllWritten : List ℤ → ℕ → List Trapezoid → List Trapezoid → Result Folded NoRoom → List ℤ → Type 0
 MinusAllWritten d₀ room rs bs r d = FoldedAs (length d₀) room (minus_all rs bs) (minus_all_stages 0 rs bs) r d
 
-abbrev pub OneWritten : List ℤ → ℕ → Trapezoid → List Trapezoid → Folded → List ℤ → Type 0
+abbrev pub OneWritten : List ℤ → ℕ → Trapezoid → List Trapezoid → Result Folded NoRoom → List ℤ → Type 0
 OneWritten d₀ room a bs r d = FoldedAs (length d₀) room (minus_all (a ∷ []) bs) (one_stages 0 a bs) r d
 
 -- a scratch area that is blank and as long as the output
@@ -68,10 +68,17 @@ abbrev pub before_first : (Trapezoid → Bool) → List Trapezoid → ℕ
 before_first test [] = 0
 before_first test (t ∷ ts) = cond (test t) 0 (suc (before_first test ts))
 
--- the first trapezoid of a layer that passes a test, if some does
-pub record FoundAs (test : Trapezoid → Bool) (layer : List ℤ) (r : Found) : Type 0 where
-  pub before : r.before ≡ before_first test (layer_of layer)
-  pub placed : r.before < count trapezoid_codec layer → PlacedAs (record_at trapezoid_codec layer r.before) r.placed × (test r.placed.shape ≡ true)
+-- the first trapezoid of a layer that passes a test
+pub record FirstFound (test : Trapezoid → Bool) (layer : List ℤ) (f : Found) : Type 0 where
+  pub before : f.before ≡ before_first test (layer_of layer)
+  pub within : f.before < count trapezoid_codec layer
+  pub placed : PlacedAs (record_at trapezoid_codec layer f.before) f.placed
+  pub passes : test f.placed.shape ≡ true
+
+-- that, if some passes; if none does, all of the layer comes before the first
+abbrev pub FoundAs : (Trapezoid → Bool) → List ℤ → Option Found → Type 0
+FoundAs test layer None = count trapezoid_codec layer ≡ before_first test (layer_of layer)
+FoundAs test layer (Some f) = FirstFound test layer f
 
 -- the first of n trapezoids, which passes a test
 pub record FirstPlaced (test : Trapezoid → Bool) (d : List ℤ) (n : ℕ) (first : Placed) : Type 0 where
@@ -90,11 +97,16 @@ overlays_of_layer = max_records * overlays_of_one
 abbrev pub max_overlays : ℕ
 max_overlays = 2 * overlays_of_layer
 
--- an answer with n more
-abbrev pub with_overlays : ℕ → Folded → Folded
-with_overlays n (NoRoom overlays) = NoRoom (n + overlays)
-with_overlays n (Done trapezoids overlays) = Done trapezoids (n + overlays)
+-- one overlay, as a fold
+abbrev pub once : Option ℕ → Result Folded NoRoom
+once None = no_room_after 1
+once (Some n) = folded n 1
 
-abbrev pub OverlaysWithin : ℕ → Folded → Type 0
-OverlaysWithin m (NoRoom overlays) = overlays ≤ m
-OverlaysWithin m (Done trapezoids overlays) = overlays ≤ m
+-- an answer with n more
+abbrev pub with_overlays : ℕ → Result Folded NoRoom → Result Folded NoRoom
+with_overlays n (Err r) = no_room_after (n + r.overlays)
+with_overlays n (Ok f) = folded f.trapezoids (n + f.overlays)
+
+abbrev pub OverlaysWithin : ℕ → Result Folded NoRoom → Type 0
+OverlaysWithin m (Err r) = r.overlays ≤ m
+OverlaysWithin m (Ok f) = f.overlays ≤ m

@@ -13,11 +13,11 @@ ghost use Rattle.boolean.specs.Space.{addition};
 ghost use Rattle.trapezoids_code.specs.Placed.{PlacedAs, Pair};
 ghost use Rattle.trapezoids_code.specs.Tails.{Borrowed};
 ghost use Rattle.boxes_code.specs.Code.{BoxedAs, BoxedLayer};
-ghost use Rattle.remainder_code.specs.Code.{max_overlays, with_overlays, OverlaysWithin, leading, Remaining, FoldedAs, FoundAs, FirstPlaced, MinusWritten, ScratchFor};
+ghost use Rattle.remainder_code.specs.Code.{max_overlays, with_overlays, OverlaysWithin, leading, Remaining, FoldedAs, FoundAs, FirstPlaced, MinusWritten, ScratchFor, once as once_of};
 
-use boolean::Folded;
+use boolean::{Folded, NoRoom};
 use boxes::{Box, Found};
-use geometry::{Fill, Placed};
+use geometry::Placed;
 
 // Each trapezoid of the remainder, in order, replaced by its parts that are not in b. Those not yet reached count against the room. The first
 // overlaps b.
@@ -27,36 +27,31 @@ pub fn minus_into(
     b: Placed,
     out: &mut [i32],
     room: usize,
-) -> Folded
+) -> Result<Folded, NoRoom>
     requires all { All (FitFor coordinate_limit) (layer_of remainder.now) × (count trapezoid_codec remainder.now ≤ room + 1) }
     requires placed_as { PlacedAs b.shape b × Borrowed out.old room }
     requires first_placed { FirstPlaced (λ t. overlaps t b.shape) remainder.now (count trapezoid_codec remainder.now) first }
     ensures { MinusWritten out.old room (layer_of remainder.now) b.shape result out.new }
 {
     let n = remainder.len() / records::MEMORY_WIDTH;
-    let g = overlay_code::overlapping_into(first, b, 1, out, room - (n - 1));
-    let Fill::Written(parts) = g else {
-        records_code::clear(out);
-        return Folded::NoRoom(1);
+    let Some(mut k) = overlay_code::overlapping_into(first, b, 1, out, room - (n - 1)) else {
+        out.fill(0);
+        return Err(NoRoom { overlays: 1 });
     };
-    let mut k = parts;
-    let mut i = 1;
-    while i < n {
-        let t = trapezoids_code::load(remainder, i);
-        let a = trapezoids_code::place(t);
+    for i in 1..n {
+        let a = trapezoids_code::placed_at(remainder, i);
         let free = room - k - (n - i - 1);
-        let f = overlay_code::overlay_into(a, b, 1, &mut out[records::MEMORY_WIDTH * k..], free);
-        let Fill::Written(m) = f else {
-            records_code::clear(out);
-            return Folded::NoRoom(i + 1);
+        let tail = &mut out[records::MEMORY_WIDTH * k..];
+        let Some(parts) = overlay_code::overlay_into(a, b, 1, tail, free) else {
+            out.fill(0);
+            return Err(NoRoom { overlays: i + 1 });
         };
-        k += m;
-        i += 1;
+        k += parts;
     }
-    Folded::Done {
+    Ok(Folded {
         trapezoids: k,
         overlays: n,
-    }
+    })
 }
 
 // The first n records of `out` are moved to `scratch`.
@@ -66,8 +61,8 @@ fn move_into(out: &mut [i32], scratch: &mut [i32], n: usize)
     ensures scratch_after { scratch.new ≡ take (memory_width * n) out.old ++ drop (memory_width * n) scratch.old }
 {
     let end = records::MEMORY_WIDTH * n;
-    records_code::copy(&out[..end], &mut scratch[..end]);
-    records_code::clear(&mut out[..end]);
+    scratch[..end].copy_from_slice(&out[..end]);
+    out[..end].fill(0);
 }
 
 // The n trapezoids that `out` holds are the remainder: each replaced by its parts that are not in b. The first overlaps b.
@@ -78,7 +73,7 @@ fn replace(
     out: &mut [i32],
     scratch: &mut [i32],
     room: usize,
-) -> Folded
+) -> Result<Folded, NoRoom>
     requires placed_as { PlacedAs b.shape b × Remaining out.old n room }
     requires scratch_for { ScratchFor out.old scratch.old }
     requires first_placed { FirstPlaced (λ t. overlaps t b.shape) out.old n first }
@@ -88,48 +83,47 @@ fn replace(
     move_into(out, scratch, n);
     let end = records::MEMORY_WIDTH * n;
     let f = minus_into(&scratch[..end], first, b, out, room);
-    records_code::clear(&mut scratch[..end]);
+    scratch[..end].fill(0);
     f
 }
 
-// The first trapezoid of a layer that overlaps b; if none does, all of the layer comes before b itself.
-fn first_overlapped(layer: &[i32], b: Placed) -> Found
+// The first trapezoid of a layer that overlaps b.
+fn first_overlapped(layer: &[i32], b: Placed) -> Option<Found>
     requires { All (FitFor coordinate_limit) (layer_of layer.now) × PlacedAs b.shape b }
     ensures { FoundAs (λ t. overlaps t b.shape) layer.now result }
 {
-    let n = layer.len() / records::MEMORY_WIDTH;
-    let mut i = 0;
-    while i < n {
+    for i in 0..layer.len() / records::MEMORY_WIDTH {
         let a = trapezoids_code::placed_at(layer, i);
         if overlaps_code::overlapping(a, b) {
-            return Found {
+            return Some(Found {
                 before: i,
                 placed: a,
-            };
+            });
         }
-        i += 1;
     }
-    Found {
-        before: i,
-        placed: b,
-    }
+    None
 }
 
 // The n trapezoids that `out` holds are the remainder: each replaced by its parts that are not in b. Those before the first that overlaps b stand.
-pub fn reduce(b: Placed, n: usize, out: &mut [i32], scratch: &mut [i32], room: usize) -> Folded
+pub fn reduce(
+    b: Placed,
+    n: usize,
+    out: &mut [i32],
+    scratch: &mut [i32],
+    room: usize,
+) -> Result<Folded, NoRoom>
     requires placed_as { PlacedAs b.shape b × Remaining out.old n room }
     requires scratch_for { ScratchFor out.old scratch.old }
     ensures minus_written { MinusWritten out.old room (leading out.old n) b.shape result out.new }
     ensures blank { Blank (pos 0) scratch.new }
 {
-    let v = first_overlapped(&out[..records::MEMORY_WIDTH * n], b);
-    let p = v.before;
-    if p == n {
-        return Folded::Done {
+    let Some(v) = first_overlapped(&out[..records::MEMORY_WIDTH * n], b) else {
+        return Ok(Folded {
             trapezoids: n,
             overlays: n,
-        };
-    }
+        });
+    };
+    let p = v.before;
     let start = records::MEMORY_WIDTH * p;
     let f = replace(
         v.placed,
@@ -140,103 +134,94 @@ pub fn reduce(b: Placed, n: usize, out: &mut [i32], scratch: &mut [i32], room: u
         room - p,
     );
     match f {
-        Folded::NoRoom(overlays) => {
-            records_code::clear(&mut out[..start]);
-            Folded::NoRoom(p + overlays)
+        Ok(f) => Ok(Folded {
+            trapezoids: p + f.trapezoids,
+            overlays: p + f.overlays,
+        }),
+        Err(r) => {
+            out[..start].fill(0);
+            Err(NoRoom {
+                overlays: p + r.overlays,
+            })
         }
-        Folded::Done {
-            trapezoids,
-            overlays,
-        } => Folded::Done {
-            trapezoids: p + trapezoids,
-            overlays: p + overlays,
-        },
     }
 }
 
 // The same answer with more overlays.
-pub fn more_overlays(n: usize, f: Folded) -> Folded
+pub fn more_overlays(n: usize, f: Result<Folded, NoRoom>) -> Result<Folded, NoRoom>
     requires { (n ≤ max_overlays) × OverlaysWithin max_overlays f }
     ensures { result ≡ with_overlays n f }
 {
     match f {
-        Folded::NoRoom(overlays) => Folded::NoRoom(n + overlays),
-        Folded::Done {
+        Ok(f) => Ok(Folded {
+            trapezoids: f.trapezoids,
+            overlays: n + f.overlays,
+        }),
+        Err(r) => Err(NoRoom {
+            overlays: n + r.overlays,
+        }),
+    }
+}
+
+// One overlay, which wrote so many parts or had no room for them.
+fn once(parts: Option<usize>) -> Result<Folded, NoRoom>
+    ensures { result ≡ once_of parts }
+{
+    match parts {
+        Some(trapezoids) => Ok(Folded {
             trapezoids,
-            overlays,
-        } => Folded::Done {
-            trapezoids,
-            overlays: n + overlays,
-        },
+            overlays: 1,
+        }),
+        None => Err(NoRoom { overlays: 1 }),
     }
 }
 
 // One trapezoid minus one other.
-pub fn first_into(a: Placed, b: Placed, out: &mut [i32], room: usize) -> Folded
+pub fn first_into(a: Placed, b: Placed, out: &mut [i32], room: usize) -> Result<Folded, NoRoom>
     requires { Pair a b × Borrowed out.old room }
     ensures { MinusWritten out.old room (a.shape ∷ []) b.shape result out.new }
 {
-    let f = overlay_code::overlay_into(a, b, 1, out, room);
-    match f {
-        Fill::NoRoom => Folded::NoRoom(1),
-        Fill::Written(n) => Folded::Done {
-            trapezoids: n,
-            overlays: 1,
-        },
-    }
+    once(overlay_code::overlay_into(a, b, 1, out, room))
 }
 
 // The same of two that overlap.
-pub fn cut_into(a: Placed, b: Placed, out: &mut [i32], room: usize) -> Folded
+pub fn cut_into(a: Placed, b: Placed, out: &mut [i32], room: usize) -> Result<Folded, NoRoom>
     requires { Pair a b × (overlaps a.shape b.shape ≡ true) × Borrowed out.old room }
     ensures { MinusWritten out.old room (a.shape ∷ []) b.shape result out.new }
 {
-    let f = overlay_code::overlapping_into(a, b, 1, out, room);
-    match f {
-        Fill::NoRoom => Folded::NoRoom(1),
-        Fill::Written(n) => Folded::Done {
-            trapezoids: n,
-            overlays: 1,
-        },
-    }
+    once(overlay_code::overlapping_into(a, b, 1, out, room))
 }
 
 // One trapezoid added whole.
-pub fn add_whole(a: Placed, out: &mut [i32], room: usize) -> Folded
+pub fn add_whole(a: Placed, out: &mut [i32], room: usize) -> Result<Folded, NoRoom>
     requires { Borrowed out.old room }
     ensures { FoldedAs (length out.old) room (a.shape ∷ []) (addition 1 ∷ []) result out.new }
 {
     if room == 0 {
-        return Folded::NoRoom(0);
+        return Err(NoRoom { overlays: 0 });
     }
     trapezoids_code::store(out, a.shape);
-    Folded::Done {
+    Ok(Folded {
         trapezoids: 1,
         overlays: 0,
-    }
+    })
 }
 
-// The first trapezoid of a layer that overlaps a; if none does, all of the layer comes before a itself.
-pub fn first_overlapping(a: Placed, e: Box, layer: &[i32], boxes: &[i64]) -> Found
+// The first trapezoid of a layer that overlaps a.
+pub fn first_overlapping(a: Placed, e: Box, layer: &[i32], boxes: &[i64]) -> Option<Found>
     requires { BoxedAs a e × BoxedLayer layer.now boxes.now }
     ensures { FoundAs (overlaps a.shape) layer.now result }
 {
-    let n = layer.len() / records::MEMORY_WIDTH;
-    let mut i = 0;
-    while i < n {
+    for i in 0..layer.len() / records::MEMORY_WIDTH {
         if !boxes_code::boxes_disjoint(e, boxes, i) {
             let b = trapezoids_code::placed_at(layer, i);
             if overlaps_code::overlapping(a, b) {
-                return Found {
+                return Some(Found {
                     before: i,
                     placed: b,
-                };
+                });
             }
         }
-        i += 1;
     }
-    Found {
-        before: i,
-        placed: a,
-    }
+    None
 }

@@ -8,14 +8,15 @@ use lib.IntN.{ℤ, pos}
 use Rattle.records.specs.Limits.{memory_width}
 use Rattle.records.specs.Records.{Blank}
 use Rattle.records.proofs.Buffer.{blank_of}
-use Rattle.geometry.specs.declared.Checked.{Checked}
-use Rattle.geometry.specs.declared.Checked.TheVariants.{Refused}
 use Rattle.geometry.specs.Fitness.{SmallRefusal}
 use Rattle.geometry.proofs.Refusals.{SmallChecked}
 use Rattle.calls.specs.Outcomes.{zeros}
 use Rattle.trapezoids_code.specs.Tails.{Borrowed}
+use Rattle.std.specs.Prelude.{Result}
+use Rattle.geometry.specs.declared.Refusal.{Refusal}
+use Rattle.geometry.specs.Refusals.{refused_by}
 
-pub small_refused : {c : Checked} {n p : ℕ} → c ≡ Refused n p → SmallChecked c → SmallRefusal n p
+pub small_refused : {c : (Result (Unit {0}) Refusal)} {n p : ℕ} → c ≡ refused_by n p → SmallChecked c → SmallRefusal n p
 small_refused e h = subst SmallChecked e h
 
 -- of 12

@@ -1,4 +1,5 @@
 -- The outcome of each call once rows 1 to 11 have let it pass, way out by way out.
+use Rattle.std.specs.Prelude.{Result}
 use mathlib.Core.Path.{◌≡◌, ◌∙◌, ap, subst}
 use mathlib.Core.List.{List, [], ◌∷◌}
 use Prim.Native.Nat.{ℕ, ◌≤◌}
@@ -7,16 +8,16 @@ use lib.ListN.{length}
 use lib.IntN.{ℤ}
 use Rattle.records.specs.Limits.{max_records}
 use Rattle.geometry.specs.declared.Trapezoid.{Trapezoid}
-use Rattle.geometry.specs.declared.Checked.TheVariants.{Passed, Refused}
 use Rattle.geometry.specs.Trapezoids.{layer_of}
 use Rattle.sources.specs.Sourced.{Sourced, sourced_of}
 use Rattle.boolean.specs.declared.Folded.{Folded}
-use Rattle.boolean.specs.declared.Folded.TheVariants.{NoRoom, Done}
 use Rattle.boolean.specs.Operations.{code_at, difference, OperandOf}
 use Rattle.boolean.specs.Sources.{sourced_result}
 use Rattle.boolean.specs.Space.{Stage, space, stages, equality_stages}
 use Rattle.boolean.specs.declared.Compared.{Compared}
 use Rattle.boolean.specs.declared.Compared.TheVariants as comparison
+use Rattle.boolean.specs.declared.NoRoom.{NoRoom}
+use Rattle.boolean.specs.Folds.{folded, no_room_after}
 use Rattle.files.specs.Outcomes.{Answer, refused, done, SmallAnswer}
 use Rattle.calls.specs.Answers.{EqualityAnswer, refused_equality, same, differs, SmallEqualityAnswer}
 use Rattle.calls.specs.Rows.{both_disjoint}
@@ -24,21 +25,23 @@ use Rattle.calls.specs.Outcomes.{Outcome, observed, zeros, room_of, written, out
 use Rattle.remainder_code.specs.Code.{max_overlays, OverlaysWithin}
 use Rattle.bearing_code.specs.Code.{SourcedAs}
 use Rattle.equality_code.specs.Code.{ComparedAs, ComparedWithin}
+use Rattle.std.specs.Prelude.{Ok}
+use Rattle.geometry.specs.Refusals.{refused_by}
 
 -- ---- operations that write trapezoids
-module _ (room : ℕ) (ts : List Sourced) (ms : List Stage) (f : Folded) (n m : ℕ) (d s : List ℤ) (h : SourcedAs m room ts ms f d) (e : m ≡ n) (z : s ≡ zeros n) where
-  folded : SourcedAs n room ts ms f d
-  folded = subst (λ (m : ℕ). SourcedAs m room ts ms f d) e h
+module _ (room : ℕ) (ts : List Sourced) (ms : List Stage) (f : Result Folded NoRoom) (n m : ℕ) (d s : List ℤ) (h : SourcedAs m room ts ms f d) (e : m ≡ n) (z : s ≡ zeros n) where
+  whole : SourcedAs n room ts ms f d
+  whole = subst (λ (m : ℕ). SourcedAs m room ts ms f d) e h
 
-  pub written_no_room : {c : ℕ} → f ≡ NoRoom c → observed (refused 12 0) d s ≡ written n ts (space room ms)
-  written_no_room g = let k = subst (λ (f : Folded). SourcedAs n room ts ms f d) g folded in rw (k.0, k.1, z)
+  pub written_no_room : {c : ℕ} → f ≡ no_room_after c → observed (refused 12 0) d s ≡ written n ts (space room ms)
+  written_no_room g = let k = subst (λ (f : Result Folded NoRoom). SourcedAs n room ts ms f d) g whole in rw (k.0, k.1, z)
 
-  pub written_done : {t c : ℕ} → f ≡ Done t c → observed (done t c) d s ≡ written n ts (space room ms)
-  written_done g = let k = subst (λ (f : Folded). SourcedAs n room ts ms f d) g folded in rw (k.0, k.1.0, k.1.2, z)
+  pub written_done : {t c : ℕ} → f ≡ folded t c → observed (done t c) d s ≡ written n ts (space room ms)
+  written_done g = let k = subst (λ (f : Result Folded NoRoom). SourcedAs n room ts ms f d) g whole in rw (k.0, k.1.0, k.1.2, z)
 
-  pub small_done : room ≤ max_records → OverlaysWithin max_overlays f → {t c : ℕ} → f ≡ Done t c → SmallAnswer (done t c)
+  pub small_done : room ≤ max_records → OverlaysWithin max_overlays f → {t c : ℕ} → f ≡ folded t c → SmallAnswer (done t c)
   small_done l o {t} {c} g =
-      let k = subst (λ (f : Folded). SourcedAs n room ts ms f d) g folded in
+      let k = subst (λ (f : Result Folded NoRoom). SourcedAs n room ts ms f d) g whole in
       let w : c ≤ max_overlays = subst (OverlaysWithin max_overlays) g o in
       (omega (arith, l, k.1.0, k.1.1), omega (arith, w))
 
@@ -46,22 +49,22 @@ module _ (code : ℕ) (a b out scratch : List ℤ) where
   abbrev searched : Outcome Answer
   searched = outcome (both_disjoint a b) out scratch (sourced_result (code_at code) (sourced_of a) (sourced_of b)) (stages (code_at code) (layer_of a) (layer_of b))
 
-  pub combine_refuses : {n p : ℕ} → both_disjoint a b ≡ Refused n p → observed (refused n p) out scratch ≡ searched
+  pub combine_refuses : {n p : ℕ} → both_disjoint a b ≡ refused_by n p → observed (refused n p) out scratch ≡ searched
   combine_refuses e = rw e
 
-  combine_written : both_disjoint a b ≡ Passed
+  combine_written : both_disjoint a b ≡ Ok tt
       → written (length out) (sourced_result (code_at code) (sourced_of a) (sourced_of b)) (space (room_of out) (stages (code_at code) (layer_of a) (layer_of b))) ≡ searched
   combine_written e = rw e
 
-  module _ (e : both_disjoint a b ≡ Passed) (f : Folded) (m : ℕ) (d s : List ℤ)
+  module _ (e : both_disjoint a b ≡ Ok tt) (f : Result Folded NoRoom) (m : ℕ) (d s : List ℤ)
       (h : SourcedAs m (room_of out) (sourced_result (code_at code) (sourced_of a) (sourced_of b)) (stages (code_at code) (layer_of a) (layer_of b)) f d)
       (l : m ≡ length out) (z : s ≡ zeros (length out)) where
-    pub combine_no_room : {c : ℕ} → f ≡ NoRoom c → observed (refused 12 0) d s ≡ searched
+    pub combine_no_room : {c : ℕ} → f ≡ no_room_after c → observed (refused 12 0) d s ≡ searched
     combine_no_room g =
         written_no_room (room_of out) (sourced_result (code_at code) (sourced_of a) (sourced_of b)) (stages (code_at code) (layer_of a) (layer_of b)) f (length out) m d s h l z g
         ∙ combine_written e
 
-    pub combine_done : {t c : ℕ} → f ≡ Done t c → observed (done t c) d s ≡ searched
+    pub combine_done : {t c : ℕ} → f ≡ folded t c → observed (done t c) d s ≡ searched
     combine_done g =
         written_done (room_of out) (sourced_result (code_at code) (sourced_of a) (sourced_of b)) (stages (code_at code) (layer_of a) (layer_of b)) f (length out) m d s h l z g
         ∙ combine_written e
@@ -101,14 +104,14 @@ module _ (a b out scratch : List ℤ) where
       equality_outcome (both_disjoint a b) out scratch
       (compared_in (difference (layer_of a) (layer_of b)) (difference (layer_of b) (layer_of a)) (space (room_of out) (equality_stages (layer_of a) (layer_of b))))
 
-  pub equal_refuses : {n p : ℕ} → both_disjoint a b ≡ Refused n p → observed (refused_equality n p) out scratch ≡ tested
+  pub equal_refuses : {n p : ℕ} → both_disjoint a b ≡ refused_by n p → observed (refused_equality n p) out scratch ≡ tested
   equal_refuses e = rw e
 
-  equal_compared : (d s : List ℤ) → d ≡ zeros (length out) → s ≡ zeros (length scratch) → both_disjoint a b ≡ Passed
+  equal_compared : (d s : List ℤ) → d ≡ zeros (length out) → s ≡ zeros (length scratch) → both_disjoint a b ≡ Ok tt
       → observed (compared_in (difference (layer_of a) (layer_of b)) (difference (layer_of b) (layer_of a)) (space (room_of out) (equality_stages (layer_of a) (layer_of b)))) d s ≡ tested
   equal_compared d s y z e = rw (e, y, z)
 
-  module _ (e : both_disjoint a b ≡ Passed) (f : Compared) (d s : List ℤ) (h : ComparedAs (room_of out) (layer_of a) (layer_of b) f)
+  module _ (e : both_disjoint a b ≡ Ok tt) (f : Compared) (d s : List ℤ) (h : ComparedAs (room_of out) (layer_of a) (layer_of b) f)
       (y : d ≡ zeros (length out)) (z : s ≡ zeros (length scratch)) where
     pub equal_no_room : {c : ℕ} → f ≡ comparison.NoRoom c → observed (refused_equality 12 0) d s ≡ tested
     equal_no_room g = ap (λ x. observed x d s) (refused_no_room (room_of out) (layer_of a) (layer_of b) f h g) ∙ equal_compared d s y z e

@@ -11,50 +11,38 @@ ghost use Rattle.boxes_code.specs.Code.{BoxedLayer, RoomForBoxes};
 ghost use Rattle.searched_code.specs.Code.{CombineSearched, EqualSearched};
 
 use boolean::{Compared, Folded};
+use boxes_code::Layer;
 use calls::{Combined, Equality};
-use geometry::Checked;
+use geometry::Refusal;
 
 // The set operation with the code's number, by the boxes of both layers.
-fn combine_boxed(
-    code: u32,
-    a: &[i32],
-    a_boxes: &[i64],
-    b: &[i32],
-    b_boxes: &[i64],
-    out: &mut [i32],
-    scratch: &mut [i32],
-) -> Combined
-    requires code_bound { (code < 5) × BoxedLayer a.now a_boxes.now × BoxedLayer b.now b_boxes.now }
+fn combine_boxed(code: u32, a: Layer, b: Layer, out: &mut [i32], scratch: &mut [i32]) -> Combined
+    requires code_bound { code < 5 }
     requires scratch_value { buffers_sized (length out.old) (length scratch.old) ≡ true }
-    ensures combine_searched { CombineSearched code a.now b.now out.old scratch.old result out.new scratch.new }
+    ensures combine_searched { CombineSearched code a.entry.words.now b.entry.words.now out.old scratch.old result out.new scratch.new }
     ensures small { SmallAnswer (combined_answer result) }
 {
-    let checked = disjoint_code::both_disjoint(a, a_boxes, b, b_boxes);
-    match checked {
-        Checked::Refused { number, place } => {
-            return Combined::Refused { number, place };
-        }
-        Checked::Passed => {}
+    if let Err(Refusal { number, place }) = disjoint_code::both_disjoint(a, b) {
+        return Combined::Refused { number, place };
     }
     let room = out.len() / records::MEMORY_WIDTH;
     records_code::clear_both(out, scratch);
-    let f = boolean_code::combine_boxed(code, a, a_boxes, b, b_boxes, out, scratch, room);
-    match f {
-        Folded::NoRoom(_) => {
-            return Combined::Refused {
-                number: 12,
-                place: 0,
-            };
-        }
-        Folded::Done {
-            trapezoids,
-            overlays,
-        } => {
-            return Combined::Done {
-                pieces: trapezoids,
+    match boolean_code::combine_boxed(
+        code, a.words, a.boxes, b.words, b.boxes, out, scratch, room,
+    ) {
+        Ok(
+            Folded {
+                trapezoids,
                 overlays,
-            };
-        }
+            },
+        ) => Combined::Done {
+            pieces: trapezoids,
+            overlays,
+        },
+        Err(_) => Combined::Refused {
+            number: 12,
+            place: 0,
+        },
     }
 }
 
@@ -73,9 +61,9 @@ fn combine_with(
     ensures combine_searched { CombineSearched code a.now b.now out.old scratch.old result out.new scratch.new }
     ensures small { SmallAnswer (combined_answer result) }
 {
-    boxes_code::fill_boxes(a, a_boxes);
-    boxes_code::fill_boxes(b, b_boxes);
-    combine_boxed(code, a, a_boxes, b, b_boxes, out, scratch)
+    let first = boxes_code::boxed(a, a_boxes);
+    let second = boxes_code::boxed(b, b_boxes);
+    combine_boxed(code, first, second, out, scratch)
 }
 
 // The set operation with the code's number.
@@ -102,42 +90,23 @@ pub fn combine_searched(
 }
 
 // The equality test, by the boxes of both layers.
-fn equal_boxed(
-    a: &[i32],
-    a_boxes: &[i64],
-    b: &[i32],
-    b_boxes: &[i64],
-    out: &mut [i32],
-    scratch: &mut [i32],
-) -> Equality
-    requires boxed_layer { BoxedLayer a.now a_boxes.now × BoxedLayer b.now b_boxes.now }
+fn equal_boxed(a: Layer, b: Layer, out: &mut [i32], scratch: &mut [i32]) -> Equality
     requires scratch_value { buffers_sized (length out.old) (length scratch.old) ≡ true }
-    ensures equal_searched { EqualSearched a.now b.now out.old scratch.old result out.new scratch.new }
+    ensures equal_searched { EqualSearched a.entry.words.now b.entry.words.now out.old scratch.old result out.new scratch.new }
     ensures small { SmallEqualityAnswer (equality_answer result) }
 {
-    let checked = disjoint_code::both_disjoint(a, a_boxes, b, b_boxes);
-    match checked {
-        Checked::Refused { number, place } => {
-            return Equality::Refused { number, place };
-        }
-        Checked::Passed => {}
+    if let Err(Refusal { number, place }) = disjoint_code::both_disjoint(a, b) {
+        return Equality::Refused { number, place };
     }
     let room = out.len() / records::MEMORY_WIDTH;
     records_code::clear_both(out, scratch);
-    let f = equality_code::equal_boxed(a, a_boxes, b, b_boxes, out, scratch, room);
-    match f {
-        Compared::NoRoom(_) => {
-            return Equality::Refused {
-                number: 12,
-                place: 0,
-            };
-        }
-        Compared::Same(overlays) => {
-            return Equality::Same { overlays };
-        }
-        Compared::Differs { operand, overlays } => {
-            return Equality::Differs { operand, overlays };
-        }
+    match equality_code::equal_boxed(a.words, a.boxes, b.words, b.boxes, out, scratch, room) {
+        Compared::NoRoom(_) => Equality::Refused {
+            number: 12,
+            place: 0,
+        },
+        Compared::Same(overlays) => Equality::Same { overlays },
+        Compared::Differs { operand, overlays } => Equality::Differs { operand, overlays },
     }
 }
 
@@ -155,9 +124,9 @@ fn equal_with(
     ensures equal_searched { EqualSearched a.now b.now out.old scratch.old result out.new scratch.new }
     ensures small { SmallEqualityAnswer (equality_answer result) }
 {
-    boxes_code::fill_boxes(a, a_boxes);
-    boxes_code::fill_boxes(b, b_boxes);
-    equal_boxed(a, a_boxes, b, b_boxes, out, scratch)
+    let first = boxes_code::boxed(a, a_boxes);
+    let second = boxes_code::boxed(b, b_boxes);
+    equal_boxed(first, second, out, scratch)
 }
 
 // Whether no point lies in one of the layers and not in the other.

@@ -8,9 +8,10 @@ ghost use Rattle.calls.specs.Transistors.{extracted_answer};
 ghost use Rattle.boxes_code.specs.Code.{BoxedLayer};
 ghost use Rattle.searched_transistors_code.specs.Code.{TransistorsSearched};
 
+use boxes_code::Layer;
 use calls::Extracted;
 use extraction::Listed;
-use geometry::Checked;
+use geometry::Refusal;
 
 // The transistors of three layers, by their boxes. The boxes are not kept.
 pub fn transistors_boxed(
@@ -30,23 +31,17 @@ pub fn transistors_boxed(
     ensures small { SmallAnswer (extracted_answer result) }
 {
     let checked = disjoint_code::three_disjoint(
-        collectors,
-        collector_boxes,
-        bases,
-        base_boxes,
-        emitters,
-        emitter_boxes,
+        Layer::new(collectors, collector_boxes),
+        Layer::new(bases, base_boxes),
+        Layer::new(emitters, emitter_boxes),
     );
-    match checked {
-        Checked::Refused { number, place } => {
-            return Extracted::Refused { number, place };
-        }
-        Checked::Passed => {}
+    if let Err(Refusal { number, place }) = checked {
+        return Extracted::Refused { number, place };
     }
     let room = out.len() / records::MEMORY_WIDTH;
-    records_code::clear_numbers(list);
+    list.fill(0);
     records_code::clear_both(out, scratch);
-    let f = extraction_code::extract_into(
+    match extraction_code::extract_into(
         collectors,
         collector_boxes,
         bases,
@@ -57,16 +52,11 @@ pub fn transistors_boxed(
         out,
         scratch,
         room,
-    );
-    match f {
-        Listed::NoRoom => {
-            return Extracted::Refused {
-                number: 12,
-                place: 0,
-            };
-        }
-        Listed::Done { triples, overlays } => {
-            return Extracted::Done { triples, overlays };
-        }
+    ) {
+        None => Extracted::Refused {
+            number: 12,
+            place: 0,
+        },
+        Some(Listed { triples, overlays }) => Extracted::Done { triples, overlays },
     }
 }

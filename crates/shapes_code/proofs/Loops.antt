@@ -2,13 +2,12 @@
 use mathlib.Core.Path.{◌≡◌, refl, sym, ◌∙◌, ap, ap₂}
 use mathlib.Core.Bool.{Bool, cond}
 use mathlib.Core.List.{List, [], ◌∷◌, ◌++◌, append_assoc, append-nil}
-use mathlib.Core.Logic.{inl, inr}
 use Prim.Native.Nat.{ℕ, suc, ◌+◌, ◌*◌, ◌-◌, ◌<◌, ◌≤◌}
 use native.Mathlib.Numerals.{add-one}
 use native.Mathlib.Omega.{arith}
 use lib.Dec.{eqb}
-use lib.ListN.{length, get_or, set, take, drop, length-append, length-set, take-append-drop}
-use lib.Seq.{take-suc, take-length, length-take-le, get_or-set_same, get_or-set_other}
+use lib.ListN.{length, get_or, take, drop, length-append, take-append-drop}
+use lib.Seq.{take-suc, take-length, length-take-le}
 use lib.IntN.{ℤ, pos}
 use borrow.Author.Tests.{eq-eqb, ne_eqb}
 use borrow.Rule.Slice.PartMut.{put_mid, mid_of}
@@ -19,9 +18,8 @@ use Rattle.records.proofs.Buffer.{length_image, image_none, image_one, tail_leng
 use Rattle.geometry.specs.declared.Trapezoid.{Trapezoid}
 use Rattle.geometry.specs.Trapezoids.{trapezoid_codec, trapezoid_words, layer_of}
 use Rattle.geometry.proofs.Trapezoids.{trapezoid_readable}
-use Rattle.connectivity.proofs.Joining.{less_than, same_or_not}
 use Rattle.extraction.specs.Shapes.{having_number}
-use Rattle.shapes_code.specs.Code.{groups_below, GroupedBelow, GroupedAs}
+use Rattle.shapes_code.specs.Code.{groups_below, GroupedBelow}
 use Rattle.shapes_code.proofs.Groups.{with_append, below_most}
 
 -- ---- those with the number k, one by one
@@ -160,27 +158,3 @@ group_start {s} {ns} {ends} {d} o e w z =
 
 pub below_few : {k : ℕ} {s : List ℤ} {ns : List ℕ} {n : ℕ} {d : List ℤ} → GroupedBelow k s ns n d → n ≤ length ns
 below_few {k} {s} {ns} h = omega (arith, h.many, below_most k ns (layer_of s) (h.one_each ∙ sym (length_from trapezoid_codec (count trapezoid_codec s) s 0)))
-
-module _ {s : List ℤ} {ns ends : List ℕ} {n : ℕ} {d : List ℤ} {k : ℕ} (h : Grouping s ns ends n d k) where
-  pub group_turn : {r : ℕ} {d' : List ℤ} → k < length ns → GroupedBelow (suc k) s ns r d' → Grouping s ns (set ends k r) r d' (k + 1)
-  group_turn {r} {d'} l g =
-      record {
-        below = rw (add-one k) g;
-        long = length-set ends k r ∙ h.long;
-        each = λ i m.
-            elim (same_or_not i k) [
-              | inl e ↦ ap (λ (x : ℕ). get_or (set ends k r) x 0) e ∙ get_or-set_same ends k r 0 (omega (arith, l, h.long)) ∙ g.many ∙ ap (λ (x : ℕ). length (groups_below (suc x) ns (layer_of s))) (sym e)
-              | inr e ↦ get_or-set_other ends k i r 0 e ∙ h.each i (less_than i k (omega (arith, m)) e)
-            ];
-        upto = omega (arith, l);
-      }
-
-  pub group_stop : length ns ≤ k → GroupedAs s ns ends d
-  group_stop l =
-      let e : k ≡ length ns = omega (arith, l, h.upto) in
-      let b : GroupedBelow (length ns) s ns n d = rw (← e) h.below in
-      record {
-        all = rw (← b.many) b;
-        one_each = h.long;
-        each = λ i m. h.each i (omega (arith, m, e));
-      }

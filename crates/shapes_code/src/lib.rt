@@ -9,19 +9,18 @@ ghost use Rattle.boxes_code.specs.Code.{BoxedLayer};
 ghost use Rattle.shapes_code.specs.Code.{GroupedBelow, GroupedAs, ShapesIn};
 
 // `grouped` holds the n trapezoids of a layer with numbers below k: those with the number k behind them; answers how many it holds then.
+#[tactic(auto, using(crate::proofs::Loops::gather_few, crate::proofs::Loops::gather_room))]
 fn gather(layer: &[i32], numbers: &[u32], k: usize, n: usize, grouped: &mut [i32]) -> usize
     requires { GroupedBelow k layer.now numbers.now n grouped.old × (length numbers.now ≤ max_records) }
     ensures { GroupedBelow (suc k) layer.now numbers.now result grouped.new }
 {
     let mut m = n;
-    let mut j = 0;
-    while j < numbers.len() {
-        if numbers[j] as usize == k {
+    for (j, number) in numbers.iter().enumerate() {
+        if *number as usize == k {
             let t = trapezoids_code::load(layer, j);
             trapezoids_code::store(&mut grouped[records::MEMORY_WIDTH * m..], t);
             m += 1;
         }
-        j += 1;
     }
     m
 }
@@ -33,30 +32,10 @@ fn group(layer: &[i32], numbers: &[u32], ends: &mut [u32], grouped: &mut [i32])
     ensures { GroupedAs layer.now numbers.now ends.new grouped.new }
 {
     let mut n = 0;
-    let mut k = 0;
-    while k < numbers.len() {
+    for (k, end) in ends.iter_mut().enumerate() {
         n = gather(layer, numbers, k, n, grouped);
-        ends[k] = n as u32;
-        k += 1;
+        *end = n as u32;
     }
-}
-
-// The shapes of a layer, with their ends, and their boxes in the place of the layer's; `numbers` for the component numbers.
-fn shapes_with(
-    layer: &[i32],
-    numbers: &mut [u32],
-    ends: &mut [u32],
-    grouped: &mut [i32],
-    boxes: &mut [i64],
-)
-    requires boxed_layer { BoxedLayer layer.now boxes.old × (length numbers.old ≡ count trapezoid_codec layer.now) }
-    requires ends_len { (length ends.old ≡ count trapezoid_codec layer.now) × (length grouped.old ≡ memory_width * count trapezoid_codec layer.now) }
-    ensures { ShapesIn (layer_of layer.now) ends.new grouped.new boxes.new }
-{
-    let _ = connectivity_code::components_boxed(layer, boxes, numbers);
-    records_code::clear(grouped);
-    group(layer, numbers, ends, grouped);
-    boxes_code::fill_boxes(grouped, boxes);
 }
 
 // The shapes of a layer, with their ends, and their boxes in the place of the layer's.
@@ -66,6 +45,9 @@ pub fn shapes_into(layer: &[i32], ends: &mut [u32], grouped: &mut [i32], boxes: 
     ensures { ShapesIn (layer_of layer.now) ends.new grouped.new boxes.new }
 {
     let mut numbers = [0u32; records::MAX_RECORDS];
-    let n = ends.len();
-    shapes_with(layer, &mut numbers[..n], ends, grouped, boxes);
+    let numbers = &mut numbers[..ends.len()];
+    connectivity_code::components_boxed(layer, boxes, numbers);
+    grouped.fill(0);
+    group(layer, numbers, ends, grouped);
+    boxes_code::fill_boxes(grouped, boxes);
 }

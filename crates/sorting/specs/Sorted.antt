@@ -1,8 +1,6 @@
 -- A list with one element more, at a number; the place of a key in a rising list.
-use Rattle.std.specs.Prelude.{◌≡◌, Bool, true, false, cond, List, [], ◌∷◌, ◌++◌, map, ℕ, ◌≤◌, length, take, drop}
+use Rattle.std.specs.Prelude.{◌≡◌, Bool, true, false, cond, List, [], ◌∷◌, ◌++◌, ℕ, ◌≤◌, length, take, drop, Result, Ok, Err}
 use Rattle.lists.specs.Lists.{All}
-use Rattle.sorting.specs.declared.Place.{Place}
-use Rattle.sorting.specs.declared.Place.TheVariants.{Before, Level}
 
 -- x is number i, and what was there comes after it
 abbrev pub inserted : {A : Type 0} → ℕ → A → List A → List A
@@ -29,7 +27,7 @@ module _ {K : Type 0} (less : K → K → Bool) (x : K) where
   Same [] = ⊥
   Same (y ∷ ys) = (less x y ≡ false) × (less y x ≡ false)
 
-  -- x belongs there
-  abbrev pub Lands : List K → Place → Type 0
-  Lands ys (Before i) = Passed ys i × Front (drop i ys)
-  Lands ys (Level i) = Passed ys i × Same (drop i ys)
+  -- x belongs there: in the place of number i, with which it is level, or before number i
+  abbrev pub Lands : List K → Result ℕ ℕ → Type 0
+  Lands ys (Ok i) = Passed ys i × Same (drop i ys)
+  Lands ys (Err i) = Passed ys i × Front (drop i ys)

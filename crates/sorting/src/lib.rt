@@ -1,9 +1,3 @@
-// Where something belongs in an array that is in order.
+// Arrays in order: definitions and laws only. A search answers as std's do: `Ok(i)` in the place of number i, with which it is level, or `Err(i)`
+// before number i.
 #![tactic(auto)]
-
-// Before number i, or in the place of number i, with which it is level.
-#[derive(Clone, Copy)]
-pub enum Place {
-    Before(usize),
-    Level(usize),
-}

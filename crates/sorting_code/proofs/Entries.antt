@@ -1,19 +1,15 @@
 -- Positions with names in three arrays.
 use mathlib.Core.Path.{◌≡◌, refl, sym, ◌∙◌, ap, subst}
 use mathlib.Core.Bool.{Bool, true, false}
-use mathlib.Core.List.{List, [], ◌∷◌, ◌++◌, map}
+use mathlib.Core.List.{List, [], ◌∷◌, map}
 use Prim.Native.Nat.{ℕ, zero, suc, ◌+◌, ◌<◌, ◌≤◌}
 use native.Mathlib.Omega.{arith}
 use lib.ListN.{length, get_or, set, take, drop}
 use lib.Seq.{length-take-le, get_or-take, drop-cons, take-set-lt}
 use lib.IntN.{ℤ, pos}
-use Rattle.integer.specs.declared.Ordering.{Ordering}
 use Rattle.integer.specs.Compare.{order_by, order_of}
 use Rattle.integer.specs.Fraction.{Fraction, Proper, before, order}
-use Rattle.lists.proofs.Tests.{true_is, false_is}
-use Rattle.lists.specs.Lists.{All}
 use Rattle.lists.proofs.Lists.{all_at}
-use Rattle.levels.specs.Levels.{insert}
 use Rattle.geometry.specs.declared.Position.{Position}
 use Rattle.geometry.specs.declared.Horizontal.{Horizontal}
 use Rattle.geometry.specs.declared.Horizontal.TheVariants as standing
@@ -21,9 +17,8 @@ use Rattle.geometry.specs.Standing.{across, horizontal}
 use Rattle.geometry.proofs.Standing.{agree_positive}
 use Rattle.geometry_code.specs.Code.{fraction_of, SmallPosition}
 use Rattle.geometry_code.proofs.Branches.{small_position}
-use Rattle.sorting.specs.declared.Place.{Place}
-use Rattle.sorting.specs.declared.Place.TheVariants.{Before, Level}
-use Rattle.sorting.specs.Sorted.{inserted, merged, Passed, Front, Same, Lands}
+use Rattle.std.specs.Prelude.{Ok, Err}
+use Rattle.sorting.specs.Sorted.{inserted, Passed, Front, Same, Lands}
 use Rattle.sorting_code.specs.Entries.{Entry, key_of, entry_of, sooner, fractions, zipped, stored, SmallKey, Stored, Room, Grown}
 use Rattle.sorting.proofs.Inserting.{drop_past}
 use Rattle.sorting.proofs.Merging.{passed_next, merge_before, merge_level, same_within, merged_insert}
@@ -108,8 +103,8 @@ module _ (n : ℕ) (a b : List ℤ) (p : Position) (h : Stored n a b) where
   n_ys = fractions-length (take n a) (take n b) (n_a ∙ sym n_b) ∙ n_a
 
   module _ (i : ℕ) (k : Passed before x ys i) where
-    pub place_end : n ≤ i → Lands before x ys (Before i)
-    place_end l = (k, subst (Front before x) (sym (drop_past ys i (omega (arith, n_ys)))) tt)
+    pub place_end : i ≡ n → Lands before x ys (Err n)
+    place_end e = (subst (Passed before x ys) e k, subst (Front before x) (sym (drop_past ys n (omega (arith, n_ys)))) tt)
 
     module _ (l : i < n) (q : Position) (ea : q.num.v ≡ get_or a i (pos 0)) (eb : q.den.v ≡ get_or b i (pos 0)) where
       here : get_or ys i (fraction_of q) ≡ fraction_of q
@@ -127,10 +122,10 @@ module _ (n : ℕ) (a b : List ℤ) (p : Position) (h : Stored n a b) where
       place_small = small_position key.num_small key.den_small key.proper
 
       module _ (small : SmallPosition p) (o : Horizontal) (e : o ≡ horizontal x (fraction_of q)) where
-        pub place_before : o ≡ standing.Left → Lands before x ys (Before i)
+        pub place_before : o ≡ standing.Left → Lands before x ys (Err i)
         place_before f = (k, subst (Front before x) (sym first) ((answer_tests x (fraction_of q) small.proper key.proper o e).0 f))
 
-        pub place_level : o ≡ standing.Level → Lands before x ys (Level i)
+        pub place_level : o ≡ standing.Level → Lands before x ys (Ok i)
         place_level f = (k, subst (Same before x) (sym first) ((answer_tests x (fraction_of q) small.proper key.proper o e).1 f))
 
         pub place_next : o ≡ standing.Right → Passed before x ys (i + 1)
@@ -139,7 +134,7 @@ module _ (n : ℕ) (a b : List ℤ) (p : Position) (h : Stored n a b) where
             passed_next before x ys i (fraction_of q) k (omega (arith, n_ys)) (ap (before x) here ∙ t.0) (ap (λ (y : Fraction). before y x) here ∙ t.1)
 
 -- ---- putting it there
-module _ (n : ℕ) (a b : List ℤ) (c : List ℕ) (p : Position) (m : ℕ) (h : Stored n a b) (s : Room n a b c) (r : Place) (k : Lands before (fraction_of p) (fractions (take n a) (take n b)) r) where
+module _ (n : ℕ) (a b : List ℤ) (c : List ℕ) (p : Position) (m : ℕ) (h : Stored n a b) (s : Room n a b c) where
   m_a : length (take n a) ≡ n
   m_a = length-take-le n a h.nums
 
@@ -155,10 +150,7 @@ module _ (n : ℕ) (a b : List ℤ) (c : List ℕ) (p : Position) (m : ℕ) (h :
   m_keys : length (fractions (take n a) (take n b)) ≡ n
   m_keys = n_ys n a b p h
 
-  module _ (i : ℕ) (e : r ≡ Before i) where
-    lands : Lands before (fraction_of p) (fractions (take n a) (take n b)) (Before i)
-    lands = subst (Lands before (fraction_of p) (fractions (take n a) (take n b))) e k
-
+  module _ (i : ℕ) (lands : Lands before (fraction_of p) (fractions (take n a) (take n b)) (Err i)) where
     pub before_within : i ≤ n
     before_within = omega (arith, lands.0.upto, m_keys)
 
@@ -173,10 +165,7 @@ module _ (n : ℕ) (a b : List ℤ) (c : List ℕ) (p : Position) (m : ℕ) (h :
           upto = omega arith;
         }
 
-  module _ (i : ℕ) (e : r ≡ Level i) where
-    level_lands : Lands before (fraction_of p) (fractions (take n a) (take n b)) (Level i)
-    level_lands = subst (Lands before (fraction_of p) (fractions (take n a) (take n b))) e k
-
+  module _ (i : ℕ) (level_lands : Lands before (fraction_of p) (fractions (take n a) (take n b)) (Ok i)) where
     pub level_within : i < n
     level_within = let w = same_within {A = Fraction} (λ (y : Fraction). y) before (λ (a b : Fraction). a) (fraction_of p) (fractions (take n a) (take n b)) (fraction_of p) i level_lands.1 in omega (arith, w, m_keys)
 

@@ -6,7 +6,6 @@ use Rattle.levels.specs.Levels.{insert, levels}
 use Rattle.sweep.specs.Sweep.{earlier}
 use Rattle.geometry.specs.declared.Position.{Position}
 use Rattle.geometry.specs.Limit.{coordinate_limit, det_bound, numer_bound}
-use Rattle.geometry_code.specs.Code.{fraction_of}
 
 pub record Entry : Type 0 where
   pub num : ℤ

@@ -8,61 +8,34 @@ ghost use Rattle.geometry_code.specs.Code.{fraction_of, SmallPosition};
 ghost use Rattle.sorting_code.specs.Entries.{fractions, entry_of, Stored, Room, Grown};
 
 use geometry::{Horizontal, Position};
-use integer::Int;
-use sorting::Place;
 
-// A number put in before number i of the first n.
-pub fn insert_number(s: &mut [i64], n: usize, i: usize, a: Int)
-    requires { (i ≤ n) × (n < length s.old) }
-    ensures { take (n + 1) s.new ≡ inserted i a.v (take n s.old) }
-{
-    let mut k = n;
-    while i < k {
-        let x = integer_code::get_number(s, k - 1);
-        integer_code::put_number(s, k, x);
-        k -= 1;
-    }
-    integer_code::put_number(s, i, a);
-}
-
-// The same of words.
-pub fn insert_word(s: &mut [u32], n: usize, i: usize, a: u32)
+// An element put in before number i of the first n.
+#[tactic(auto, using(sorting::proofs::Inserting::inserted_at))]
+pub fn insert<T: Copy>(s: &mut [T], n: usize, i: usize, a: T)
     requires { (i ≤ n) × (n < length s.old) }
     ensures { take (n + 1) s.new ≡ inserted i a (take n s.old) }
 {
-    let mut k = n;
-    while i < k {
-        let x = s[k - 1];
-        s[k] = x;
-        k -= 1;
-    }
+    s.copy_within(i..n, i + 1);
     s[i] = a;
 }
 
 // Where a position belongs among the first n.
-fn place_of(num: &[i64], den: &[i64], n: usize, p: Position) -> Place
+fn place_of(num: &[i64], den: &[i64], n: usize, p: Position) -> Result<usize, usize>
     requires { Stored n num.now den.now × SmallPosition p }
     ensures { Lands before (fraction_of p) (fractions (take n num.now) (take n den.now)) result }
 {
-    let mut i = 0;
-    while i < n {
-        let a = integer_code::get_number(num, i);
-        let b = integer_code::get_number(den, i);
-        let q = Position { num: a, den: b };
-        let h = geometry_code::compare(p, q);
-        match h {
-            Horizontal::Left => {
-                return Place::Before(i);
-            }
-            Horizontal::Level => {
-                return Place::Level(i);
-            }
-            Horizontal::Right => {
-                i += 1;
-            }
+    for i in 0..n {
+        let q = Position {
+            num: integer_code::get_number(num, i),
+            den: integer_code::get_number(den, i),
+        };
+        match geometry_code::compare(p, q) {
+            Horizontal::Left => return Err(i),
+            Horizontal::Level => return Ok(i),
+            Horizontal::Right => {}
         }
     }
-    Place::Before(i)
+    Err(n)
 }
 
 // A position with a name put into its place among the first n, or in the place of the one that is level with it; how many there are then.
@@ -77,19 +50,16 @@ pub fn add_entry(
     requires { Stored n num.old den.old × SmallPosition p × Room n num.old den.old name.old }
     ensures { Grown n num.old den.old name.old (entry_of p m) result num.new den.new name.new }
 {
-    let a = p.num;
-    let b = p.den;
-    let place = place_of(num, den, n, p);
-    match place {
-        Place::Before(i) => {
-            insert_number(num, n, i, a);
-            insert_number(den, n, i, b);
-            insert_word(name, n, i, m);
+    match place_of(num, den, n, p) {
+        Err(i) => {
+            insert(num, n, i, p.num.v);
+            insert(den, n, i, p.den.v);
+            insert(name, n, i, m);
             n + 1
         }
-        Place::Level(i) => {
-            integer_code::put_number(num, i, a);
-            integer_code::put_number(den, i, b);
+        Ok(i) => {
+            integer_code::put_number(num, i, p.num);
+            integer_code::put_number(den, i, p.den);
             name[i] = m;
             n
         }

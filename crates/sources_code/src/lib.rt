@@ -12,18 +12,14 @@ pub fn single(layer: u32) -> i32
     requires { layer < source_layers }
     ensures { result ≡ single_of layer }
 {
-    let mask = 1u32 << layer;
-    records_code::signed(mask as u64)
+    records_code::signed(u64::from(1u32 << layer))
 }
 
 // The layers of both sets.
 pub fn joined(a: i32, b: i32) -> i32
     ensures { result ≡ joined_of a b }
 {
-    let p = records_code::pattern(a);
-    let q = records_code::pattern(b);
-    let mask = p | q;
-    records_code::signed(mask)
+    records_code::signed(records_code::pattern(a) | records_code::pattern(b))
 }
 
 // The set of trapezoid number i of a layer's words.
@@ -39,9 +35,7 @@ pub fn set_sources(out: &mut [i32], n: usize, sources: i32)
     requires { memory_width * n ≤ length out.old }
     ensures { out.new ≡ with_sources sources n out.old }
 {
-    let mut i = 0;
-    while i < n {
+    for i in 0..n {
         out[records::MEMORY_WIDTH * i + records::FILE_WIDTH] = sources;
-        i += 1;
     }
 }

@@ -1,4 +1,5 @@
 -- The crossings put into the arrays, from the last pair to the first.
+use Rattle.std.specs.Prelude.{Option, Some, None}
 use mathlib.Core.Path.{◌≡◌, refl, sym, subst}
 use mathlib.Core.Bool.{Bool, true, false, cond}
 use mathlib.Core.List.{List, [], ◌∷◌, ◌++◌}
@@ -11,8 +12,6 @@ use Rattle.levels.specs.Levels.{levels}
 use Rattle.geometry.specs.declared.Line.{Line}
 use Rattle.geometry.specs.declared.Base.{Base}
 use Rattle.geometry.specs.declared.Position.{Position}
-use Rattle.geometry.specs.declared.Crossing.{Crossing}
-use Rattle.geometry.specs.declared.Crossing.TheVariants.{Nowhere, At}
 use Rattle.fracture.specs.Polygons.{Edge}
 use Rattle.fracture.specs.Fracture.{edge_crossing, edges_cross, edge_crossings_with, edge_crossings}
 use Rattle.geometry_code.specs.Code.{SmallPosition}
@@ -70,14 +69,14 @@ module _ (ls ts : List ℤ) where
   crossings_lines (suc m) i = rw (with_lines (line_number ls i) (pos 0) (edge_number ls ts i).direction m (i + 1), crossings_lines m (i + 1))
 
 -- ---- one pair
-pub pair_small : (l m : Line) (r : Crossing) → CrossingInside l m r → (p : Position) → r ≡ At p → SmallPosition p
+pub pair_small : (l m : Line) (r : Option Position) → CrossingInside l m r → (p : Position) → r ≡ Some p → SmallPosition p
 pair_small l m r h p e = (subst (CrossingInside l m) e h).1.small
 
-module _ {l m : Line} {id n : ℕ} {a b : List ℤ} {c : List ℕ} (r : Crossing) (h : CrossingInside l m r) where
-  pub pair_none : r ≡ Nowhere → PairAdded l m id n a b c n a b c
+module _ {l m : Line} {id n : ℕ} {a b : List ℤ} {c : List ℕ} (r : Option Position) (h : CrossingInside l m r) where
+  pub pair_none : r ≡ None → PairAdded l m id n a b c n a b c
   pair_none e = apart (subst (CrossingInside l m) e h) refl refl refl refl
 
-  pub pair_cross : (p : Position) → r ≡ At p → (k : ℕ) (a' b' : List ℤ) (c' : List ℕ) → Grown n a b c (entry_of p id) k a' b' c' → PairAdded l m id n a b c k a' b' c'
+  pub pair_cross : (p : Position) → r ≡ Some p → (k : ℕ) (a' b' : List ℤ) (c' : List ℕ) → Grown n a b c (entry_of p id) k a' b' c' → PairAdded l m id n a b c k a' b' c'
   pair_cross p e k a' b' c' g = let j = subst (CrossingInside l m) e h in cross p j.0 j.1 g
 
 -- ---- a row

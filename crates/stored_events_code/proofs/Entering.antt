@@ -1,6 +1,6 @@
 -- One event more in the arrays, and the names of crossings and marks.
-use mathlib.Core.Path.{◌≡◌, refl, sym, ◌∙◌, ap, subst}
-use mathlib.Core.Bool.{Bool, true}
+use mathlib.Core.Path.{◌≡◌, refl, sym, ◌∙◌, ap}
+use mathlib.Core.Bool.{true}
 use mathlib.Core.List.{List, ◌∷◌, map}
 use Prim.Native.Nat.{ℕ, suc, ◌+◌, ◌*◌, ◌/◌, ◌%◌, ◌<◌, ◌≤◌}
 use native.Mathlib.Omega.{arith}
@@ -9,7 +9,6 @@ use lib.Dec.{ltb}
 use lib.ListN.{length, drop, length-map}
 use lib.IntN.{ℤ, nat_abs}
 use borrow.Author.Tests.{lt-ltb}
-use Rattle.lists.specs.Lists.{All}
 use Rattle.lists.proofs.Lists.{all_map}
 use Rattle.integer.specs.Fraction.{Fraction}
 use Rattle.levels.specs.Levels.{levels}

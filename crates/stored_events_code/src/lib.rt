@@ -10,7 +10,7 @@ ghost use Rattle.polygon_edges_code.specs.Edges.{LinesHeld};
 ghost use Rattle.polygon_events_code.specs.Code.{EventOf};
 ghost use Rattle.stored_events_code.specs.Events.{named, Valid, Wide, Crossed, crossings_from, PairAdded, Entered};
 
-use geometry::{Base, Crossing, Line, Position};
+use geometry::{Base, Line, Position};
 use integer::Int;
 use sweep::Event;
 
@@ -27,8 +27,7 @@ fn add_pair(
     requires { OnGrid coordinate_limit l × OnGrid coordinate_limit m × Stored n num.old den.old × Room n num.old den.old name.old }
     ensures { PairAdded l m id n num.old den.old name.old result num.new den.new name.new }
 {
-    let c = polygon_events_code::crossing_inside(l, m);
-    let Crossing::At(p) = c else {
+    let Some(p) = polygon_events_code::crossing_inside(l, m) else {
         return n;
     };
     sorting_code::add_entry(num, den, name, n, p, id)
@@ -56,12 +55,9 @@ fn add_row(
 {
     let d = polygon_edges_code::line_at(lines, i);
     let mut k = n;
-    let mut j = edges;
-    while i + 1 < j {
-        j -= 1;
+    for j in (i + 1..edges).rev() {
         let e = polygon_edges_code::line_at(lines, j);
-        let id = pair_name(i, j);
-        k = add_pair(d, e, id, num, den, name, k);
+        k = add_pair(d, e, pair_name(i, j), num, den, name, k);
     }
     k
 }
@@ -78,9 +74,7 @@ fn add_rows(
     ensures { Crossed lines.now (crossings_from edges lines.now 0) result num.new den.new name.new }
 {
     let mut n = 0;
-    let mut i = edges;
-    while 0 < i {
-        i -= 1;
+    for i in (0..edges).rev() {
         n = add_row(lines, edges, i, num, den, name, n);
     }
     n
@@ -99,9 +93,7 @@ pub fn add_events(
     ensures { Entered (polygon_of words.now) edges lines.now result num.new den.new name.new }
 {
     let mut n = add_rows(lines, edges, num, den, name);
-    let mut k = words.len() / 2;
-    while 0 < k {
-        k -= 1;
+    for k in (0..words.len() / 2).rev() {
         let x = integer_code::get(words, 2 * k);
         let p = polygon_events_code::whole_position(x);
         n = sorting_code::add_entry(num, den, name, n, p, 1024);
@@ -115,15 +107,13 @@ fn base_named(lines: &[i32], limit: u32, x: Int, id: u32) -> Base
     ensures { result ≡ named limit lines.now (record { num = x.v; den = pos 1; name = id }) }
 {
     if id < 1024 {
-        let i = (id / 32) as usize;
-        let j = (id % 32) as usize;
-        let first = polygon_edges_code::line_at(lines, i);
-        let second = polygon_edges_code::line_at(lines, j);
-        return Base { first, second };
+        Base {
+            first: polygon_edges_code::line_at(lines, (id / 32) as usize),
+            second: polygon_edges_code::line_at(lines, (id % 32) as usize),
+        }
+    } else {
+        polygon_events_code::mark_at(x, limit).base
     }
-    let m = polygon_events_code::mark_at(x, limit);
-    let base = m.base;
-    base
 }
 
 // Event number i.
@@ -138,10 +128,12 @@ pub fn event_number(
     requires { (length lines.now ≡ 128) × (limit ≤ coordinate_limit) × Wide num.now den.now name.now × (i < 528) × Valid limit lines.now (entry_at num.now den.now name.now i) }
     ensures { (result.base ≡ named limit lines.now (entry_at num.now den.now name.now i)) × EventOf result }
 {
-    let a = integer_code::get_number(num, i);
-    let b = integer_code::get_number(den, i);
-    let id = name[i];
-    let base = base_named(lines, limit, a, id);
-    let at = Position { num: a, den: b };
-    Event { base, at }
+    let x = integer_code::get_number(num, i);
+    Event {
+        base: base_named(lines, limit, x, name[i]),
+        at: Position {
+            num: x,
+            den: integer_code::get_number(den, i),
+        },
+    }
 }

@@ -1,4 +1,5 @@
 -- A tail filled part by part: what holds between two parts, that a part keeps it, and what it says at each way out.
+use Rattle.std.specs.Prelude.{Option, Some, None}
 use mathlib.Core.Path.{◌≡◌, refl, sym, ◌∙◌, ap, subst}
 use mathlib.Core.List.{List, [], ◌∷◌, ◌++◌, append_assoc, append-nil}
 use Prim.Native.Nat.{ℕ, ◌+◌, ◌*◌, ◌-◌, ◌<◌, ◌≤◌}
@@ -11,8 +12,6 @@ use Rattle.records.specs.Records.{Codec, Readable, image}
 use Rattle.records.proofs.Buffer.{length_image, image_none, image_one, tail_length, tail_blank, tail_back}
 use Rattle.geometry.specs.declared.Trapezoid.{Trapezoid}
 use Rattle.geometry.specs.Trapezoids.{trapezoid_of, trapezoid_words}
-use Rattle.geometry.specs.declared.Fill.{Fill}
-use Rattle.geometry.specs.declared.Fill.TheVariants.{NoRoom, Written}
 use Rattle.geometry.proofs.Trapezoids.{trapezoid_readable}
 use Rattle.trapezoids_code.specs.Tails.{Borrowed, FilledBy, FilledAs}
 
@@ -40,14 +39,14 @@ module _ {R : Type 0} (K : Kind R) (d : List ℤ) (room : ℕ) (h : Borrowed d r
   blank_image : d ≡ image (codec_of K) (length d) []
   blank_image = h.blank ∙ sym (image_none (codec_of K) K.readable (length d))
 
-  pub fill_none : FilledBy (codec_of K) (length d) room [] (Written 0) d
+  pub fill_none : FilledBy (codec_of K) (length d) room [] (Some 0) d
   fill_none = (refl, omega arith, blank_image)
 
 module _ (d : List ℤ) (room : ℕ) (h : Borrowed d room) where
-  pub fill_nothing : FilledAs (length d) room [] (Written 0) d
+  pub fill_nothing : FilledAs (length d) room [] (Some 0) d
   fill_nothing = fill_none plain d room h
 
-  pub fill_one : (t : Trapezoid) → 1 ≤ room → FilledAs (length d) room (t ∷ []) (Written 1) ((trapezoid_words t ++ (pos 0 ∷ [])) ++ drop memory_width d)
+  pub fill_one : (t : Trapezoid) → 1 ≤ room → FilledAs (length d) room (t ∷ []) (Some 1) ((trapezoid_words t ++ (pos 0 ∷ [])) ++ drop memory_width d)
   fill_one t l = (refl, l, image_one (codec_of plain) plain.readable t d h.blank)
 
 -- ---- parts
@@ -85,32 +84,32 @@ module _ {R : Type 0} {K : Kind R} {W room : ℕ} {goal rest : List R} {out : Li
         wide = omega (arith, borrowed_length, h.upto, h.wide);
       }
 
-  pub write_stop : rest ≡ [] → FilledBy (codec_of K) W room goal (Written n) out
+  pub write_stop : rest ≡ [] → FilledBy (codec_of K) W room goal (Some n) out
   write_stop e =
       let d : goal ≡ h.done = h.all ∙ rw e (append-nil h.done) in
       rw d (h.size, omega (arith, h.size, h.upto), h.laid)
 
   -- what is left begins with `more`
-  module _ (more later : List R) (turn : rest ≡ more ++ later) (f : Fill) (t : List ℤ) (g : FilledBy (codec_of K) (length (tail out n)) (room - n) more f t) where
+  module _ (more later : List R) (turn : rest ≡ more ++ later) (f : Option ℕ) (t : List ℤ) (g : FilledBy (codec_of K) (length (tail out n)) (room - n) more f t) where
     all_next : goal ≡ (h.done ++ more) ++ later
     all_next = h.all ∙ ap (λ (ts : List R). h.done ++ ts) turn ∙ sym (append_assoc h.done more later)
 
-    pub write_full : f ≡ NoRoom → room < length goal
+    pub write_full : f ≡ None → room < length goal
     write_full e =
-        let k = subst (λ (f : Fill). FilledBy (codec_of K) (length (tail out n)) (room - n) more f t) e g in
+        let k = subst (λ (f : Option ℕ). FilledBy (codec_of K) (length (tail out n)) (room - n) more f t) e g in
         let l = ap length all_next in
         let i = length-append (h.done ++ more) later in
         let j = length-append h.done more in
         omega (arith, k.0, l, i, j, h.size, h.upto)
 
-    pub write_upto : (m : ℕ) → f ≡ Written m → n + m ≤ room
+    pub write_upto : (m : ℕ) → f ≡ Some m → n + m ≤ room
     write_upto m e =
-        let k = subst (λ (f : Fill). FilledBy (codec_of K) (length (tail out n)) (room - n) more f t) e g in
+        let k = subst (λ (f : Option ℕ). FilledBy (codec_of K) (length (tail out n)) (room - n) more f t) e g in
         omega (arith, k.0, k.1, h.upto)
 
-    pub write_turn : (m : ℕ) → f ≡ Written m → WritingBy K W room goal later (put_mid (memory_width * n) (length out - memory_width * n) out t) (n + m)
+    pub write_turn : (m : ℕ) → f ≡ Some m → WritingBy K W room goal later (put_mid (memory_width * n) (length out - memory_width * n) out t) (n + m)
     write_turn m e =
-        let k = subst (λ (f : Fill). FilledBy (codec_of K) (length (tail out n)) (room - n) more f t) e g in
+        let k = subst (λ (f : Option ℕ). FilledBy (codec_of K) (length (tail out n)) (room - n) more f t) e g in
         let u : t ≡ image (codec_of K) (W - memory_width * n) more = rw borrowed_length at k.2 in
         let back = tail_back (codec_of K) K.readable W n out h.done h.laid h.size in_words t more u in
         let j = length-append h.done more in

@@ -1,13 +1,15 @@
 -- Triples written behind others: one, and those of a loop's numbers in turn.
-use mathlib.Core.Path.{◌≡◌, refl, sym, ◌∙◌, ap, subst}
-use mathlib.Core.Bool.{cond}
+use Rattle.std.specs.Prelude.{Option, Some, None}
+use Rattle.std.specs.Option.{is_some}
+use mathlib.Core.Path.{◌≡◌, refl, sym, ◌∙◌, ap}
+use mathlib.Core.Bool.{true, cond}
 use mathlib.Core.List.{List, [], ◌∷◌, ◌++◌, append_assoc, append-nil}
 use mathlib.Core.Logic.{inl, inr}
 use Prim.Native.Nat.{ℕ, zero, suc, ◌+◌, ◌*◌, ◌-◌, ◌<◌, ◌≤◌}
 use native.Mathlib.Numerals.{add-one, add-two}
 use native.Mathlib.Omega.{arith}
 use lib.Dec.{eqb}
-use lib.ListN.{length, get_or, set, take, drop, replicate, length-append}
+use lib.ListN.{length, get_or, set, take, drop, length-append}
 use lib.Seq.{sets-eq, drop-drop}
 use borrow.Author.Tests.{eq-eqb, ne_eqb}
 use borrow.Rule.Slice.PartMut.{mid_of}
@@ -17,8 +19,6 @@ use Rattle.lists.proofs.Parts.{put_tail, mid_tail}
 use Rattle.records.specs.Records.{records_from, image, Blank}
 use Rattle.records.proofs.Records.{length_from}
 use Rattle.records.proofs.Buffer.{image_none, image_records, image_one, tail_length, tail_blank, tail_back}
-use Rattle.geometry.specs.declared.Fill.{Fill}
-use Rattle.geometry.specs.declared.Fill.TheVariants.{NoRoom, Written}
 use Rattle.connectivity.specs.Components.{own_numbers}
 use Rattle.connectivity.proofs.Joining.{same_or_not}
 use Rattle.extraction.specs.Extraction.{Triple, triple_words, triple_if, triple_codec}
@@ -94,10 +94,9 @@ module _ {f : ℕ → List Triple} {l : ℕ} {d₀ : List ℕ} {n i m : ℕ} {d 
   listing_holds = record { is = h.is ∙ rw (h.long, held); wide = omega (arith, h.wide, h.long) }
 
   -- the triples ts of number i are added
-  pub listing_turn : (ts : List Triple) → f i ≡ ts → i < l → (r : Fill) (e : List ℕ) → TriplesAdded d m ts r e → length e ≡ length d
-      → {k k' : ℕ} {e' : List ℕ} → r ≡ Written k → k' ≡ k → e' ≡ e → Listing f l d₀ n (i + 1) k' e'
-  listing_turn ts t b r e a s {k} {k'} {e'} p q u =
-      let g : TriplesAdded d m ts (Written k) e = subst (λ (r : Fill). TriplesAdded d m ts r e) p a in
+  pub listing_turn : {ts : List Triple} → f i ≡ ts → i < l → {k k' : ℕ} {e e' : List ℕ} → k' ≡ k → e' ≡ e → TriplesAdded d m ts (Some k) e → length e ≡ length d
+      → Listing f l d₀ n (i + 1) k' e'
+  listing_turn {ts} t b {k} {k'} {e} {e'} q u g s =
       record {
         upto = omega arith;
         many = omega (arith, g.0, h.many, next_length f i, ap length t);
@@ -113,12 +112,10 @@ module _ {f : ℕ → List Triple} {l : ℕ} {d₀ : List ℕ} {n i m : ℕ} {d 
       record { upto = omega arith; many = rw z (p ∙ h.many); wide = omega (arith, p, h.wide); is = rw z (q ∙ h.is); long = ap length q ∙ h.long }
 
   -- they have no room, and so have all together
-  pub listing_full : (ts : List Triple) → f i ≡ ts → i < l → (r : Fill) (e : List ℕ) → TriplesAdded d m ts r e → r ≡ NoRoom → length d₀ < 3 * (n + length (each f (own_numbers l)))
-  listing_full ts t b r e a p =
-      let g : TriplesAdded d m ts NoRoom e = subst (λ (r : Fill). TriplesAdded d m ts r e) p a in
-      omega (arith, h.many, h.long, next_length f i, each_few f (i + 1) l (omega arith), ap length t)
+  pub listing_full : {ts : List Triple} → f i ≡ ts → i < l → length d < 3 * (m + length ts) → length d₀ < 3 * (n + length (each f (own_numbers l)))
+  listing_full t b g = omega (arith, h.many, h.long, next_length f i, each_few f (i + 1) l (omega arith), ap length t)
 
-  pub listing_stop : l ≤ i → TriplesAdded d₀ n (each f (own_numbers l)) (Written m) d
+  pub listing_stop : l ≤ i → TriplesAdded d₀ n (each f (own_numbers l)) (Some m) d
   listing_stop b = let e : i ≡ l = omega (arith, h.upto) in (rw (← e) h.many, h.wide, rw (← e) h.is)
 
 -- ---- an emitter, by its mark
@@ -138,14 +135,7 @@ module _ (ds es : List ℕ) (c b : ℕ) where
   base_no h = rw (ne_eqb (get_or ds b 0) c h)
 
 -- ---- all triples, in a list that held none
-module _ (d₀ : List ℕ) (ts : List Triple) (r : Fill) (d : List ℕ) (h : TriplesAdded d₀ 0 ts r d) where
-  pub filled_none : r ≡ NoRoom → (e : List ℕ) → e ≡ replicate (length d) 0 → length d ≡ length d₀ → TriplesFilled (length d₀) ts NoRoom e
-  filled_none p e z l =
-      let g : TriplesAdded d₀ 0 ts NoRoom d = subst (λ (r : Fill). TriplesAdded d₀ 0 ts r d) p h in
-      (omega arith, z ∙ ap (λ (n : ℕ). replicate n 0) l)
-
-  pub filled_all : {m : ℕ} → r ≡ Written m → TriplesFilled (length d₀) ts (Written m) d
-  unfolding records_from
-  filled_all {m} p =
-      let g : TriplesAdded d₀ 0 ts (Written m) d = subst (λ (r : Fill). TriplesAdded d₀ 0 ts r d) p h in
-      (omega (arith, g.0), g.1, g.2)
+pub filled_all : (d₀ : List ℕ) (ts : List Triple) (r : Option ℕ) (d : List ℕ) → is_some r ≡ true → TriplesAdded d₀ 0 ts r d → TriplesFilled (length d₀) ts r d
+unfolding records_from
+filled_all d₀ ts None d p h = cc
+filled_all d₀ ts (Some m) d p h = (omega (arith, h.0), h.1, h.2)

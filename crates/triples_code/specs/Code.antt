@@ -1,9 +1,7 @@
 -- The triples that marks tell, and what the functions write.
-use Rattle.std.specs.Prelude.{◌≡◌, cond, List, [], ◌++◌, ℕ, ◌+◌, ◌*◌, ◌<◌, ◌≤◌, eqb, length, get_or, replicate}
+use Rattle.std.specs.Prelude.{◌≡◌, cond, List, [], ◌++◌, ℕ, ◌+◌, ◌*◌, ◌<◌, ◌≤◌, eqb, length, get_or, replicate, Option, Some, None}
 use Rattle.lists.specs.Lists.{each}
 use Rattle.records.specs.Records.{records_from, image}
-use Rattle.geometry.specs.declared.Fill.{Fill}
-use Rattle.geometry.specs.declared.Fill.TheVariants.{NoRoom, Written}
 use Rattle.connectivity.specs.Components.{own_numbers}
 use Rattle.extraction.specs.Extraction.{Triple, triple_if, triple_codec}
 
@@ -29,11 +27,11 @@ pub record HoldsTriples (d : List ℕ) (n : ℕ) : Type 0 where
   pub wide : 3 * n ≤ length d
 
 -- ts added behind the n that it held; where there is no room for all, what it holds is not said
-abbrev pub TriplesAdded : List ℕ → ℕ → List Triple → Fill → List ℕ → Type 0
-TriplesAdded d₀ n ts NoRoom d = length d₀ < 3 * (n + length ts)
-TriplesAdded d₀ n ts (Written m) d = (m ≡ n + length ts) × (3 * m ≤ length d₀) × (d ≡ image triple_codec (length d₀) (leading_triples d₀ n ++ ts))
+abbrev pub TriplesAdded : List ℕ → ℕ → List Triple → Option ℕ → List ℕ → Type 0
+TriplesAdded d₀ n ts None d = length d₀ < 3 * (n + length ts)
+TriplesAdded d₀ n ts (Some m) d = (m ≡ n + length ts) × (3 * m ≤ length d₀) × (d ≡ image triple_codec (length d₀) (leading_triples d₀ n ++ ts))
 
 -- a list of so many words has ts and is blank past them; or they do not fit, and it is blank
-abbrev pub TriplesFilled : ℕ → List Triple → Fill → List ℕ → Type 0
-TriplesFilled n ts NoRoom d = (n < 3 * length ts) × (d ≡ replicate n 0)
-TriplesFilled n ts (Written m) d = (m ≡ length ts) × (3 * m ≤ n) × (d ≡ image triple_codec n ts)
+abbrev pub TriplesFilled : ℕ → List Triple → Option ℕ → List ℕ → Type 0
+TriplesFilled n ts None d = (n < 3 * length ts) × (d ≡ replicate n 0)
+TriplesFilled n ts (Some m) d = (m ≡ length ts) × (3 * m ≤ n) × (d ≡ image triple_codec n ts)

@@ -6,48 +6,42 @@ ghost use Rattle.records.specs.Limits.{max_records};
 ghost use Rattle.records.specs.Records.{Blank};
 ghost use Rattle.triples_code.specs.Code.{emitter_triples, base_triples, marked_triples, HoldsTriples, TriplesAdded, TriplesFilled};
 
-use geometry::Fill;
-
 // Words of a triple.
 const WIDTH: usize = 3;
 
 // The triple (c, b, e) behind the n that `list` holds.
-fn put_triple(c: usize, b: usize, e: usize, list: &mut [u32], n: usize) -> Fill
+fn put_triple(c: usize, b: usize, e: usize, list: &mut [u32], n: usize) -> Option<usize>
     requires { HoldsTriples list.old n × (c ≤ max_records) × (b ≤ max_records) × (e ≤ max_records) }
     ensures { TriplesAdded list.old n (record { collector = c; base = b; emitter = e } ∷ []) result list.new }
 {
     if list.len() / WIDTH <= n {
-        return Fill::NoRoom;
+        return None;
     }
     let at = WIDTH * n;
     list[at] = c as u32;
     list[at + 1] = b as u32;
     list[at + 2] = e as u32;
-    Fill::Written(n + 1)
+    Some(n + 1)
 }
 
 // The triples of a collector and a base, one for each emitter with the mark b.
-fn list_emitters(c: usize, b: usize, emitter_marks: &[u32], list: &mut [u32], n: usize) -> Fill
+fn list_emitters(
+    c: usize,
+    b: usize,
+    emitter_marks: &[u32],
+    list: &mut [u32],
+    n: usize,
+) -> Option<usize>
     requires { HoldsTriples list.old n × (c ≤ max_records) × (b ≤ max_records) × (length emitter_marks.now ≤ max_records) }
     ensures { TriplesAdded list.old n (emitter_triples emitter_marks.now c b) result list.new }
 {
     let mut m = n;
-    let mut e = 0;
-    while e < emitter_marks.len() {
-        if emitter_marks[e] as usize == b {
-            let f = put_triple(c, b, e, list, m);
-            match f {
-                Fill::NoRoom => {
-                    return Fill::NoRoom;
-                }
-                Fill::Written(k) => {
-                    m = k;
-                }
-            }
+    for (e, mark) in emitter_marks.iter().enumerate() {
+        if *mark as usize == b {
+            m = put_triple(c, b, e, list, m)?;
         }
-        e += 1;
     }
-    Fill::Written(m)
+    Some(m)
 }
 
 // The triples of a collector: those of each base with the mark c.
@@ -57,27 +51,17 @@ fn list_bases(
     emitter_marks: &[u32],
     list: &mut [u32],
     n: usize,
-) -> Fill
+) -> Option<usize>
     requires { HoldsTriples list.old n × (c ≤ max_records) × (length base_marks.now ≤ max_records) × (length emitter_marks.now ≤ max_records) }
     ensures { TriplesAdded list.old n (base_triples base_marks.now emitter_marks.now c) result list.new }
 {
     let mut m = n;
-    let mut b = 0;
-    while b < base_marks.len() {
-        if base_marks[b] as usize == c {
-            let f = list_emitters(c, b, emitter_marks, list, m);
-            match f {
-                Fill::NoRoom => {
-                    return Fill::NoRoom;
-                }
-                Fill::Written(k) => {
-                    m = k;
-                }
-            }
+    for (b, mark) in base_marks.iter().enumerate() {
+        if *mark as usize == c {
+            m = list_emitters(c, b, emitter_marks, list, m)?;
         }
-        b += 1;
     }
-    Fill::Written(m)
+    Some(m)
 }
 
 // The triples of the collectors 0 to `collectors` - 1.
@@ -86,25 +70,15 @@ fn list_collectors(
     base_marks: &[u32],
     emitter_marks: &[u32],
     list: &mut [u32],
-) -> Fill
+) -> Option<usize>
     requires { Blank 0 list.old × (collectors ≤ max_records) × (length base_marks.now ≤ max_records) × (length emitter_marks.now ≤ max_records) }
     ensures { TriplesAdded list.old 0 (marked_triples collectors base_marks.now emitter_marks.now) result list.new }
 {
     let mut m = 0;
-    let mut c = 0;
-    while c < collectors {
-        let f = list_bases(c, base_marks, emitter_marks, list, m);
-        match f {
-            Fill::NoRoom => {
-                return Fill::NoRoom;
-            }
-            Fill::Written(k) => {
-                m = k;
-            }
-        }
-        c += 1;
+    for c in 0..collectors {
+        m = list_bases(c, base_marks, emitter_marks, list, m)?;
     }
-    Fill::Written(m)
+    Some(m)
 }
 
 // All triples by the marks of bases and emitters. Where `list`, which is blank, has no room for them it stays blank.
@@ -113,16 +87,13 @@ pub fn list_triples(
     base_marks: &[u32],
     emitter_marks: &[u32],
     list: &mut [u32],
-) -> Fill
+) -> Option<usize>
     requires { Blank 0 list.old × (collectors ≤ max_records) × (length base_marks.now ≤ max_records) × (length emitter_marks.now ≤ max_records) }
     ensures { TriplesFilled (length list.old) (marked_triples collectors base_marks.now emitter_marks.now) result list.new }
 {
-    let f = list_collectors(collectors, base_marks, emitter_marks, list);
-    match f {
-        Fill::NoRoom => {
-            records_code::clear_numbers(list);
-            Fill::NoRoom
-        }
-        Fill::Written(n) => Fill::Written(n),
+    let listed = list_collectors(collectors, base_marks, emitter_marks, list);
+    if listed.is_none() {
+        list.fill(0);
     }
+    listed
 }

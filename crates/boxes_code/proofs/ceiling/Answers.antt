@@ -1,17 +1,9 @@
-use mathlib.Core.Path.{◌≡◌}
-use Prim.Native.Nat.{◌≤◌}
-use lib.IntN.{ℤ, nat_abs}
+use mathlib.Core.Path.{◌∙◌, ap}
+use lib.IntN.{ℤ}
 use Rattle.integer.specs.Integer.{⊝◌}
-use Rattle.integer_code.proofs.Word.{with}
 use Rattle.boxes.specs.Whole.{floor, ceiling}
-use Rattle.boxes.proofs.Whole.{ceiling_size}
 use Rattle.boxes_code.proofs.ceiling.Goals as goal
 
-pub returns : goal.returns
+pub returns-clause-v_value : goal.returns-clause-v_value
 unfolding ceiling
-returns c =
-    let n = c.args.n.v in
-    let d = c.args.d.v in
-    let e : c.neg.result.v ≡ ⊝ floor (⊝ n) d = cc in
-    let both = with (λ (r : ℤ). nat_abs r ≤ nat_abs n) e (ceiling_size n d) in
-    record { v_value = both.0; magnitude = both.1 }
+returns-clause-v_value c = c.neg-2.ensures.v_value ∙ ap ⊝◌ (c.floor.ensures.v_value ∙ ap (λ (z : ℤ). floor z c.args.d.v) c.neg.ensures.v_value)

@@ -5,4 +5,4 @@ use Rattle.boxes_code.proofs.load_box.Goals as goal
 pub returns : goal.returns
 unfolding box_at
 returns c =
-    same_box c.get_number-left.ensures c.get_number-right.ensures c.get_number-bottom.ensures c.get_number-top.ensures
+    same_box c.get_number.ensures c.get_number-2.ensures c.get_number-3.ensures c.get_number-4.ensures

@@ -9,9 +9,9 @@ returns-then-i-j c A B x fa fb h p = c.order_up.ensures A B x fa fb h (inr p)
 pub returns-then-j-i : goal.returns-then-j-i
 returns-then-j-i c A B x fa fb h p =
     let s = c.args in
-    order_turned A B x s.i s.j c.turned.ensures (c.order_up-then-j-i.ensures A B x fa fb h (inl p))
+    order_turned A B x s.i s.j c.reverse.ensures (c.order_up-then-j-i.ensures A B x fa fb h (inl p))
 
-pub returns : goal.returns
-returns c A B x fa fb h p =
+pub returns-else-j-i : goal.returns-else-j-i
+returns-else-j-i c A B x fa fb h p =
     let s = c.args in
     order_same A B x s.i s.j (omega (arith, c.if-i-j.false, c.if-j-i.false))

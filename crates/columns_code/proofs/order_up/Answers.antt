@@ -3,27 +3,34 @@ use native.Mathlib.Omega.{arith}
 use Rattle.columns_code.proofs.SideOrder.{order_at_lem, order_below_last, order_last, present_A, present_B}
 use Rattle.columns_code.proofs.order_up.Goals as goal
 
-pub returns-then-j-eq1 : goal.returns-then-j-eq1
-returns-then-j-eq1 c A B x fa fb h p =
+pub returns-in-0-eq1 : goal.returns-in-0-eq1
+returns-in-0-eq1 c A B x fa fb h p =
     let s = c.args in
-    order_at_lem A B x s.i s.j c.if-i-eq0.true c.if-j-eq1.true (sym (h.first (present_A fa fb s.i s.j (omega (arith, c.if-i-eq0.true)) (omega (arith, c.if-j-eq1.true)) p)))
+    let i = c.in-0-eq1.is-0 in
+    let j = c.in-0-eq1.is-1 in
+    order_at_lem A B x s.i s.j i j (sym (h.first (present_A fa fb s.i s.j (omega (arith, i)) (omega (arith, j)) p)))
 
-pub returns-then-i-eq0 : goal.returns-then-i-eq0
-returns-then-i-eq0 c A B x fa fb h p =
+pub returns-in-0-default : goal.returns-in-0-default
+returns-in-0-default c A B x fa fb h p =
     let s = c.args in
-    order_below_last A B x s.i s.j c.if-i-eq0.true (omega (arith, c.requires, c.if-i-eq0.true, c.if-j-eq1.false, c.if-j-eq2.false)) h.o03
+    let i = c.in-0-default.is-0 in
+    let j = c.in-0-default.is-1 in
+    order_below_last A B x s.i s.j i (omega (arith, c.requires, i, j.0.1, j.1)) h.o03
 
-pub returns-then-i-eq1 : goal.returns-then-i-eq1
-returns-then-i-eq1 c A B x fa fb h p =
+pub returns-in-1-default : goal.returns-in-1-default
+returns-in-1-default c A B x fa fb h p =
     let s = c.args in
-    order_below_last A B x s.i s.j c.if-i-eq1.true (omega (arith, c.requires, c.if-i-eq1.true, c.if-j-eq2-2.false)) h.o13
+    let i = c.in-1-default.is-0 in
+    order_below_last A B x s.i s.j i (omega (arith, c.requires, i, c.in-1-default.is-1.1)) h.o13
 
-pub returns-then-i-eq2 : goal.returns-then-i-eq2
-returns-then-i-eq2 c A B x fa fb h p =
+pub returns-in-2-default : goal.returns-in-2-default
+returns-in-2-default c A B x fa fb h p =
     let s = c.args in
-    order_below_last A B x s.i s.j c.if-i-eq2.true (omega (arith, c.requires, c.if-i-eq2.true)) (sym (h.second (present_B fa fb s.i s.j (omega (arith, c.if-i-eq2.true)) (omega (arith, c.requires, c.if-i-eq2.true)) p)))
+    let i = c.in-2-default.is-0 in
+    order_below_last A B x s.i s.j i (omega (arith, c.requires, i)) (sym (h.second (present_B fa fb s.i s.j (omega (arith, i)) (omega (arith, c.requires, i)) p)))
 
-pub returns : goal.returns
-returns c A B x fa fb h p =
+pub returns-in_default : goal.returns-in_default
+returns-in_default c A B x fa fb h p =
     let s = c.args in
-    order_last A B x s.i s.j (omega (arith, c.if-i-eq0.false, c.if-i-eq1.false, c.if-i-eq2.false)) c.requires
+    let i = c.in_default.is-0 in
+    order_last A B x s.i s.j (omega (arith, i.0.0.1, i.0.1, i.1)) c.requires

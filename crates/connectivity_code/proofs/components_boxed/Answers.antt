@@ -1,9 +1,14 @@
+use mathlib.Core.Path.{◌∙◌}
 use native.Mathlib.Omega.{arith}
-use Rattle.connectivity_code.proofs.Layers.{numbers_are, numbers_length, count_is}
+use Rattle.connectivity_code.proofs.Layers.{numbers_are, count_is}
 use Rattle.connectivity_code.proofs.components_boxed.Goals as goal
 
-pub returns : goal.returns
-returns c =
+pub returns-clause-numbers_after : goal.returns-clause-numbers_after
+returns-clause-numbers_after c = numbers_are c.args.layer.now c.args.numbers.now c.requires.1 c.number_each.ensures c.join_all.ensures
+
+pub returns-clause-value : goal.returns-clause-value
+returns-clause-value c =
     let h = c.requires in
-    let l = numbers_length c.args.layer.now c.args.numbers.now h.1 c.number_each.ensures c.join_all.ensures in
-    record { numbers_after = numbers_are c.args.layer.now c.args.numbers.now h.1 c.number_each.ensures c.join_all.ensures; value = (count_is c.args.layer.now c.args.numbers.now h.1 c.number_each.ensures c.join_all.ensures c.count_own.ensures.value, omega (arith, c.count_own.ensures.upper_bound, l, h.0.layer.few)) }
+    let k = c.count_own.ensures in
+    let l = c.join_all.auto.numbers ∙ c.number_each.auto.numbers ∙ h.1 in
+    (count_is c.args.layer.now c.args.numbers.now h.1 c.number_each.ensures c.join_all.ensures l k.value, omega (arith, k.upper_bound, l, h.0.layer.few))

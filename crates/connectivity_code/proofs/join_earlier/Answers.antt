@@ -15,7 +15,7 @@ use Rattle.connectivity_code.specs.Code.{Numbering}
 use Rattle.connectivity_code.proofs.Layers.{touching_record, apart_record}
 use Rattle.connectivity_code.proofs.Loops.{Earlier, earlier_start, earlier_turn, earlier_agree, earlier_skip}
 use Rattle.connectivity_code.proofs.join_earlier.Goals as goal
-use Rattle.connectivity_code.proofs.join_earlier.Goals.{then-numbers-i, else-numbers-i}
+use Rattle.connectivity_code.proofs.join_earlier.Goals.{then-numbers-i+then-touching_at, else-numbers-i, else-numbers-i-via-then-numbers-i+else-touching_at, else-numbers-i-via-else-numbers-i}
 
 -- those whose boxes are apart are passed over
 passed : (s b : List ℤ) (i : ℕ) {e : Box} {j r : ℕ} {ns d₀ d : List ℕ} → Numbering s ns × BoxesOf s b → i < count trapezoid_codec s → e ≡ box_of (record_at trapezoid_codec s i)
@@ -38,6 +38,8 @@ loop-j-preserved c =
     let j = c.loop-j.j in
     let l = c.loop-j-test.true in
     let test = touching_at (layer_of s.layer.now) in
+    let t : touches s.a.shape (record_at trapezoid_codec s.layer.now j) ≡ test s.i j
+    = ap (λ (u : Trapezoid). touches u (record_at trapezoid_codec s.layer.now j)) h.i_bound.1.shape ∙ touching_record s.layer.now s.i j h.i_bound.0 (omega (arith, h.i_bound.0, l)) in
     passed
     s.layer.now
     s.boxes.now
@@ -46,7 +48,10 @@ loop-j-preserved c =
     h.i_bound.0
     h.i_bound.2
     (elim c.if-numbers-i.branch [
-      | then-numbers-i w ↦ earlier_turn test inv l (w.touching_at-t.ensures ∙ ap (λ (u : Trapezoid). touches u (record_at trapezoid_codec s.layer.now j)) h.i_bound.1.shape ∙ touching_record s.layer.now s.i j h.i_bound.0 (omega (arith, h.i_bound.0, l))) (w.numbers-is ∙ w.join_if.ensures)
-      | else-numbers-i w ↦ earlier_agree test inv l w.if-numbers-i.false w.numbers-is
+      | then-numbers-i+then-touching_at w ↦ earlier_turn test inv l (w.if-touching_at.ensures ∙ t) (w.numbers-is ∙ w.join.ensures)
+      | else-numbers-i w ↦ elim w.else-numbers-i.branch [
+        | else-numbers-i-via-then-numbers-i+else-touching_at v ↦ earlier_turn test inv l (v.if-touching_at.ensures ∙ t) w.numbers-is
+        | else-numbers-i-via-else-numbers-i v ↦ earlier_agree test inv l v.if-numbers-i.false w.numbers-is
+      ]
     ])
     c.next_near-j-in-loop-j.ensures

@@ -1,30 +1,34 @@
 use lib.ListN.{length}
+use lib.IntN.{pos}
+use Rattle.std.proofs.lemmas.Result.{err_from_is_err_and}
+use Rattle.records.proofs.Buffer.{blank_of}
 use Rattle.geometry.specs.Trapezoids.{layer_of}
-use Rattle.sources.specs.Sourced.{sourced_of}
-use Rattle.boolean.specs.declared.Folded.TheVariants.{Done}
-use Rattle.boolean.specs.Space.{difference_stages}
-use Rattle.boolean.specs.Sources.{sourced_difference}
+use Rattle.boolean.specs.Folds.{folded}
 use Rattle.remainder_code.specs.Code.{overlays_of_layer}
 use Rattle.remainder_code.proofs.Answers.{within_done}
-use Rattle.bearing_code.specs.Code.{SourcedAs}
 use Rattle.bearing_code.proofs.Bearing.{holding_none, sourced_none, sourced_known}
 use Rattle.counted_difference_code.proofs.Counted.{folded_counted, left_cleared}
 use Rattle.counted_difference_code.proofs.difference_counted.Goals as goal
 
-pub difference_into-f-requires : goal.difference_into-f-requires
-difference_into-f-requires c =
+pub difference_into-requires : goal.difference_into-requires
+difference_into-requires c =
     let a = c.args in
     record { boxed_layer = c.requires.boxed_layer; holding = (holding_none a.out.now a.room c.requires.borrowed.0, c.requires.borrowed.1); scratch_for = c.requires.scratch_for }
 
+pub returns-in_err-f : goal.returns-in_err-f
+returns-in_err-f c =
+    let p = err_from_is_err_and c.from_residual.result c.from_residual.ensures.1 in
+    let e = c.in_err-f.ensures in
+    rw (p.1, p.2) (record { difference_counted = e.difference_added.0; overlays_within = e.overlays_within; blank = (blank_of (pos 0) _ _ e.difference_added.1, e.blank) })
+
 pub returns : goal.returns
 returns c =
-    let folded : let a = c.args in let B = layer_of a.second.now in SourcedAs (length a.out.now) a.room (sourced_difference (sourced_of a.first.now) B) (difference_stages 0 (layer_of a.first.now) B) c.difference_into-f.result c.difference_into-f.new.out = let a = c.args in
-    let d = c.difference_into-f in
-    sourced_none a.out.now a.room c.requires.borrowed.0 _ _ d.result d.new.out d.ensures.difference_added in
-    let made : let a = c.args in let B = layer_of a.second.now in SourcedAs (length a.out.now) a.room (sourced_difference (sourced_of a.first.now) B) (difference_stages 0 (layer_of a.first.now) B) (Done c.in-Done.trapezoids c.in-Done.overlays) c.difference_into-f.new.out = sourced_known _ _ _ _ _ (Done _ _) _ c.in-Done.is (folded) in
     let a = c.args in
-    let d = c.difference_into-f in
-    let k = made in
-    let z = left_cleared _ _ _ _ _ _ _ k d.auto.out c.requires.borrowed.0.wide c.clear.new.words c.clear.ensures in
-    let q = folded_counted (length a.out.now) a.room a.first.now (layer_of a.second.now) (Done _ _) d.new.out k in
-    record { difference_counted = q; overlays_within = within_done overlays_of_layer _ _ d.result c.in-Done.is d.ensures.overlays_within; blank = (z, d.ensures.blank) }
+    let d = c.difference_into in
+    let all = sourced_none a.out.now a.room c.requires.borrowed.0 _ _ d.result d.new.out d.ensures.difference_added in
+    let made = sourced_known _ _ _ _ _ (folded _ _) _ c.in_ok-f.was all in
+    record {
+      difference_counted = folded_counted (length a.out.now) a.room a.first.now (layer_of a.second.now) (folded _ _) d.new.out made;
+      overlays_within = within_done overlays_of_layer _ _ d.result c.in_ok-f.was d.ensures.overlays_within;
+      blank = (left_cleared _ _ _ _ _ _ _ made d.auto.out c.requires.borrowed.0.wide c.fill.new.self (c.fill.ensures.after (λ y h. h)), d.ensures.blank);
+    }

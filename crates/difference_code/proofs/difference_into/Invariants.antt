@@ -1,7 +1,7 @@
 -- Before turn i: the `start` trapezoids and past them what is left of the first i of the first layer minus the second stand in `out`, each took at most
 -- `overlays_of_one` overlays, and the scratch area is blank.
 use mathlib.Core.List.{◌++◌}
-use Prim.Native.Nat.{◌*◌, ◌-◌, ◌≤◌}
+use Prim.Native.Nat.{◌*◌, ◌≤◌}
 use lib.ListN.{length}
 use Rattle.geometry.specs.Trapezoids.{layer_of}
 use Rattle.sources.specs.Sourced.{sourced_of}
@@ -17,7 +17,3 @@ abbrev pub invariant-loop-i : goal.invariant-loop-i
 invariant-loop-i l =
     Folding (difference_fold (layer_of l.second)) (length l.initial.out) l.room (standing l.initial.out l.start ++ sourced_difference (sourced_of l.first) (layer_of l.second)) (difference_stages l.start (layer_of l.first) (layer_of l.second)) l.first l.out l.k l.made l.i
     × (l.made ≤ overlays_of_one * l.i) × ScratchFor l.out l.scratch
-
-abbrev pub decreases-loop-i : goal.decreases-loop-i
-decreases-loop-i l =
-    l.n - l.i

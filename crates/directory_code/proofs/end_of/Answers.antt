@@ -1,16 +1,11 @@
-use Prim.Native.Nat.{◌+◌, ◌*◌}
-use borrow.Author.Tests.{eq-eqb, ne_eqb}
+use borrow.Author.Rules.{rules}
 use Rattle.files.specs.Directory.{end_of}
 use Rattle.directory_code.proofs.end_of.Goals as goal
 
-pub returns-then-n-unit : goal.returns-then-n-unit
+pub returns-then-n-f : goal.returns-then-n-f
 unfolding end_of
-returns-then-n-unit c =
-    let s = c.args in
-    rw (eq-eqb (2 * s.n + 1 + s.f.unit * s.total) s.words c.if-n-unit.true)
+returns-then-n-f c = search rules
 
-pub returns : goal.returns
+pub returns-else-n-f : goal.returns-else-n-f
 unfolding end_of
-returns c =
-    let s = c.args in
-    rw (ne_eqb (2 * s.n + 1 + s.f.unit * s.total) s.words c.if-n-unit.false)
+returns-else-n-f c = search rules

@@ -1,28 +1,14 @@
-use mathlib.Core.Path.{sym, ◌∙◌, ap}
-use borrow.Author.Tests.{not-true, not-false}
-use Rattle.boxes.specs.declared.Box.{Box}
+use Rattle.std.proofs.Common.{ℕ, refl, ◌∙◌, arith, rules, tests}
+use Rattle.std.proofs.lemmas.Iterator.{YieldsList-from_range}
+use Rattle.std.proofs.lemmas.Iterator.Search.{all_from_yields_List}
+use Rattle.boxes_code.specs.Code.{box_at}
 use Rattle.enclosure_code.specs.Code.{disjoint_from, all_disjoint}
-use Rattle.enclosure_code.proofs.Numbers.{pass_start, pass_turn, pass_stop, pass_fails}
+use Rattle.enclosure_code.proofs.Numbers.{all_range}
 use Rattle.enclosure_code.proofs.all_disjoint.Goals as goal
-
-pub loop-i-init : goal.loop-i-init
-loop-i-init c = pass_start _ c.args.m
-
-pub returns-then-not-disjoint_from : goal.returns-then-not-disjoint_from
-unfolding all_disjoint
-returns-then-not-disjoint_from c =
-    let a = c.args in
-    let r = c.disjoint_from in
-    pass_fails _ a.m c.loop-i.i c.loop-i-test.true
-    (ap (λ (e : Box). disjoint_from e a.second_boxes.now a.n) (sym c.load_box-e.ensures) ∙ sym r.ensures ∙ not-true r.result c.if-not-disjoint_from.true-raw)
-
-pub loop-i-preserved : goal.loop-i-preserved
-loop-i-preserved c =
-    let a = c.args in
-    let r = c.disjoint_from in
-    pass_turn _ c.loop-i.invariant c.loop-i-test.true
-    (ap (λ (e : Box). disjoint_from e a.second_boxes.now a.n) (sym c.load_box-e.ensures) ∙ sym r.ensures ∙ not-false r.result c.if-not-disjoint_from.false-raw)
 
 pub returns : goal.returns
 unfolding all_disjoint
-returns c = pass_stop _ c.loop-i.invariant c.loop-i-test.false
+returns c =
+    let a = c.args in
+    let test = λ (i : ℕ). disjoint_from (box_at a.first_boxes.now i) a.second_boxes.now a.n in
+    all_from_yields_List test _ _ _ c.all.ensures.ran (YieldsList-from_range 0 a.m a.m refl (omega arith)) (λ x b q k. search (rules, tests)) ∙ all_range test a.m

@@ -2,10 +2,10 @@ use mathlib.Core.Path.{sym, ◌∙◌}
 use Rattle.files.specs.Rows.{polygon_file_checked}
 use Rattle.files_code.proofs.check_polygon_file.Goals as goal
 
-pub returns-then-file_sized : goal.returns-then-file_sized
+pub returns-then-not-file_sized : goal.returns-then-not-file_sized
 unfolding polygon_file_checked
-returns-then-file_sized c = c.file_polygons.ensures ∙ rw (sym c.file_sized.ensures ∙ c.if-file_sized.true)
+returns-then-not-file_sized c = rw (sym c.file_sized.ensures ∙ c.if-not-file_sized.true)
 
 pub returns : goal.returns
 unfolding polygon_file_checked
-returns c = rw (sym c.file_sized.ensures ∙ c.if-file_sized.false)
+returns c = c.file_polygons.ensures ∙ rw (sym c.file_sized.ensures ∙ c.if-not-file_sized.false)

@@ -1,18 +1,22 @@
-use mir.Syntax.{w32}
-use mir.Facts.{to_z-of_z}
-use borrow.Author.Rules.{rules}
+use mathlib.Core.Path.{◌≡◌, ◌∙◌, ap}
+use Prim.Native.Nat.{ℕ, ◌*◌, ◌+◌}
+use native.Mathlib.Omega.{arith}
+use lib.ListN.{length, take, drop}
+use lib.Seq.{length-take-le, take_at}
 use Rattle.files.specs.Formats.{file_words}
-use Rattle.files.specs.Pairs.{body_of}
-use Rattle.files_code.proofs.Loading.{loading_start, loading_next, loading_stop}
+use Rattle.files.proofs.Pairs.{body_length}
+use Rattle.geometry_code.specs.Polygons.{polygon_of}
+use Rattle.files_code.proofs.Loading.{polygon_loaded}
 use Rattle.files_code.proofs.load_polygon.Goals as goal
 
-pub loop-k-init : goal.loop-k-init
-loop-k-init c =
-    loading_start (body_of (file_words c.args.file.now)) c.args.offset c.args.n c.args.words.now
-
-pub loop-k-preserved : goal.loop-k-preserved
-loop-k-preserved c =
-    loading_next c.loop-k.invariant c.loop-k-test.true c.requires.3 _ _ c.polygon_vertex-v.result c.polygon_vertex-v.ensures (to_z-of_z {w = w32} (search rules)) (to_z-of_z {w = w32} (search rules))
+pub load_words-requires : goal.load_words-requires
+load_words-requires c =
+    omega (arith, length-take-le (2 * c.args.n) c.args.words.now c.requires.3, body_length c.args.file.now, c.requires.0.is, c.requires.2)
 
 pub returns : goal.returns
-returns c = loading_stop c.loop-k.invariant c.loop-k-test.false
+returns c =
+    let n = c.args.n in
+    let rest = drop (2 * (c.args.count + c.args.offset) + 1) (file_words c.args.file.now) in
+    let l : length (take (2 * n) c.args.words.now) ≡ 2 * n = length-take-le (2 * n) c.args.words.now c.requires.3 in
+    let e : c.load_words.new.out ≡ take (2 * n) rest = c.load_words.ensures ∙ ap (λ (k : ℕ). take k rest) l in
+    ap polygon_of (take_at c.load_words.new.out _ (2 * n) (c.load_words.auto.out ∙ l) ∙ e) ∙ polygon_loaded c.args.file.now c.args.count c.args.offset n c.requires.0 c.requires.2

@@ -8,7 +8,7 @@ returns-then-within c =
     let s = c.args in
     c.within-then-within.ensures ∙ vertex_by s.limit (file_words s.body.now) s.i c.word_at.ensures.v_value (sym c.within.ensures ∙ c.if-within.true) c.word_at-then-within.ensures.v_value
 
-pub returns : goal.returns
-returns c =
+pub returns-else-within : goal.returns-else-within
+returns-else-within c =
     let s = c.args in
-    vertex_off s.limit (file_words s.body.now) s.i c.word_at.ensures.v_value (sym c.within.ensures ∙ c.if-within.false)
+    c.if-within.false ∙ vertex_off s.limit (file_words s.body.now) s.i c.word_at.ensures.v_value (sym c.within.ensures ∙ c.if-within.false)

@@ -1,10 +1,6 @@
 -- Before turn i: the first refusal of the layer is that of its trapezoids from number i on.
-use Prim.Native.Nat.{◌-◌}
 use Rattle.fitness_code.proofs.Checking.{Checking}
 use Rattle.fitness_code.proofs.first_refused.Given as goal
 
 abbrev pub invariant-loop-i : goal.invariant-loop-i
 invariant-loop-i l = Checking l.limit l.start l.words l.i
-
-abbrev pub decreases-loop-i : goal.decreases-loop-i
-decreases-loop-i l = l.n - l.i

@@ -23,4 +23,4 @@ returns c =
     let u = c.sub-u.ensures.v_value in
     let e : c.sub-orientation.result.v ≡ orientation s.l (point_of s.x s.y s.d)
     = c.sub-orientation.ensures.v_value ∙ rw (u, a, b, d, k.dx, k.dy, k.offset) in
-    c.at_most.ensures ∙ ap₂ le_z c.of-zero.ensures.v_value e
+    c.at_most.ensures ∙ ap₂ le_z c.of.ensures.v_value e

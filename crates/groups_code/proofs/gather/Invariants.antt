@@ -4,6 +4,3 @@ use Rattle.groups_code.proofs.gather.Given as goal
 
 abbrev pub invariant-loop-i : goal.invariant-loop-i
 invariant-loop-i l = Gathering l.edges l.lines l.terms (fraction_of l.at) l.i l.m l.numbers l.weights
-
-abbrev pub decreases-loop-i : goal.decreases-loop-i
-decreases-loop-i l = l.i

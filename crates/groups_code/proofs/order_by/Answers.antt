@@ -3,4 +3,4 @@ use Rattle.groups_code.proofs.Placing.{ordered_by}
 use Rattle.groups_code.proofs.order_by.Goals as goal
 
 pub returns : goal.returns
-returns c = ordered_by _ _ _ (fraction_of c.args.at) _ c.meeting_by-k.ensures c.order_right.ensures
+returns c = ordered_by _ _ _ (fraction_of c.args.at) _ c.meeting_by.ensures c.order_right.ensures

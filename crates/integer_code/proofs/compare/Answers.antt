@@ -1,14 +1,15 @@
-use mathlib.Core.Path.{sym}
-use Rattle.integer.proofs.Tests.{order_less, order_greater, order_equal}
+use mathlib.Core.Path.{◌≡◌, refl, ◌∙◌}
+use mathlib.Core.Bool.{Bool, true, false, cond}
+use lib.Signed.{lt_z}
+use Rattle.std.specs.declared.cmp.Ordering.TheVariants.{Less, Equal, Greater}
+use Rattle.integer.specs.Compare.{order_by, order_of}
 use Rattle.integer_code.proofs.compare.Goals as goal
 
-pub returns-then-less : goal.returns-then-less
-returns-then-less c = let s = c.args in sym (order_less s.a.v s.b.v (cc))
-
-pub returns-then-less-2 : goal.returns-then-less-2
-returns-then-less-2 c =
-    let s = c.args in sym (order_greater s.a.v s.b.v (cc) (cc))
+by_tests : (s t : Bool) → cond s Less (cond t Greater Equal) ≡ order_by s t
+by_tests true t = refl
+by_tests false true = refl
+by_tests false false = refl
 
 pub returns : goal.returns
-returns c =
-    let s = c.args in sym (order_equal s.a.v s.b.v (cc) (cc))
+unfolding order_of
+returns c = let s = c.args in c.cmp.ensures ∙ by_tests (lt_z s.a.v s.b.v) (lt_z s.b.v s.a.v)

@@ -1,5 +1,4 @@
 -- Before turn i: what a has in common with the first i trapezoids of the layer stands in `out`, and each counts one overlay.
-use Prim.Native.Nat.{◌-◌}
 use lib.ListN.{length}
 use Rattle.geometry.specs.Trapezoids.{layer_of}
 use Rattle.sources.specs.Sourced.{sourced_of}
@@ -12,6 +11,3 @@ use Rattle.intersection_code.proofs.common_into.Given as goal
 abbrev pub invariant-loop-i : goal.invariant-loop-i
 invariant-loop-i l =
     Folding (common_fold (owned l.a.shape l.sources)) (length l.initial.out) l.room (sourced_common (owned l.a.shape l.sources) (sourced_of l.layer)) (common_stages 0 l.a.shape (layer_of l.layer)) l.layer l.out l.k l.i l.i
-
-abbrev pub decreases-loop-i : goal.decreases-loop-i
-decreases-loop-i l = l.n - l.i

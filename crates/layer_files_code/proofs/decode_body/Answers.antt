@@ -31,7 +31,7 @@ loop-i-preserved c =
     let i = c.loop-i.i in
     let d = c.loop-i.out in
     let t = c.load_file_trapezoid-t.result in
-    let l : i < count file_codec ws = rw (length_file c.args.body.now) c.loop-i-test.true in
+    let l : i < count file_codec ws = omega (arith, length_file c.args.body.now, c.size-i-end.ensures.value, c.loop-i-test.true) in
     let p = at_from file_codec (count file_codec ws) ws 0 i (record_at file_codec ws 0) l ∙ ap (record_at file_codec ws) (zero-add i) in
     store_turn trapezoid_codec trapezoid_readable c.loop-i.invariant (omega (arith, many, c.loop-i-test.true)) (record_at file_codec ws 0)
     (c.load_file_trapezoid-t.ensures ∙ sym p)

@@ -1,66 +1,40 @@
-use mathlib.Core.Path.{◌≡◌, refl, sym, ◌∙◌, ap}
-use Prim.Native.Nat.{◌+◌, ◌*◌, ◌≤◌}
+use mathlib.Core.Path.{refl, sym}
 use native.Mathlib.Omega.{arith}
-use lib.ListN.{length, take}
-use Rattle.files.specs.Pairs.{amount_of, count_in}
-use Rattle.layer_files_code.proofs.Whole.{WordSizes, word_sizes, head_long, encode_room, encoded}
+use Rattle.layer_files_code.proofs.Whole.{word_sizes, head_long, encode_room, encoded}
 use Rattle.layer_files_code.proofs.encode.Goals as goal
 
-pub get-requires : goal.get-requires
-get-requires c =
-    omega (arith, (word_sizes c.args.words.now c.requires.0 refl).words)
+pub body_start-start-requires : goal.body_start-start-requires
+body_start-start-requires c = let z = word_sizes c.args.words.now c.requires.0 refl in (omega (arith, z.words), omega (arith, z.few))
+
+pub overflow_mul-start : goal.overflow_mul-start
+overflow_mul-start c = record { fits = omega (arith, (word_sizes c.args.words.now c.requires.0 c.body_start-start.ensures).few) }
+
+pub offset_bounds-words-start : goal.offset_bounds-words-start
+offset_bounds-words-start c = record { fits = omega (arith, (word_sizes c.args.words.now c.requires.0 c.body_start-start.ensures).few) }
 
 pub slice_bounds-encode_words-end : goal.slice_bounds-encode_words-end
-slice_bounds-encode_words-end c =
-    let counted : c.amount_of-n.result ≡ count_in c.args.words.now = c.amount_of-n.ensures ∙ ap amount_of c.get.ensures.v_value in
-    let front : length (take (2 * c.amount_of-n.result + 1) c.args.words.now) ≡ 2 * c.amount_of-n.result + 1 = head_long c.args.words.now c.requires.0 counted in
-    sym (front)
+slice_bounds-encode_words-end c = sym (head_long c.args.words.now c.requires.0 c.body_start-start.ensures)
 
 pub encode_words-requires : goal.encode_words-requires
 encode_words-requires c =
-    let counted : c.amount_of-n.result ≡ count_in c.args.words.now = c.amount_of-n.ensures ∙ ap amount_of c.get.ensures.v_value in
-    let sizes : WordSizes c.args.words.now c.amount_of-n.result = word_sizes c.args.words.now c.requires.0 counted in
-    let front : length (take (2 * c.amount_of-n.result + 1) c.args.words.now) ≡ 2 * c.amount_of-n.result + 1 = head_long c.args.words.now c.requires.0 counted in
-    let in_out : 4 * (2 * c.amount_of-n.result + 1) ≤ length c.args.out.now = omega (arith, sizes.written, c.requires.1) in
-    omega (arith, front, in_out)
+    let e = c.body_start-start.ensures in
+    omega (arith, head_long c.args.words.now c.requires.0 e, (word_sizes c.args.words.now c.requires.0 e).written, c.requires.1)
 
 pub slice_bounds-encode_body-count : goal.slice_bounds-encode_body-count
-slice_bounds-encode_body-count c =
-    let counted : c.amount_of-n.result ≡ count_in c.args.words.now = c.amount_of-n.ensures ∙ ap amount_of c.get.ensures.v_value in
-    let sizes : WordSizes c.args.words.now c.amount_of-n.result = word_sizes c.args.words.now c.requires.0 counted in
-    omega (arith, (sizes).words)
+slice_bounds-encode_body-count c = omega (arith, (word_sizes c.args.words.now c.requires.0 c.body_start-start.ensures).words)
 
 pub slice_bounds-encode_body-start : goal.slice_bounds-encode_body-start
-slice_bounds-encode_body-start c =
-    let counted : c.amount_of-n.result ≡ count_in c.args.words.now = c.amount_of-n.ensures ∙ ap amount_of c.get.ensures.v_value in
-    let sizes : WordSizes c.args.words.now c.amount_of-n.result = word_sizes c.args.words.now c.requires.0 counted in
-    omega (arith, (sizes).words)
+slice_bounds-encode_body-start c = omega (arith, (word_sizes c.args.words.now c.requires.0 c.body_start-start.ensures).words)
 
 pub slice_bounds-encode_body-count-2 : goal.slice_bounds-encode_body-count-2
-slice_bounds-encode_body-count-2 c =
-    let counted : c.amount_of-n.result ≡ count_in c.args.words.now = c.amount_of-n.ensures ∙ ap amount_of c.get.ensures.v_value in
-    let sizes : WordSizes c.args.words.now c.amount_of-n.result = word_sizes c.args.words.now c.requires.0 counted in
-    let in_out : 4 * (2 * c.amount_of-n.result + 1) ≤ length c.args.out.now = omega (arith, sizes.written, c.requires.1) in
-    let kept : length c.encode_words.new.out ≡ length c.args.out.now = c.encode_words.auto.out in
-    omega (arith, in_out, kept)
+slice_bounds-encode_body-count-2 c = omega (arith, (word_sizes c.args.words.now c.requires.0 c.body_start-start.ensures).written, c.requires.1, c.encode_words.auto.out)
 
 pub slice_bounds-encode_body-start-2 : goal.slice_bounds-encode_body-start-2
-slice_bounds-encode_body-start-2 c =
-    let counted : c.amount_of-n.result ≡ count_in c.args.words.now = c.amount_of-n.ensures ∙ ap amount_of c.get.ensures.v_value in
-    let sizes : WordSizes c.args.words.now c.amount_of-n.result = word_sizes c.args.words.now c.requires.0 counted in
-    let in_out : 4 * (2 * c.amount_of-n.result + 1) ≤ length c.args.out.now = omega (arith, sizes.written, c.requires.1) in
-    let kept : length c.encode_words.new.out ≡ length c.args.out.now = c.encode_words.auto.out in
-    omega (arith, in_out, kept)
+slice_bounds-encode_body-start-2 c = omega (arith, (word_sizes c.args.words.now c.requires.0 c.body_start-start.ensures).written, c.requires.1, c.encode_words.auto.out)
 
 pub encode_body-requires : goal.encode_body-requires
-encode_body-requires c =
-    let counted : c.amount_of-n.result ≡ count_in c.args.words.now = c.amount_of-n.ensures ∙ ap amount_of c.get.ensures.v_value in
-    let kept : length c.encode_words.new.out ≡ length c.args.out.now = c.encode_words.auto.out in
-    let s = c.args in
-    encode_room s.words.now c.requires.0 (counted) s.out.now c.encode_words.new.out c.requires.1 (kept)
+encode_body-requires c = encode_room c.args.words.now c.requires.0 c.body_start-start.ensures c.args.out.now c.encode_words.new.out c.requires.1 c.encode_words.auto.out
 
 pub returns : goal.returns
 returns c =
-    let counted : c.amount_of-n.result ≡ count_in c.args.words.now = c.amount_of-n.ensures ∙ ap amount_of c.get.ensures.v_value in
-    let s = c.args in
-    encoded s.words.now c.requires.0 (counted) s.out.now c.encode_words.new.out c.encode_body.new.out c.requires.1 c.encode_words.ensures c.encode_body.ensures
+    encoded c.args.words.now c.requires.0 c.body_start-start.ensures c.args.out.now c.encode_words.new.out c.encode_body.new.out c.requires.1 c.encode_words.ensures c.encode_body.ensures

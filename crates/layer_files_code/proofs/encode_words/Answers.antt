@@ -1,6 +1,6 @@
 use lib.IntN.{pos}
 use mir.Facts.{to_z-of_z}
-use borrow.Author.Rules.{sfits_of}
+use borrow.Author.Rules.{rules}
 use Rattle.records.specs.Words.{word_codec}
 use Rattle.records.proofs.Words.{words_faithful}
 use Rattle.layer_files_code.proofs.Laying.{store_start, store_turn}
@@ -13,4 +13,4 @@ loop-i-init c =
 
 pub loop-i-preserved : goal.loop-i-preserved
 loop-i-preserved c =
-    store_turn word_codec words_faithful.readable c.loop-i.invariant c.loop-i-test.true (pos 0) (to_z-of_z {w = w32} (sfits_of c.w-1.given)) c.store_word.ensures
+    store_turn word_codec words_faithful.readable c.loop-i.invariant c.loop-i-test.true (pos 0) (to_z-of_z {w = w32} (search rules)) c.store_word.ensures

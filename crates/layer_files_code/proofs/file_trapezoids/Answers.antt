@@ -1,6 +1,6 @@
-use mathlib.Core.Path.{refl, ◌∙◌, ap}
+use mathlib.Core.Path.{refl, ◌∙◌}
 use native.Mathlib.Omega.{arith}
-use Rattle.files.specs.Pairs.{amount_of}
+use Prim.Native.Nat.{◌-◌, ◌/◌}
 use Rattle.files.specs.Contents.{file_codec}
 use Rattle.files.specs.Formats.{file_words}
 use Rattle.files.proofs.Reading.{length_file}
@@ -8,15 +8,13 @@ use Rattle.files.proofs.Bounds.{units_count}
 use Rattle.layer_files_code.proofs.Whole.{file_sizes}
 use Rattle.layer_files_code.proofs.file_trapezoids.Goals as goal
 
-pub word_at-requires : goal.word_at-requires
-word_at-requires c = omega (arith, (file_sizes c.args.file.now c.requires refl).words)
+pub body_start-requires : goal.body_start-requires
+body_start-requires c = let z = file_sizes c.args.file.now c.requires refl in (omega (arith, z.words), omega (arith, z.few))
 
 pub overflow_sub-result : goal.overflow_sub-result
-overflow_sub-result c =
-    let e = c.amount_of-n.ensures ∙ ap amount_of c.word_at.ensures.v_value in
-    omega (arith, (file_sizes c.args.file.now c.requires e).words)
+overflow_sub-result c = omega (arith, (file_sizes c.args.file.now c.requires c.body_start.ensures).words, c.size.ensures.value)
 
 pub returns : goal.returns
 returns c =
-    let e = c.amount_of-n.ensures ∙ ap amount_of c.word_at.ensures.v_value in
-    units_count file_codec (file_words c.args.file.now) (length_file c.args.file.now) e
+    let bs = c.args.file.now in
+    (λ j. (c.size.ensures.value j - c.body_start.ensures j) / 24) ∙ units_count file_codec (file_words bs) (length_file bs) refl

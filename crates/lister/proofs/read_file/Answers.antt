@@ -1,5 +1,5 @@
 -- What a read gives joins what came before it; where it fails, or gives nothing, what came stays.
-use Rattle.std.proofs.Common.{rules, arith, ◌≡◌, ℕ, ◌+◌, ◌-◌, ◌≤◌, List, [], ◌++◌, length, take, slice_range, Result, Ok, Err, OnErr, refl, sym, ap, ◌∙◌, subst, le_refl, drop_at, length-take-le, append-nil}
+use Rattle.std.proofs.Common.{rules, arith, ◌≡◌, ℕ, ◌+◌, ◌-◌, ◌≤◌, List, ◌++◌, length, take, slice_range, Result, Ok, Err, OnErr, refl, sym, ap, ◌∙◌, subst, le_refl, drop_at, length-take-le, append-nil}
 use Rattle.std.proofs.lemmas.Slice.{take-put_mid_below}
 use Rattle.std.specs.Io.KnownBytes.{Consumes}
 use Rattle.std.proofs.KnownBytes.{Consumes-nil, Consumes-trans, Consumes-kept}

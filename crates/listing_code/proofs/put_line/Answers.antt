@@ -1,5 +1,5 @@
 use mathlib.Core.Path.{◌≡◌, ◌∙◌, ap}
-use Prim.Native.Nat.{ℕ, ◌+◌, ◌*◌, ◌-◌}
+use Prim.Native.Nat.{ℕ, ◌+◌, ◌*◌}
 use native.Mathlib.Omega.{arith}
 use lib.Seq.{slice}
 use Rattle.records.specs.Limits.{file_width, memory_width}
@@ -13,13 +13,13 @@ loop-j-preserved c =
     let end = memory_width * c.args.i + file_width in
     let h = c.loop-j.invariant in
     let j = c.loop-j.j in
-    let e = next_field s j end c.loop-j-test.true h.2 in
-    (onward (field s j end) (words_line (slice (j + 1) end s)) h.0 e (omega (arith, c.loop-j-test.true, h.3, h.0.long, c.requires.1, c.put_field-next.ensures.wrote.0, c.put_field-next.ensures.within)) c.put_field-next.ensures.wrote, omega (arith, c.loop-j-test.true), h.2, omega (arith, h.3, c.put_field-next.ensures.within))
+    let e = next_field s j end c.loop-j-test.true h.1 in
+    (onward (field s j end) (words_line (slice (j + 1) end s)) h.0 e (omega (arith, c.loop-j-test.true, h.2, h.0.long, c.requires.1, c.put_field-next.ensures.wrote.0, c.put_field-next.ensures.within)) c.put_field-next.ensures.wrote, h.1, omega (arith, h.2, c.put_field-next.ensures.within))
 
 pub returns : goal.returns
 returns c =
     let s = c.args.words.now in
     let end = memory_width * c.args.i + file_width in
     let h = c.loop-j.invariant in
-    let k : c.loop-j.j ≡ end = omega (arith, h.1, c.loop-j-test.false) in
-    record { wrote = arrived h.0 (ap (λ (j : ℕ). words_line (slice j end s)) k ∙ line_end s end); within = omega (arith, k, h.3) }
+    let k : c.loop-j.j ≡ end = omega arith in
+    record { wrote = arrived h.0 (ap (λ (j : ℕ). words_line (slice j end s)) k ∙ line_end s end); within = omega (arith, k, h.2) }

@@ -11,7 +11,7 @@ loop-i-preserved c =
     let h = c.loop-i.invariant in
     let i = c.loop-i.i in
     let e = next_line s n i c.loop-i-test.true in
-    (onward (record_line s i) (lines_from (n - (i + 1)) s (i + 1)) h.0 e (omega (arith, c.loop-i-test.true, h.2, h.0.long, c.requires.1, c.put_line-next.ensures.wrote.0, c.put_line-next.ensures.within)) c.put_line-next.ensures.wrote, omega (arith, c.loop-i-test.true), omega (arith, h.2, c.put_line-next.ensures.within))
+    (onward (record_line s i) (lines_from (n - (i + 1)) s (i + 1)) h.0 e (omega (arith, c.loop-i-test.true, h.1, h.0.long, c.requires.1, c.put_line-next.ensures.wrote.0, c.put_line-next.ensures.within)) c.put_line-next.ensures.wrote, omega (arith, h.1, c.put_line-next.ensures.within))
 
 pub returns : goal.returns
 returns c =

@@ -5,7 +5,4 @@ use Rattle.listing_code.proofs.Texts.{Going}
 use Rattle.listing_code.proofs.put_lines.Given as goal
 
 abbrev pub invariant-loop-i : goal.invariant-loop-i
-invariant-loop-i l = Going l.initial.out l.at (lines_from l.n l.words 0) l.out l.next (lines_from (l.n - l.i) l.words l.i) × (l.i ≤ l.n) × (l.next ≤ l.at + line_room * l.i)
-
-abbrev pub decreases-loop-i : goal.decreases-loop-i
-decreases-loop-i l = l.n - l.i
+invariant-loop-i l = Going l.initial.out l.at (lines_from l.n l.words 0) l.out l.next (lines_from (l.n - l.i) l.words l.i) × (l.next ≤ l.at + line_room * l.i)

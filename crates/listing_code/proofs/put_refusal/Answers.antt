@@ -10,4 +10,4 @@ returns c =
     let place = c.args.place in
     let h = begin c.args.out.now c.args.at (refusal_line number place) c.requires in
     let k = further (numbered refused_text number) (numbered place_text place ++ (10 ∷ [])) h refl c.put_numbered-first.ensures in
-    complete (further (numbered place_text place) (10 ∷ []) k refl c.put_numbered-second.ensures) c.put_byte.ensures
+    complete (further (numbered place_text place) (10 ∷ []) k refl c.put_numbered-second.ensures) c.put_text.ensures

@@ -7,8 +7,8 @@ use Rattle.overlay_code.proofs.fill_overlapping.Goals as goal
 
 pub fill_columns-requires : goal.fill_columns-requires
 fill_columns-requires c =
-    let meetings : let s = c.args in MeetingsOf s.a.shape s.b.shape (record { m02 = c.meeting_of-m02.result; m03 = s.m03; m12 = s.m12; m13 = c.meeting_of-m13.result }) = let h = c.requires.pair.1 in
-    record { m02 = c.meeting_of-m02.ensures; m03 = h.bottom_top; m12 = h.top_bottom; m13 = c.meeting_of-m13.ensures } in
+    let meetings : let s = c.args in MeetingsOf s.a.shape s.b.shape (record { m02 = c.meeting_of.result; m03 = s.m03; m12 = s.m12; m13 = c.meeting_of-2.result }) = let h = c.requires.pair.1 in
+    record { m02 = c.meeting_of.ensures; m03 = h.bottom_top; m12 = h.top_bottom; m13 = c.meeting_of-2.ensures } in
     let eight : Eight c.events_into-count.new.num c.events_into-count.new.den c.events_into-count.new.name = record { nums = c.events_into-count.auto.num; dens = c.events_into-count.auto.den; names = c.events_into-count.auto.name } in
     let pair = c.requires.pair.0 in
     let e = c.events_into-count.ensures in

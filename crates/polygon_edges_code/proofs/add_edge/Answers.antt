@@ -12,7 +12,7 @@ returns-then-less c =
     let a = vertex_at c.args.words.now c.args.a in
     let b = vertex_at c.args.words.now c.args.b in
     let l = c.line_between-l.ensures in
-    let d = c.of-rightward.ensures.v_value in
+    let d = c.of.ensures.v_value in
     longer_right k.held k.room a b _ _ l d (sym (c.less.ensures ∙ (λ z. lt_z (c.get-x.ensures.v_value z) (c.get-y.ensures.v_value z))) ∙ c.if-less.true) _ _ _ (longer_line k.held k.room p.ensures (p.auto.lines ∙ k.held.lines.long) (p.auto.terms ∙ k.held.long) (grid_through a b _ k.first_grid k.second_grid l) (rw d (omega arith)))
 
 pub returns-then-less-2 : goal.returns-then-less-2
@@ -22,9 +22,9 @@ returns-then-less-2 c =
     let a = vertex_at c.args.words.now c.args.a in
     let b = vertex_at c.args.words.now c.args.b in
     let l = c.line_between-l-then-less-2.ensures in
-    let d = c.of-leftward.ensures.v_value in
-    longer_left k.held k.room a b _ _ l d (sym (c.less.ensures ∙ (λ z. lt_z (c.get-x.ensures.v_value z) (c.get-y.ensures.v_value z))) ∙ c.if-less.false) (sym (c.less-2.ensures ∙ (λ z. lt_z (c.get-y.ensures.v_value z) (c.get-x.ensures.v_value z))) ∙ c.if-less-2.true) _ _ _ (longer_line k.held k.room p.ensures (p.auto.lines ∙ k.held.lines.long) (p.auto.terms ∙ k.held.long) (grid_through b a _ k.second_grid k.first_grid l) (rw d (omega arith)))
+    let d = c.of-then-less-2.ensures.v_value in
+    longer_left k.held k.room a b _ _ l d (sym (c.less.ensures ∙ (λ z. lt_z (c.get-x.ensures.v_value z) (c.get-y.ensures.v_value z))) ∙ c.if-less.false) (sym (c.less-else-less.ensures ∙ (λ z. lt_z (c.get-y.ensures.v_value z) (c.get-x.ensures.v_value z))) ∙ c.if-less-2.true) _ _ _ (longer_line k.held k.room p.ensures (p.auto.lines ∙ k.held.lines.long) (p.auto.terms ∙ k.held.long) (grid_through b a _ k.second_grid k.first_grid l) (rw d (omega arith)))
 
-pub returns : goal.returns
-returns c =
-    longer_flat c.requires.held c.requires.room (vertex_at c.args.words.now c.args.a) (vertex_at c.args.words.now c.args.b) (sym (c.less.ensures ∙ (λ z. lt_z (c.get-x.ensures.v_value z) (c.get-y.ensures.v_value z))) ∙ c.if-less.false) (sym (c.less-2.ensures ∙ (λ z. lt_z (c.get-y.ensures.v_value z) (c.get-x.ensures.v_value z))) ∙ c.if-less-2.false)
+pub returns-else-less-2 : goal.returns-else-less-2
+returns-else-less-2 c =
+    longer_flat c.requires.held c.requires.room (vertex_at c.args.words.now c.args.a) (vertex_at c.args.words.now c.args.b) (sym (c.less.ensures ∙ (λ z. lt_z (c.get-x.ensures.v_value z) (c.get-y.ensures.v_value z))) ∙ c.if-less.false) (sym (c.less-else-less.ensures ∙ (λ z. lt_z (c.get-y.ensures.v_value z) (c.get-x.ensures.v_value z))) ∙ c.if-less-2.false)

@@ -12,16 +12,14 @@ use Rattle.polygon_events_code.proofs.mark_line.Goals as goal
 
 pub returns-then-less : goal.returns-then-less
 returns-then-less c =
-    let k = c.narrow-k in
     let one = c.of-one in
-    let fk : SFits w32 k.result = fits _ (omega (arith, k.ensures.magnitude, c.requires.0, c.requires.1)) in
-    let fn : SFits w32 c.narrow-next.result = fits _ (omega (arith, c.narrow-next.ensures.magnitude, c.add.ensures.magnitude, one.ensures.magnitude, c.requires.0, c.requires.1)) in
-    mark_rising _ _ _ _ (to_z-of_z fk ∙ k.ensures.value) (to_z-of_z fn ∙ c.narrow-next.ensures.value ∙ c.add.ensures.v_value ∙ ap (λ (z : ℤ). c.args.x.v ⊕ z) one.ensures.v_value) (sym (c.less.ensures ∙ ap (lt_z c.args.x.v) c.natural-last.ensures.v_value) ∙ c.if-less.true)
+    let fk : SFits w32 c.narrow.result = fits _ (omega (arith, c.narrow.ensures.magnitude, c.requires.0, c.requires.1)) in
+    let fn : SFits w32 c.narrow-then-less.result = fits _ (omega (arith, c.narrow-then-less.ensures.magnitude, c.add.ensures.magnitude, one.ensures.magnitude, c.requires.0, c.requires.1)) in
+    mark_rising _ _ _ _ (to_z-of_z fk ∙ c.narrow.ensures.value) (to_z-of_z fn ∙ c.narrow-then-less.ensures.value ∙ c.add.ensures.v_value ∙ ap (λ (z : ℤ). c.args.x.v ⊕ z) one.ensures.v_value) (sym (c.less.ensures ∙ ap (lt_z c.args.x.v) c.natural.ensures.v_value) ∙ c.if-less.true)
 
-pub returns : goal.returns
-returns c =
-    let k = c.narrow-k in
+pub returns-else-less : goal.returns-else-less
+returns-else-less c =
     let one = c.of-one in
-    let fk : SFits w32 k.result = fits _ (omega (arith, k.ensures.magnitude, c.requires.0, c.requires.1)) in
-    let fn : SFits w32 c.narrow-previous.result = fits _ (omega (arith, c.narrow-previous.ensures.magnitude, c.sub.ensures.magnitude, one.ensures.magnitude, c.requires.0, c.requires.1)) in
-    mark_falling _ _ _ _ (to_z-of_z fn ∙ c.narrow-previous.ensures.value ∙ c.sub.ensures.v_value ∙ ap (λ (z : ℤ). c.args.x.v ⊖ z) one.ensures.v_value) (to_z-of_z fk ∙ k.ensures.value) (sym (c.less.ensures ∙ ap (lt_z c.args.x.v) c.natural-last.ensures.v_value) ∙ c.if-less.false) c.requires.0
+    let fn : SFits w32 c.narrow-else-less.result = fits _ (omega (arith, c.narrow-else-less.ensures.magnitude, c.sub.ensures.magnitude, one.ensures.magnitude, c.requires.0, c.requires.1)) in
+    let fk : SFits w32 c.narrow-else-less-2.result = fits _ (omega (arith, c.narrow-else-less-2.ensures.magnitude, c.requires.0, c.requires.1)) in
+    mark_falling _ _ _ _ (to_z-of_z fn ∙ c.narrow-else-less.ensures.value ∙ c.sub.ensures.v_value ∙ ap (λ (z : ℤ). c.args.x.v ⊖ z) one.ensures.v_value) (to_z-of_z fk ∙ c.narrow-else-less-2.ensures.value) (sym (c.less.ensures ∙ ap (lt_z c.args.x.v) c.natural.ensures.v_value) ∙ c.if-less.false) c.requires.0

@@ -1,5 +1,4 @@
 -- Before turn i: `out` holds the n trapezoids of the polygons before number i, and the polygons from number i on are on the grid.
-use Prim.Native.Nat.{◌-◌}
 use lib.ListN.{length}
 use Rattle.files.specs.Formats.{file_words}
 use Rattle.stored_events_code.specs.Events.{Wide}
@@ -8,6 +7,3 @@ use Rattle.polygons_code.proofs.fracture_file.Given as goal
 
 abbrev pub invariant-loop-i : goal.invariant-loop-i
 invariant-loop-i l = Cutting l.edition l.limit (file_words l.file) (length l.initial.out) l.room l.out l.i l.n × Wide l.num l.den l.name
-
-abbrev pub decreases-loop-i : goal.decreases-loop-i
-decreases-loop-i l = l.count - l.i

@@ -1,6 +1,5 @@
 use native.Mathlib.Omega.{arith}
 use Rattle.directory_code.proofs.Finding.{paired}
-use Rattle.polygons_code.proofs.fracture_numbered.Tie as tie
 use Rattle.polygons_code.proofs.fracture_numbered.Goals as goal
 
 pub load_polygon-requires : goal.load_polygon-requires

@@ -10,7 +10,9 @@ returns-then-overlapping c =
     let o = sym c.overlapping.ensures ∙ c.if-overlapping.true in
     record {
       before = pass_found (λ t. overlaps t c.args.b.shape) c.loop-i.invariant c.loop-i-test.true p.result.shape p.ensures.shape o;
-      placed = λ _. (p.ensures, o);
+      within = c.loop-i-test.true;
+      placed = p.ensures;
+      passes = o;
     }
 
 pub loop-i-preserved : goal.loop-i-preserved
@@ -19,5 +21,5 @@ loop-i-preserved c =
 
 pub returns : goal.returns
 returns c =
-    let l = c.loop-i-test.false in
-    record { before = pass_stop (λ t. overlaps t c.args.b.shape) c.loop-i.invariant l; placed = λ s. absurd (omega (arith, l, s)) }
+    let h = c.loop-i.invariant in
+    omega (arith, h.upto, pass_stop (λ t. overlaps t c.args.b.shape) h c.loop-i-test.false)

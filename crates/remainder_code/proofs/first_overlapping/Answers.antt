@@ -1,6 +1,5 @@
 use mathlib.Core.Path.{refl, sym, ◌∙◌}
 use native.Mathlib.Omega.{arith}
-use borrow.Author.Tests.{not-false}
 use Rattle.records.specs.Records.{record_at}
 use Rattle.geometry.specs.Trapezoids.{trapezoid_codec}
 use Rattle.overlay.specs.Overlaps.{overlaps}
@@ -15,7 +14,9 @@ returns-then-overlapping c =
     let o = sym c.overlapping.ensures ∙ c.if-overlapping.true in
     record {
       before = pass_found (overlaps c.args.a.shape) c.loop-i.invariant c.loop-i-test.true p.result.shape p.ensures.shape o;
-      placed = λ _. (p.ensures, o);
+      within = c.loop-i-test.true;
+      placed = p.ensures;
+      passes = o;
     }
 
 pub loop-i-preserved : goal.loop-i-preserved
@@ -30,5 +31,5 @@ loop-i-preserved c =
 
 pub returns : goal.returns
 returns c =
-    let l = c.loop-i-test.false in
-    record { before = pass_stop (overlaps c.args.a.shape) c.loop-i.invariant l; placed = λ s. absurd (omega (arith, l, s)) }
+    let h = c.loop-i.invariant in
+    omega (arith, h.upto, pass_stop (overlaps c.args.a.shape) h c.loop-i-test.false)

@@ -13,6 +13,3 @@ abbrev pub invariant-loop-i : goal.invariant-loop-i
 invariant-loop-i l =
     Folding (minus_fold l.b.shape) (length l.initial.out) l.room (minus (layer_of l.remainder) l.b.shape) (minus_stages 0 (layer_of l.remainder) l.b.shape) l.remainder l.out l.k l.i l.i
     × (l.k + (count trapezoid_codec l.remainder - l.i) ≤ l.room)
-
-abbrev pub decreases-loop-i : goal.decreases-loop-i
-decreases-loop-i l = l.n - l.i

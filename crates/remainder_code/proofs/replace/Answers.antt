@@ -12,4 +12,4 @@ returns c =
     let m = c.move_into in
     let a = c.args in
     let f = c.minus_into-f in
-    record { minus_written = remainder_folded a.out.now a.scratch.now m.new.out m.new.scratch a.n a.room c.requires.placed_as.1 c.requires.scratch_for.0 c.requires.scratch_for.1 m.ensures.out_after m.ensures.scratch_after a.b.shape f.result f.new.out f.ensures; blank = remainder_back a.out.now a.scratch.now m.new.out m.new.scratch a.n a.room c.requires.placed_as.1 c.requires.scratch_for.0 c.requires.scratch_for.1 m.ensures.out_after m.ensures.scratch_after c.clear.new.words c.clear.ensures }
+    record { minus_written = remainder_folded a.out.now a.scratch.now m.new.out m.new.scratch a.n a.room c.requires.placed_as.1 c.requires.scratch_for.0 c.requires.scratch_for.1 m.ensures.out_after m.ensures.scratch_after a.b.shape f.result f.new.out f.ensures; blank = remainder_back a.out.now a.scratch.now m.new.out m.new.scratch a.n a.room c.requires.placed_as.1 c.requires.scratch_for.0 c.requires.scratch_for.1 m.ensures.out_after m.ensures.scratch_after c.fill.new.self (c.fill.ensures.after (λ y h. h)) }

@@ -1,25 +1,28 @@
-use mathlib.Core.Path.{sym, ◌∙◌}
+use mathlib.Core.Path.{sym, refl, ◌∙◌}
 use lib.ListN.{length}
 use Rattle.lists.proofs.Conjunction.{and_left}
 use Rattle.calls.proofs.Rows.{sized_most}
-use Rattle.rows_code.proofs.Rows.{combine_lengths, combine_code, combine_layers}
+use Rattle.std.proofs.lemmas.Result.{err_from_is_err_and}
+use Rattle.calls.specs.Rows.{combine_checked}
+use Rattle.rows_code.proofs.Rows.{row_refuses, row_passes, row_true}
 use Rattle.rows_code.proofs.combine_checked.Goals as goal
+
+pub returns-in_err-row : goal.returns-in_err-row
+unfolding combine_checked
+returns-in_err-row c =
+    let p = err_from_is_err_and c.from_residual.result c.from_residual.ensures.1 in
+    rw (p.1, p.2) (row_refuses _ _ c.both_sized.ensures c.in_err-row.ensures)
+
+pub returns-in_err-row-2 : goal.returns-in_err-row-2
+unfolding combine_checked
+returns-in_err-row-2 c =
+    let p = err_from_is_err_and c.from_residual-in_err-row-2.result c.from_residual-in_err-row-2.ensures.1 in
+    rw (p.1, p.2) (row_refuses _ _ refl c.in_err-row-2.ensures ∙ row_passes _ _ c.both_sized.ensures c.in_ok-row.ensures)
 
 pub both_checked-requires : goal.both_checked-requires
 both_checked-requires c =
-    (c.requires, sized_most (length c.args.a.now) (and_left _ _ (sym c.both_sized.ensures ∙ c.if-both_sized.true)))
-
-pub returns-then-code-lt-CODES : goal.returns-then-code-lt-CODES
-returns-then-code-lt-CODES c =
-    let s = c.args in
-    c.both_checked.ensures ∙ combine_layers s.limit s.code s.a.now s.b.now s.out s.scratch (sym c.both_sized.ensures ∙ c.if-both_sized.true) c.if-code-lt-CODES.true
-
-pub returns-then-both_sized : goal.returns-then-both_sized
-returns-then-both_sized c =
-    let s = c.args in
-    combine_code s.limit s.code s.a.now s.b.now s.out s.scratch (sym c.both_sized.ensures ∙ c.if-both_sized.true) c.if-code-lt-CODES.false
+    (c.requires, sized_most (length c.args.a.now) (and_left _ _ (sym c.both_sized.ensures ∙ row_true _ c.in_ok-row.ensures)))
 
 pub returns : goal.returns
-returns c =
-    let s = c.args in
-    combine_lengths s.limit s.code s.a.now s.b.now s.out s.scratch (sym c.both_sized.ensures ∙ c.if-both_sized.false)
+unfolding combine_checked
+returns c = c.both_checked.ensures ∙ row_passes _ _ refl c.in_ok-row-2.ensures ∙ row_passes _ _ c.both_sized.ensures c.in_ok-row.ensures

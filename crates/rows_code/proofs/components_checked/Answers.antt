@@ -1,11 +1,15 @@
-use mathlib.Core.Path.{sym, ◌∙◌}
-use Rattle.rows_code.proofs.Components.{checked_lists, checked_layer}
+use mathlib.Core.Path.{◌∙◌}
+use Rattle.std.proofs.lemmas.Result.{err_from_is_err_and}
+use Rattle.calls.specs.Components.{components_checked}
+use Rattle.rows_code.proofs.Rows.{row_refuses, row_passes}
 use Rattle.rows_code.proofs.components_checked.Goals as goal
 
-pub returns-then-lists_sized : goal.returns-then-lists_sized
-returns-then-lists_sized c =
-    let s = c.args in
-    c.first_refused.ensures ∙ checked_layer s.a.now s.n s.limit (sym c.lists_sized.ensures ∙ c.if-lists_sized.true)
+pub returns-in_err-row : goal.returns-in_err-row
+unfolding components_checked
+returns-in_err-row c =
+    let p = err_from_is_err_and c.from_residual.result c.from_residual.ensures.1 in
+    rw (p.1, p.2) (row_refuses _ _ c.lists_sized.ensures c.in_err-row.ensures)
 
 pub returns : goal.returns
-returns c = let s = c.args in checked_lists s.a.now s.n s.limit (sym c.lists_sized.ensures ∙ c.if-lists_sized.false)
+unfolding components_checked
+returns c = c.first_refused.ensures ∙ row_passes _ _ c.lists_sized.ensures c.in_ok-row.ensures

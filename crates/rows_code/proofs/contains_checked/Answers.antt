@@ -1,30 +1,34 @@
-use mathlib.Core.Path.{sym, ◌∙◌}
+use mathlib.Core.Path.{sym, refl, ◌∙◌}
 use lib.ListN.{length}
 use Rattle.lists.proofs.Conjunction.{and_left}
 use Rattle.calls.proofs.Rows.{sized_most}
-use Rattle.rows_code.proofs.Rows.{contains_lengths, contains_code, contains_point, contains_layers}
+use Rattle.std.proofs.lemmas.Result.{err_from_is_err_and}
+use Rattle.calls.specs.Rows.{contains_checked}
+use Rattle.rows_code.proofs.Rows.{row_refuses, row_passes, row_true}
 use Rattle.rows_code.proofs.contains_checked.Goals as goal
+
+pub returns-in_err-row : goal.returns-in_err-row
+unfolding contains_checked
+returns-in_err-row c =
+    let p = err_from_is_err_and c.from_residual.result c.from_residual.ensures.1 in
+    rw (p.1, p.2) (row_refuses _ _ c.layers_sized.ensures c.in_err-row.ensures)
+
+pub returns-in_err-row-2 : goal.returns-in_err-row-2
+unfolding contains_checked
+returns-in_err-row-2 c =
+    let p = err_from_is_err_and c.from_residual-in_err-row-2.result c.from_residual-in_err-row-2.ensures.1 in
+    rw (p.1, p.2) (row_refuses _ _ refl c.in_err-row-2.ensures ∙ row_passes _ _ c.layers_sized.ensures c.in_ok-row.ensures)
+
+pub returns-in_err-row-3 : goal.returns-in_err-row-3
+unfolding contains_checked
+returns-in_err-row-3 c =
+    let p = err_from_is_err_and c.from_residual-in_err-row-3.result c.from_residual-in_err-row-3.ensures.1 in
+    rw (p.1, p.2) (row_refuses _ _ c.point_passes.ensures c.in_err-row-3.ensures ∙ row_passes _ _ refl c.in_ok-row-2.ensures ∙ row_passes _ _ c.layers_sized.ensures c.in_ok-row.ensures)
 
 pub both_checked-requires : goal.both_checked-requires
 both_checked-requires c =
-    (c.requires, sized_most (length c.args.a.now) (and_left _ _ (sym c.layers_sized.ensures ∙ c.if-layers_sized.true)))
-
-pub returns-then-point_passes : goal.returns-then-point_passes
-returns-then-point_passes c =
-    let s = c.args in
-    c.both_checked.ensures ∙ contains_layers s.limit _ s.a.now s.b.now s.code (sym c.layers_sized.ensures ∙ c.if-layers_sized.true) c.if-code-lt-CODES.true (sym c.point_passes.ensures ∙ c.if-point_passes.true)
-
-pub returns-then-code-lt-CODES : goal.returns-then-code-lt-CODES
-returns-then-code-lt-CODES c =
-    let s = c.args in
-    contains_point s.limit _ s.a.now s.b.now s.code (sym c.layers_sized.ensures ∙ c.if-layers_sized.true) c.if-code-lt-CODES.true (sym c.point_passes.ensures ∙ c.if-point_passes.false)
-
-pub returns-then-layers_sized : goal.returns-then-layers_sized
-returns-then-layers_sized c =
-    let s = c.args in
-    contains_code s.limit _ s.a.now s.b.now s.code (sym c.layers_sized.ensures ∙ c.if-layers_sized.true) c.if-code-lt-CODES.false
+    (c.requires, sized_most (length c.args.a.now) (and_left _ _ (sym c.layers_sized.ensures ∙ row_true _ c.in_ok-row.ensures)))
 
 pub returns : goal.returns
-returns c =
-    let s = c.args in
-    contains_lengths s.limit _ s.a.now s.b.now s.code (sym c.layers_sized.ensures ∙ c.if-layers_sized.false)
+unfolding contains_checked
+returns c = c.both_checked.ensures ∙ row_passes _ _ c.point_passes.ensures c.in_ok-row-3.ensures ∙ row_passes _ _ refl c.in_ok-row-2.ensures ∙ row_passes _ _ c.layers_sized.ensures c.in_ok-row.ensures

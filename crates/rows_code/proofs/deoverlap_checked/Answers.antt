@@ -1,13 +1,15 @@
-use mathlib.Core.Path.{sym, ◌∙◌}
-use Rattle.rows_code.proofs.Rows.{deoverlap_lengths, deoverlap_layer}
+use mathlib.Core.Path.{◌∙◌}
+use Rattle.std.proofs.lemmas.Result.{err_from_is_err_and}
+use Rattle.calls.specs.Rows.{deoverlap_checked}
+use Rattle.rows_code.proofs.Rows.{row_refuses, row_passes}
 use Rattle.rows_code.proofs.deoverlap_checked.Goals as goal
 
-pub returns-then-one_sized : goal.returns-then-one_sized
-returns-then-one_sized c =
-    let s = c.args in
-    c.first_refused.ensures ∙ deoverlap_layer s.limit s.a.now s.out s.scratch (sym c.one_sized.ensures ∙ c.if-one_sized.true)
+pub returns-in_err-row : goal.returns-in_err-row
+unfolding deoverlap_checked
+returns-in_err-row c =
+    let p = err_from_is_err_and c.from_residual.result c.from_residual.ensures.1 in
+    rw (p.1, p.2) (row_refuses _ _ c.one_sized.ensures c.in_err-row.ensures)
 
 pub returns : goal.returns
-returns c =
-    let s = c.args in
-    deoverlap_lengths s.limit s.a.now s.out s.scratch (sym c.one_sized.ensures ∙ c.if-one_sized.false)
+unfolding deoverlap_checked
+returns c = c.first_refused.ensures ∙ row_passes _ _ c.one_sized.ensures c.in_ok-row.ensures

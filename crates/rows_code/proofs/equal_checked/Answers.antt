@@ -2,19 +2,21 @@ use mathlib.Core.Path.{sym, ◌∙◌}
 use lib.ListN.{length}
 use Rattle.lists.proofs.Conjunction.{and_left}
 use Rattle.calls.proofs.Rows.{sized_most}
-use Rattle.rows_code.proofs.Rows.{equal_lengths, equal_layers}
+use Rattle.std.proofs.lemmas.Result.{err_from_is_err_and}
+use Rattle.calls.specs.Rows.{equal_checked}
+use Rattle.rows_code.proofs.Rows.{row_refuses, row_passes, row_true}
 use Rattle.rows_code.proofs.equal_checked.Goals as goal
+
+pub returns-in_err-row : goal.returns-in_err-row
+unfolding equal_checked
+returns-in_err-row c =
+    let p = err_from_is_err_and c.from_residual.result c.from_residual.ensures.1 in
+    rw (p.1, p.2) (row_refuses _ _ c.both_sized.ensures c.in_err-row.ensures)
 
 pub both_checked-requires : goal.both_checked-requires
 both_checked-requires c =
-    (c.requires, sized_most (length c.args.a.now) (and_left _ _ (sym c.both_sized.ensures ∙ c.if-both_sized.true)))
-
-pub returns-then-both_sized : goal.returns-then-both_sized
-returns-then-both_sized c =
-    let s = c.args in
-    c.both_checked.ensures ∙ equal_layers s.limit s.a.now s.b.now s.out s.scratch (sym c.both_sized.ensures ∙ c.if-both_sized.true)
+    (c.requires, sized_most (length c.args.a.now) (and_left _ _ (sym c.both_sized.ensures ∙ row_true _ c.in_ok-row.ensures)))
 
 pub returns : goal.returns
-returns c =
-    let s = c.args in
-    equal_lengths s.limit s.a.now s.b.now s.out s.scratch (sym c.both_sized.ensures ∙ c.if-both_sized.false)
+unfolding equal_checked
+returns c = c.both_checked.ensures ∙ row_passes _ _ c.both_sized.ensures c.in_ok-row.ensures

@@ -1,4 +1,3 @@
-use Prim.Native.Nat.{◌-◌}
 use lib.ListN.{take}
 use Rattle.integer.specs.Fraction.{before}
 use Rattle.geometry_code.specs.Code.{fraction_of}
@@ -8,6 +7,3 @@ use Rattle.sorting_code.proofs.place_of.Given as goal
 
 abbrev pub invariant-loop-i : goal.invariant-loop-i
 invariant-loop-i l = Passed before (fraction_of l.p) (fractions (take l.n l.num) (take l.n l.den)) l.i
-
-abbrev pub decreases-loop-i : goal.decreases-loop-i
-decreases-loop-i l = l.n - l.i

@@ -9,8 +9,8 @@ use Rattle.sources_code.proofs.joined.Goals as goal
 
 pub returns : goal.returns
 returns c =
-    let p = c.pattern-p.ensures.value ∙ ap pattern (to_z-of_z c.ranges.a) in
-    let q = c.pattern-q.ensures.value ∙ ap pattern (to_z-of_z c.ranges.b) in
+    let p = c.pattern.ensures.value ∙ ap pattern (to_z-of_z c.ranges.a) in
+    let q = c.pattern-2.ensures.value ∙ ap pattern (to_z-of_z c.ranges.b) in
     to_z-of_z {w = w32} (sfits_of c.signed.type_inv)
     ∙ c.signed.ensures
     ∙ (λ i. signed (bit_or (p i) (q i)))

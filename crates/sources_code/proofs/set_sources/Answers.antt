@@ -1,4 +1,3 @@
-use Prim.Native.Nat.{◌-◌}
 use Rattle.sources_code.proofs.Sources.{overwritten_start, overwritten_turn}
 use Rattle.sources_code.proofs.set_sources.Goals as goal
 

@@ -6,6 +6,3 @@ use Rattle.stored_events_code.proofs.add_events.Given as goal
 
 abbrev pub invariant-loop-k : goal.invariant-loop-k
 invariant-loop-k l = (L : ℕ) → PolygonOnGrid L (polygon_of l.words) → Marking L l.words l.edges l.lines l.n l.num l.den l.name l.k
-
-abbrev pub decreases-loop-k : goal.decreases-loop-k
-decreases-loop-k l = l.k

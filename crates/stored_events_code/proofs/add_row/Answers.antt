@@ -17,7 +17,7 @@ loop-j-preserved c =
     let h = c.loop-j.invariant in
     let w = (h.crossed 0).listed.wide in
     let kept = c.add_pair-k.auto in
-    row_turn h.held _ _ _ _ _ _ h c.loop-j-test.true _ _ _ _ (record { nums = kept.num ∙ w.nums; dens = kept.den ∙ w.dens; names = kept.name ∙ w.names }) _ c.pair_name-id.ensures _ _ c.line_at-d.ensures c.line_at-e.ensures c.add_pair-k.ensures
+    row_turn h.held _ _ _ _ _ _ h c.loop-j-test.true _ _ _ _ (record { nums = kept.num ∙ w.nums; dens = kept.den ∙ w.dens; names = kept.name ∙ w.names }) _ c.pair_name.ensures _ _ c.line_at-d.ensures c.line_at-e.ensures c.add_pair-k.ensures
 
 pub returns : goal.returns
 returns c = let h = c.loop-j.invariant in row_end h.held _ _ _ _ _ _ h (omega (arith, c.loop-j-test.false))

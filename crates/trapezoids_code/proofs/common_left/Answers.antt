@@ -1,26 +1,14 @@
-use mathlib.Core.Path.{◌≡◌, ◌∙◌, ap}
-use mathlib.Core.Bool.{false}
-use Rattle.integer.specs.Fraction.{before}
-use Rattle.geometry.specs.Standing.{is_left}
-use Rattle.geometry_code.specs.Code.{fraction_of}
+use mathlib.Core.Path.{sym, ◌∙◌}
 use Rattle.geometry_code.proofs.Branches.{answers_left}
-use Rattle.trapezoids_code.specs.Placed.{CommonLeft}
 use Rattle.trapezoids_code.proofs.Placed.{left_second, left_first}
 use Rattle.trapezoids_code.proofs.common_left.Goals as goal
 
-pub returns-in-Left : goal.returns-in-Left
-returns-in-Left c =
-    let replied : before (fraction_of c.args.a.left) (fraction_of c.args.b.left) ≡ is_left c.compare-h.result = let h = c.requires in answers_left h.first.left.small h.second.left.small c.compare-h.ensures in
-    left_second c.args.a c.args.b c.requires (replied ∙ ap is_left c.in-Left.is)
+pub returns-then-is_left : goal.returns-then-is_left
+returns-then-is_left c =
+    let h = c.requires in
+    left_second c.args.a c.args.b h (answers_left h.first.left.small h.second.left.small c.compare.ensures ∙ sym c.is_left.ensures ∙ c.if-is_left.true)
 
-pub returns-in-Level : goal.returns-in-Level
-returns-in-Level c =
-    let replied : before (fraction_of c.args.a.left) (fraction_of c.args.b.left) ≡ is_left c.compare-h.result = let h = c.requires in answers_left h.first.left.small h.second.left.small c.compare-h.ensures in
-    let not_left : is_left c.compare-h.result ≡ false → CommonLeft c.args.a c.args.b c.args.a.left = λ e. left_first c.args.a c.args.b c.requires (replied ∙ e) in
-    not_left (ap is_left c.in-Level.is)
-
-pub returns-in-Right : goal.returns-in-Right
-returns-in-Right c =
-    let replied : before (fraction_of c.args.a.left) (fraction_of c.args.b.left) ≡ is_left c.compare-h.result = let h = c.requires in answers_left h.first.left.small h.second.left.small c.compare-h.ensures in
-    let not_left : is_left c.compare-h.result ≡ false → CommonLeft c.args.a c.args.b c.args.a.left = λ e. left_first c.args.a c.args.b c.requires (replied ∙ e) in
-    not_left (ap is_left c.in-Right.is)
+pub returns-else-is_left : goal.returns-else-is_left
+returns-else-is_left c =
+    let h = c.requires in
+    left_first c.args.a c.args.b h (answers_left h.first.left.small h.second.left.small c.compare.ensures ∙ sym c.is_left.ensures ∙ c.if-is_left.false)

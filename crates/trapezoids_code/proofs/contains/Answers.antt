@@ -1,74 +1,45 @@
-use mathlib.Core.Path.{◌≡◌, sym, ◌∙◌}
-use lib.Dec.{T}
-use Rattle.lists.proofs.Tests.{true_is}
-use Rattle.integer.specs.Fraction.{before}
-use Rattle.geometry.specs.declared.Crossing.TheVariants.{Nowhere}
-use Rattle.geometry.specs.Positions.{crosses, ratio, position}
-use Rattle.geometry.specs.Points.{at}
-use Rattle.geometry_code.specs.Code.{fraction_of, Comparable, point_of}
-use Rattle.geometry_code.proofs.Branches.{no_ratio, with_ratio, answers_base}
-use Rattle.trapezoids_code.proofs.Points.{point_small, point_left, point_right, point_before, point_after, point_below, point_above, point_in}
+use mathlib.Core.Path.{sym, ◌∙◌, ap}
+use mathlib.Core.Bool.{not, true≢false}
+use Rattle.lists.proofs.Tests.{true_is, false_is}
+use Rattle.trapezoids_code.proofs.Points.{point_at, point_left, point_right, point_before, point_after, point_below, point_top}
 use Rattle.trapezoids_code.proofs.contains.Goals as goal
+use Rattle.trapezoids_code.proofs.contains.Goals.{then-not-is_left, else-not-is_left, then-is_left, else-is_left}
 
 pub returns-in_default : goal.returns-in_default
-returns-in_default c =
-    let t = c.args.t in
-    let e : c.ratio_of-a.result ≡ Nowhere = cc in
-    point_left _ t (no_ratio t.left.first t.left.second c.ratio_of-a.result c.ratio_of-a.ensures e)
+returns-in_default c = point_left _ c.args.t (false_is c.in_default.ensures)
 
-pub returns-in_default-b : goal.returns-in_default-b
-returns-in_default-b c =
-    let t = c.args.t in
-    let l = with_ratio t.left.first t.left.second c.ratio_of-a.result c.in-At.p c.ratio_of-a.ensures c.in-At.is in
-    let e : c.ratio_of-b.result ≡ Nowhere = cc in
-    point_right _ t (true_is l.0) (no_ratio t.right.first t.right.second c.ratio_of-b.result c.ratio_of-b.ensures e)
-
-pub returns-then-is_left : goal.returns-then-is_left
-returns-then-is_left c =
-    let left_ratio : T (crosses c.args.t.left.first c.args.t.left.second) × (fraction_of c.in-At.p ≡ ratio c.args.t.left.first c.args.t.left.second) × Comparable c.in-At.p = with_ratio c.args.t.left.first c.args.t.left.second c.ratio_of-a.result c.in-At.p c.ratio_of-a.ensures c.in-At.is in
-    let right_ratio : T (crosses c.args.t.right.first c.args.t.right.second) × (fraction_of c.in-At-b.q ≡ ratio c.args.t.right.first c.args.t.right.second) × Comparable c.in-At-b.q = with_ratio c.args.t.right.first c.args.t.right.second c.ratio_of-b.result c.in-At-b.q c.ratio_of-b.ensures c.in-At-b.is in
-    let from : before (at (point_of c.args.x c.args.y c.args.d)) (position c.args.t.left) ≡ c.is_left.result = let b = c.args.t.left in
-    answers_base b.first b.second (point_small c.requires.1) (left_ratio) c.compare.ensures ∙ sym c.is_left.ensures in
-    point_before _ c.args.t (true_is (left_ratio).0) (true_is (right_ratio).0) (from ∙ c.if-is_left.true)
-
-pub returns-then-under-2 : goal.returns-then-under-2
-returns-then-under-2 c =
-    let left_ratio : T (crosses c.args.t.left.first c.args.t.left.second) × (fraction_of c.in-At.p ≡ ratio c.args.t.left.first c.args.t.left.second) × Comparable c.in-At.p = with_ratio c.args.t.left.first c.args.t.left.second c.ratio_of-a.result c.in-At.p c.ratio_of-a.ensures c.in-At.is in
-    let right_ratio : T (crosses c.args.t.right.first c.args.t.right.second) × (fraction_of c.in-At-b.q ≡ ratio c.args.t.right.first c.args.t.right.second) × Comparable c.in-At-b.q = with_ratio c.args.t.right.first c.args.t.right.second c.ratio_of-b.result c.in-At-b.q c.ratio_of-b.ensures c.in-At-b.is in
-    let from : before (at (point_of c.args.x c.args.y c.args.d)) (position c.args.t.left) ≡ c.is_left.result = let b = c.args.t.left in
-    answers_base b.first b.second (point_small c.requires.1) (left_ratio) c.compare.ensures ∙ sym c.is_left.ensures in
-    let upto : before (at (point_of c.args.x c.args.y c.args.d)) (position c.args.t.right) ≡ c.is_left-2.result = let b = c.args.t.right in
-    answers_base b.first b.second (point_small c.requires.1) (right_ratio) c.compare-2.ensures ∙ sym c.is_left-2.ensures in
-    point_above _ c.args.t (true_is (left_ratio).0) (true_is (right_ratio).0) (from ∙ c.if-is_left.false) (upto ∙ c.if-is_left-2.true)
-    (sym c.under.ensures ∙ c.if-under.true) (sym c.under-then-under.ensures ∙ c.if-under-2.true)
+pub returns-in_default-ratio_of : goal.returns-in_default-ratio_of
+returns-in_default-ratio_of c = point_right _ c.args.t (true_is c.in-Some.ensures.0) (false_is c.in_default-ratio_of.ensures)
 
 pub returns-then-under : goal.returns-then-under
 returns-then-under c =
-    let left_ratio : T (crosses c.args.t.left.first c.args.t.left.second) × (fraction_of c.in-At.p ≡ ratio c.args.t.left.first c.args.t.left.second) × Comparable c.in-At.p = with_ratio c.args.t.left.first c.args.t.left.second c.ratio_of-a.result c.in-At.p c.ratio_of-a.ensures c.in-At.is in
-    let right_ratio : T (crosses c.args.t.right.first c.args.t.right.second) × (fraction_of c.in-At-b.q ≡ ratio c.args.t.right.first c.args.t.right.second) × Comparable c.in-At-b.q = with_ratio c.args.t.right.first c.args.t.right.second c.ratio_of-b.result c.in-At-b.q c.ratio_of-b.ensures c.in-At-b.is in
-    let from : before (at (point_of c.args.x c.args.y c.args.d)) (position c.args.t.left) ≡ c.is_left.result = let b = c.args.t.left in
-    answers_base b.first b.second (point_small c.requires.1) (left_ratio) c.compare.ensures ∙ sym c.is_left.ensures in
-    let upto : before (at (point_of c.args.x c.args.y c.args.d)) (position c.args.t.right) ≡ c.is_left-2.result = let b = c.args.t.right in
-    answers_base b.first b.second (point_small c.requires.1) (right_ratio) c.compare-2.ensures ∙ sym c.is_left-2.ensures in
-    point_in _ c.args.t (true_is (left_ratio).0) (true_is (right_ratio).0) (from ∙ c.if-is_left.false) (upto ∙ c.if-is_left-2.true)
-    (sym c.under.ensures ∙ c.if-under.true) (sym c.under-then-under.ensures ∙ c.if-under-2.false)
+    let t = c.args.t in
+    let l = c.in-Some.ensures in
+    let r = c.in-Some-ratio_of.ensures in
+    let from = point_at t.left c.requires.1 l c.compare.ensures c.is_left.ensures in
+    elim c.if-is_left.branch [
+      | then-is_left w ↦ elim c.if-not-is_left.branch [
+        | then-not-is_left v ↦
+            let upto = point_at t.right c.requires.1 r v.compare-then-not-is_left.ensures v.is_left-then-not-is_left.ensures in
+            ap not c.under-then-under.ensures
+            ∙ point_top _ t (true_is l.0) (true_is r.0) (from ∙ v.if-not-is_left.true) (upto ∙ sym v.value-is ∙ w.if-is_left.true) (sym w.under.ensures ∙ sym w.value-is ∙ c.if-under.true)
+        | else-not-is_left v ↦ absurd (true≢false (sym w.if-is_left.true ∙ v.value-is ∙ ap not v.if-not-is_left.false))
+      ]
+      | else-is_left w ↦ absurd (true≢false (sym c.if-under.true ∙ w.value-is ∙ w.if-is_left.false))
+    ]
 
 pub returns-else-under : goal.returns-else-under
 returns-else-under c =
-    let left_ratio : T (crosses c.args.t.left.first c.args.t.left.second) × (fraction_of c.in-At.p ≡ ratio c.args.t.left.first c.args.t.left.second) × Comparable c.in-At.p = with_ratio c.args.t.left.first c.args.t.left.second c.ratio_of-a.result c.in-At.p c.ratio_of-a.ensures c.in-At.is in
-    let right_ratio : T (crosses c.args.t.right.first c.args.t.right.second) × (fraction_of c.in-At-b.q ≡ ratio c.args.t.right.first c.args.t.right.second) × Comparable c.in-At-b.q = with_ratio c.args.t.right.first c.args.t.right.second c.ratio_of-b.result c.in-At-b.q c.ratio_of-b.ensures c.in-At-b.is in
-    let from : before (at (point_of c.args.x c.args.y c.args.d)) (position c.args.t.left) ≡ c.is_left.result = let b = c.args.t.left in
-    answers_base b.first b.second (point_small c.requires.1) (left_ratio) c.compare.ensures ∙ sym c.is_left.ensures in
-    let upto : before (at (point_of c.args.x c.args.y c.args.d)) (position c.args.t.right) ≡ c.is_left-2.result = let b = c.args.t.right in
-    answers_base b.first b.second (point_small c.requires.1) (right_ratio) c.compare-2.ensures ∙ sym c.is_left-2.ensures in
-    point_below _ c.args.t (true_is (left_ratio).0) (true_is (right_ratio).0) (from ∙ c.if-is_left.false) (upto ∙ c.if-is_left-2.true) (sym c.under.ensures ∙ c.if-under.false)
-
-pub returns-else-is_left-2 : goal.returns-else-is_left-2
-returns-else-is_left-2 c =
-    let left_ratio : T (crosses c.args.t.left.first c.args.t.left.second) × (fraction_of c.in-At.p ≡ ratio c.args.t.left.first c.args.t.left.second) × Comparable c.in-At.p = with_ratio c.args.t.left.first c.args.t.left.second c.ratio_of-a.result c.in-At.p c.ratio_of-a.ensures c.in-At.is in
-    let right_ratio : T (crosses c.args.t.right.first c.args.t.right.second) × (fraction_of c.in-At-b.q ≡ ratio c.args.t.right.first c.args.t.right.second) × Comparable c.in-At-b.q = with_ratio c.args.t.right.first c.args.t.right.second c.ratio_of-b.result c.in-At-b.q c.ratio_of-b.ensures c.in-At-b.is in
-    let from : before (at (point_of c.args.x c.args.y c.args.d)) (position c.args.t.left) ≡ c.is_left.result = let b = c.args.t.left in
-    answers_base b.first b.second (point_small c.requires.1) (left_ratio) c.compare.ensures ∙ sym c.is_left.ensures in
-    let upto : before (at (point_of c.args.x c.args.y c.args.d)) (position c.args.t.right) ≡ c.is_left-2.result = let b = c.args.t.right in
-    answers_base b.first b.second (point_small c.requires.1) (right_ratio) c.compare-2.ensures ∙ sym c.is_left-2.ensures in
-    point_after _ c.args.t (true_is (left_ratio).0) (true_is (right_ratio).0) (from ∙ c.if-is_left.false) (upto ∙ c.if-is_left-2.false)
+    let t = c.args.t in
+    let l = c.in-Some.ensures in
+    let r = c.in-Some-ratio_of.ensures in
+    let from = point_at t.left c.requires.1 l c.compare.ensures c.is_left.ensures in
+    elim c.if-not-is_left.branch [
+      | then-not-is_left v ↦
+          let upto = point_at t.right c.requires.1 r v.compare-then-not-is_left.ensures v.is_left-then-not-is_left.ensures ∙ sym v.value-is in
+          elim c.if-is_left.branch [
+            | then-is_left w ↦ c.if-under.false ∙ point_below _ t (true_is l.0) (true_is r.0) (from ∙ v.if-not-is_left.true) (upto ∙ w.if-is_left.true) (sym w.under.ensures ∙ sym w.value-is ∙ c.if-under.false)
+            | else-is_left w ↦ c.if-under.false ∙ point_after _ t (true_is l.0) (true_is r.0) (from ∙ v.if-not-is_left.true) (upto ∙ w.if-is_left.false)
+          ]
+      | else-not-is_left v ↦ c.if-under.false ∙ point_before _ t (true_is l.0) (true_is r.0) (from ∙ v.if-not-is_left.false)
+    ]

@@ -6,4 +6,4 @@ use Rattle.trapezoids_code.proofs.placed_at.Goals as goal
 
 pub place-requires : goal.place-requires
 place-requires c =
-    subst (FitFor coordinate_limit) (sym c.load-t.ensures) (all_record (FitFor coordinate_limit) c.args.layer.now c.args.i c.requires.0 c.requires.1)
+    subst (FitFor coordinate_limit) (sym c.load.ensures) (all_record (FitFor coordinate_limit) c.args.layer.now c.args.i c.requires.0 c.requires.1)

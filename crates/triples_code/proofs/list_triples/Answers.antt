@@ -1,9 +1,7 @@
-use Rattle.triples_code.specs.Code.{marked_triples}
 use Rattle.triples_code.proofs.Listing.{filled_all}
 use Rattle.triples_code.proofs.list_triples.Goals as goal
 
-pub returns-in-Written : goal.returns-in-Written
-returns-in-Written c =
-    let a = c.args in
-    let f = c.list_collectors-f in
-    filled_all a.list.now (marked_triples a.collectors a.base_marks.now a.emitter_marks.now) f.result f.new.list f.ensures c.in-Written.is
+pub returns-else-is_none : goal.returns-else-is_none
+returns-else-is_none c =
+    let f = c.list_collectors-listed in
+    filled_all _ _ f.result f.new.list c.if-is_none.ensures f.ensures

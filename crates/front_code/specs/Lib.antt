@@ -1,2 +1,0 @@
--- What the functions take and write, by the definitions.
-pub mod Code

@@ -1,9 +1,0 @@
-use Prim.Native.Nat.{◌≤◌}
-use Rattle.sorting.proofs.Inserting.{Inserting}
-use Rattle.sorting_code.proofs.insert_word.Given as goal
-
-abbrev pub invariant-loop-k : goal.invariant-loop-k
-invariant-loop-k l = Inserting 0 l.initial.s l.n l.s l.k × (l.i ≤ l.k)
-
-abbrev pub decreases-loop-k : goal.decreases-loop-k
-decreases-loop-k l = l.k
