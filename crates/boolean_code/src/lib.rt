@@ -34,7 +34,7 @@ fn union_into(
         return Err(NoRoom { overlays: 0 });
     }
     let end = records::MEMORY_WIDTH * n;
-    out[..end].copy_from_slice(&first[..end]);
+    records_code::copy(&first[..end], &mut out[..end]);
     difference_code::difference_into(
         n,
         second,

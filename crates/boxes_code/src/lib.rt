@@ -145,6 +145,13 @@ pub fn is_disjoint(e: Box, f: Box) -> bool
 }
 
 // The same of a box and box number i.
+pub fn boxes_apart(e: Box, boxes: &[i64], i: usize) -> bool
+    requires { box_width * i + box_width ≤ length boxes.now }
+    ensures { result ≡ boxes_apart e (box_at boxes.now i) }
+{
+    is_apart(e, load_box(boxes, i))
+}
+
 pub fn boxes_disjoint(e: Box, boxes: &[i64], i: usize) -> bool
     requires { box_width * i + box_width ≤ length boxes.now }
     ensures { result ≡ boxes_disjoint e (box_at boxes.now i) }
@@ -152,34 +159,30 @@ pub fn boxes_disjoint(e: Box, boxes: &[i64], i: usize) -> bool
     is_disjoint(e, load_box(boxes, i))
 }
 
-// The first of the boxes from number j on, before number i, that a test of two boxes refuses; i if there is none.
-fn next_by<F: Fn(Box, Box) -> bool>(apart: F, e: Box, boxes: &[i64], j: usize, i: usize) -> usize
-    requires range { (j ≤ i) × (box_width * i ≤ length boxes.now) }
-    requires callable { F.IsAlwaysCallable apart }
-    ensures { (t : Box → Box → Bool) → ((f : Box) (r : Bool) → F.post apart e f r → r ≡ t e f) → NextBox t e boxes.now j i result }
+// The first of the boxes from number j on, before number i, that is not apart from a box; i if there is none.
+pub fn next_near(e: Box, boxes: &[i64], j: usize, i: usize) -> usize
+    requires { (j ≤ i) × (box_width * i ≤ length boxes.now) }
+    ensures { NextBox boxes_apart e boxes.now j i result }
 {
     for k in j..i {
-        if !apart(e, load_box(boxes, k)) {
+        if !boxes_apart(e, boxes, k) {
             return k;
         }
     }
     i
 }
 
-// The first of them that is not apart from a box.
-pub fn next_near(e: Box, boxes: &[i64], j: usize, i: usize) -> usize
-    requires { (j ≤ i) × (box_width * i ≤ length boxes.now) }
-    ensures { NextBox boxes_apart e boxes.now j i result }
-{
-    next_by(is_apart, e, boxes, j, i)
-}
-
-// The first of them that is not disjoint from it.
+// The first of them that is not disjoint from it. A loop of its own: in one over a closure the compiler makes the last test of two boxes first.
 pub fn next_overlapping(e: Box, boxes: &[i64], j: usize, i: usize) -> usize
     requires { (j ≤ i) × (box_width * i ≤ length boxes.now) }
     ensures { NextBox boxes_disjoint e boxes.now j i result }
 {
-    next_by(is_disjoint, e, boxes, j, i)
+    for k in j..i {
+        if !boxes_disjoint(e, boxes, k) {
+            return k;
+        }
+    }
+    i
 }
 
 // The box of trapezoid number i of a layer.

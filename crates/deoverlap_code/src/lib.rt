@@ -16,7 +16,7 @@ use boxes::Box;
 use geometry::Placed;
 
 // A trapezoid with its set of source layers, minus the k trapezoids that `out` holds, and what remains of it added past them.
-fn one_past(
+pub fn one_bearing_by_front(
     a: Placed,
     e: Box,
     boxes: &[i64],
@@ -69,7 +69,7 @@ fn deoverlap_with(
         let a = trapezoids_code::placed_at(layer, i);
         let e = boxes_code::box_of(a);
         let sources = sources_code::sources_at(layer, i);
-        let f = one_past(a, e, boxes, k, out, scratch, room, sources);
+        let f = one_bearing_by_front(a, e, boxes, k, out, scratch, room, sources);
         match f {
             Ok(f) => {
                 let end = records::MEMORY_WIDTH * (k + f.trapezoids);

@@ -1,11 +1,7 @@
 // Lines, bases, trapezoids, rational points and polygons, and what functions hold of them.
 #![tactic(auto)]
 
-ghost use Rattle.std.specs.Prelude.{◌≡◌};
-ghost use Rattle.geometry.specs.Standing.{across};
-
 use integer::Int;
-use std::cmp::Ordering;
 
 // Four words, two grid points with x1 < x2.
 #[derive(Clone, Copy)]
@@ -76,19 +72,6 @@ pub enum Horizontal {
     Left,
     Level,
     Right,
-}
-
-// By the order of two products.
-impl From<Ordering> for Horizontal {
-    ghost from_gives = { λ o h. h ≡ across o };
-
-    fn from(o: Ordering) -> Horizontal {
-        match o {
-            Ordering::Less => Horizontal::Left,
-            Ordering::Equal => Horizontal::Level,
-            Ordering::Greater => Horizontal::Right,
-        }
-    }
 }
 
 // A trapezoid with the positions of its bases.

@@ -8,7 +8,7 @@ ghost use Rattle.integer.specs.Integer.{◌⊗◌};
 ghost use Rattle.integer.specs.Compare.{order_of};
 ghost use Rattle.geometry.specs.Limit.{coordinate_limit, OnGrid, det_bound, numer_bound};
 ghost use Rattle.geometry.specs.Positions.{crosses, heights, right_of, below};
-ghost use Rattle.geometry.specs.Standing.{one_sign, horizontal, is_left};
+ghost use Rattle.geometry.specs.Standing.{across, one_sign, horizontal, is_left};
 ghost use Rattle.geometry.specs.Points.{under as under_of};
 ghost use Rattle.geometry_code.specs.Code.{CornersOf, CoefficientsOf, SmallCoefficients, SmallMeeting, MeetingBy, MeetingOf, fraction_of, Comparable, SmallPosition, order_right, RatioOf, CrossingOf, CrossingBy, SmallCrossing, PositionOf, point_of, SmallPoint};
 
@@ -83,17 +83,21 @@ pub fn crossing_by(k: Meeting) -> Option<Position>
     ensures crossing_by { CrossingBy k result }
     ensures small { SmallCrossing result }
 {
-    match integer_code::compare(k.det, integer_code::of(0)) {
-        Ordering::Less => Some(Position {
-            num: integer_code::neg(k.numer),
-            den: integer_code::neg(k.det),
-        }),
-        Ordering::Equal => None,
-        Ordering::Greater => Some(Position {
+    // by two tests: a match on the order of the two takes more instructions
+    let zero = integer_code::of(0);
+    if integer_code::less(zero, k.det) {
+        return Some(Position {
             num: k.numer,
             den: k.det,
-        }),
+        });
     }
+    if integer_code::less(k.det, zero) {
+        return Some(Position {
+            num: integer_code::neg(k.numer),
+            den: integer_code::neg(k.det),
+        });
+    }
+    None
 }
 
 // The same of the lines.
@@ -130,6 +134,17 @@ fn one_sign(d: Int, e: Int) -> bool
     integer_code::less(d, zero) == integer_code::less(e, zero)
 }
 
+// By the order of two products.
+fn reply_of(o: Ordering) -> Horizontal
+    ensures { result ≡ across o }
+{
+    match o {
+        Ordering::Less => Horizontal::Left,
+        Ordering::Equal => Horizontal::Level,
+        Ordering::Greater => Horizontal::Right,
+    }
+}
+
 // Left, level or right, for either sign of both denominators, which are not zero. Every comparison of bases and positions is this one.
 #[tactic(auto, unfolding(geometry::specs::Standing::horizontal, integer::specs::Fraction::order))]
 pub fn compare(p: Position, q: Position) -> Horizontal
@@ -137,9 +152,9 @@ pub fn compare(p: Position, q: Position) -> Horizontal
     ensures { result ≡ horizontal (fraction_of p) (fraction_of q) }
 {
     if one_sign(p.den, q.den) {
-        Horizontal::from(compare_products(p.num, q.den, q.num, p.den))
+        reply_of(compare_products(p.num, q.den, q.num, p.den))
     } else {
-        Horizontal::from(compare_products(q.num, p.den, p.num, q.den))
+        reply_of(compare_products(q.num, p.den, p.num, q.den))
     }
 }
 
@@ -165,8 +180,11 @@ pub fn order_right(k: Meeting, x: Position) -> Ordering
     requires { SmallMeeting k × SmallPosition x }
     ensures { result ≡ order_right k (fraction_of x) }
 {
-    let slopes = integer_code::compare(k.det, integer_code::of(0));
-    compare_products(x.num, k.det, k.numer, x.den).then(slopes)
+    // the slopes are asked only of lines that meet there
+    match compare_products(x.num, k.det, k.numer, x.den) {
+        Ordering::Equal => integer_code::compare(k.det, integer_code::of(0)),
+        heights => heights,
+    }
 }
 
 // The same of the lines.

@@ -84,10 +84,18 @@ pub fn at_most(a: Int, b: Int) -> bool
     a.v <= b.v
 }
 
+#[tactic(auto, unfolding(integer::specs::Compare::order_of))]
 pub fn compare(a: Int, b: Int) -> Ordering
     ensures { result ≡ order_of a.v b.v }
 {
-    a.v.cmp(&b.v)
+    // std's `cmp` asks first whether the two are equal, which is the rare case
+    if less(a, b) {
+        Ordering::Less
+    } else if less(b, a) {
+        Ordering::Greater
+    } else {
+        Ordering::Equal
+    }
 }
 
 // Word number i of a slice, as a number.

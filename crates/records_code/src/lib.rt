@@ -22,6 +22,17 @@ pub fn clear_both(out: &mut [i32], scratch: &mut [i32])
     scratch.fill(0);
 }
 
+// All words of src to dst, which is as long. A loop: std's `copy_from_slice` is a call of memmove, and the archive for C asks for memset alone.
+pub fn copy(src: &[i32], dst: &mut [i32])
+    requires { length src.now ≡ length dst.old }
+    ensures { dst.new ≡ src.now }
+{
+    for i in 0..dst.len() {
+        let w = src[i];
+        dst[i] = w;
+    }
+}
+
 // Two's complement at 32 bits.
 pub fn signed(n: u64) -> i32
     requires { n < 4294967296 }
@@ -61,5 +72,8 @@ pub fn store_word(s: &mut [u8], i: usize, x: i32)
 {
     let at = 4 * i;
     let bytes = x.to_le_bytes();
-    s[at..at + 4].copy_from_slice(&bytes);
+    s[at] = bytes[0];
+    s[at + 1] = bytes[1];
+    s[at + 2] = bytes[2];
+    s[at + 3] = bytes[3];
 }

@@ -61,7 +61,7 @@ fn move_into(out: &mut [i32], scratch: &mut [i32], n: usize)
     ensures scratch_after { scratch.new ≡ take (memory_width * n) out.old ++ drop (memory_width * n) scratch.old }
 {
     let end = records::MEMORY_WIDTH * n;
-    scratch[..end].copy_from_slice(&out[..end]);
+    records_code::copy(&out[..end], &mut scratch[..end]);
     out[..end].fill(0);
 }
 

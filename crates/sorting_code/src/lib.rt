@@ -10,12 +10,13 @@ ghost use Rattle.sorting_code.specs.Entries.{fractions, entry_of, Stored, Room, 
 use geometry::{Horizontal, Position};
 
 // An element put in before number i of the first n.
-#[tactic(auto, using(sorting::proofs::Inserting::inserted_at))]
 pub fn insert<T: Copy>(s: &mut [T], n: usize, i: usize, a: T)
     requires { (i ≤ n) × (n < length s.old) }
     ensures { take (n + 1) s.new ≡ inserted i a (take n s.old) }
 {
-    s.copy_within(i..n, i + 1);
+    for k in (i..n).rev() {
+        s[k + 1] = s[k];
+    }
     s[i] = a;
 }
 

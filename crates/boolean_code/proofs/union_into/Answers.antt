@@ -24,11 +24,11 @@ returns-then-room-n c =
 pub difference_into-requires : goal.difference_into-requires
 difference_into-requires c =
     let a = c.args in
-    let p = c.copy_from_slice in
+    let p = c.copy in
     let l : count trapezoid_codec a.first.now ≤ a.room = omega (arith, c.if-room-n.false) in
-    let w : p.new.self ++ drop (memory_width * count trapezoid_codec a.first.now) a.out.now ≡ take (memory_width * count trapezoid_codec a.first.now) a.first.now ++ drop (memory_width * count trapezoid_codec a.first.now) a.out.now
-    = ap (λ (u : List ℤ). u ++ drop (memory_width * count trapezoid_codec a.first.now) a.out.now) p.ensures.after in
-    let t = p.new.self ++ drop (memory_width * count trapezoid_codec a.first.now) a.out.now in
+    let w : p.new.dst ++ drop (memory_width * count trapezoid_codec a.first.now) a.out.now ≡ take (memory_width * count trapezoid_codec a.first.now) a.first.now ++ drop (memory_width * count trapezoid_codec a.first.now) a.out.now
+    = ap (λ (u : List ℤ). u ++ drop (memory_width * count trapezoid_codec a.first.now) a.out.now) p.ensures in
+    let t = p.new.dst ++ drop (memory_width * count trapezoid_codec a.first.now) a.out.now in
     record { boxed_layer = (c.requires.boxed_layer.1, c.requires.boxed_layer.0); holding = (copied_holding a.first.now a.out.now a.room c.requires.borrowed.0 l t w, c.requires.borrowed.1); scratch_for = (c.requires.scratch_for.0, c.requires.scratch_for.1 ∙ sym (copied_long a.first.now a.out.now a.room c.requires.borrowed.0 l t w)) }
 
 pub returns : goal.returns
@@ -36,11 +36,11 @@ returns c =
     let a = c.args in
     let A = layer_of a.first.now in
     let B = layer_of a.second.now in
-    let p = c.copy_from_slice in
+    let p = c.copy in
     let l : count trapezoid_codec a.first.now ≤ a.room = omega (arith, c.if-room-n.false) in
-    let w : p.new.self ++ drop (memory_width * count trapezoid_codec a.first.now) a.out.now ≡ take (memory_width * count trapezoid_codec a.first.now) a.first.now ++ drop (memory_width * count trapezoid_codec a.first.now) a.out.now
-    = ap (λ (u : List ℤ). u ++ drop (memory_width * count trapezoid_codec a.first.now) a.out.now) p.ensures.after in
-    let t = p.new.self ++ drop (memory_width * count trapezoid_codec a.first.now) a.out.now in
+    let w : p.new.dst ++ drop (memory_width * count trapezoid_codec a.first.now) a.out.now ≡ take (memory_width * count trapezoid_codec a.first.now) a.first.now ++ drop (memory_width * count trapezoid_codec a.first.now) a.out.now
+    = ap (λ (u : List ℤ). u ++ drop (memory_width * count trapezoid_codec a.first.now) a.out.now) p.ensures in
+    let t = p.new.dst ++ drop (memory_width * count trapezoid_codec a.first.now) a.out.now in
     let r = c.difference_into in
     let d = r.new.out in
     record {

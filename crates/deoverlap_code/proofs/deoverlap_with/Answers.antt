@@ -19,8 +19,8 @@ loop-i-init c =
     let h = c.requires in
     (deoverlap_start a.room a.layer.now a.out.now a.scratch.now h.borrowed.0 h.fit_layer.0.fit h.scratch_for, boxes_start a.out.now a.boxes.now, refl)
 
-pub one_past-f-requires : goal.one_past-f-requires
-one_past-f-requires c =
+pub one_bearing_by_front-f-requires : goal.one_bearing_by_front-f-requires
+one_bearing_by_front-f-requires c =
     let h = c.loop-i.invariant in
     let small = c.requires.borrowed.1 in
     let past = deoverlap_past h.0 in
@@ -31,7 +31,7 @@ pub returns-in-Err : goal.returns-in-Err
 returns-in-Err c =
     let h = c.loop-i.invariant in
     let s = c.sources_at-sources in
-    let f = c.one_past-f in
+    let f = c.one_bearing_by_front-f in
     let turn =
     deoverlap_turn h.0 c.loop-i-test.true c.placed_at-a.result.shape c.placed_at-a.ensures.shape (to_z w32 (of_z w32 s.result)) (to_z-of_z {w = w32} (sfits_of s.type_inv) ∙ s.ensures)
     f.result f.new.out f.new.scratch f.ensures.one_bearing f.ensures.overlays_within f.ensures.first_unchanged f.ensures.blank f.auto.scratch in
@@ -43,7 +43,7 @@ pub extend_boxes-requires : goal.extend_boxes-requires
 extend_boxes-requires c =
     let h = c.loop-i.invariant in
     let s = c.sources_at-sources in
-    let f = c.one_past-f in
+    let f = c.one_bearing_by_front-f in
     let turn =
     deoverlap_turn h.0 c.loop-i-test.true c.placed_at-a.result.shape c.placed_at-a.ensures.shape (to_z w32 (of_z w32 s.result)) (to_z-of_z {w = w32} (sfits_of s.type_inv) ∙ s.ensures)
     f.result f.new.out f.new.scratch f.ensures.one_bearing f.ensures.overlays_within f.ensures.first_unchanged f.ensures.blank f.auto.scratch in
@@ -54,7 +54,7 @@ pub loop-i-preserved : goal.loop-i-preserved
 loop-i-preserved c =
     let h = c.loop-i.invariant in
     let s = c.sources_at-sources in
-    let f = c.one_past-f in
+    let f = c.one_bearing_by_front-f in
     let turn =
     deoverlap_turn h.0 c.loop-i-test.true c.placed_at-a.result.shape c.placed_at-a.ensures.shape (to_z w32 (of_z w32 s.result)) (to_z-of_z {w = w32} (sfits_of s.type_inv) ∙ s.ensures)
     f.result f.new.out f.new.scratch f.ensures.one_bearing f.ensures.overlays_within f.ensures.first_unchanged f.ensures.blank f.auto.scratch in

@@ -3,21 +3,33 @@ use native.Mathlib.Omega.{arith}
 use lib.Dec.{not_T}
 use lib.IntN.{ℤ, pos}
 use lib.Signed.{◌<ℤ◌}
-use Rattle.std.specs.declared.cmp.Ordering.TheVariants.{Less, Equal, Greater}
 use Rattle.integer.specs.Integer.{⊝◌}
 use Rattle.integer.proofs.Linear.{zarith, neg_gt}
+use Rattle.integer.proofs.Tests.{lt_yes, lt_no}
+use Rattle.integer.proofs.Order.{antisymm}
 use Rattle.geometry.specs.Lines.{det}
 use Rattle.geometry.specs.Positions.{crosses}
 use Rattle.geometry.proofs.Meet.{crosses→det, det→crosses, meet_rising, meet_falling}
-use Rattle.geometry_code.proofs.Branches.{small_position, sign_is}
+use Rattle.geometry_code.proofs.Branches.{small_position}
 use Rattle.geometry_code.proofs.crossing_by.Goals as goal
 
-pub returns-in-Less : goal.returns-in-Less
-returns-in-Less c =
-    let p : c.args.k.det.v <ℤ pos 0 = sign_is Less c.args.k.det.v c.of.ensures.v_value c.compare.ensures c.in-Less.is in
+pub returns-then-less : goal.returns-then-less
+returns-then-less c =
+    let p : pos 0 <ℤ c.args.k.det.v = lt_yes (pos 0) c.args.k.det.v (cc) in
+    let small = small_position c.requires.numer_small c.requires.det_small p in
+    record {
+      crossing_by = (λ l m k.
+          let h : pos 0 <ℤ det l m = subst (λ (z : ℤ). pos 0 <ℤ z) k.det p in
+          (det→crosses l m (λ e. omega (zarith, e)), (λ j. record { num = k.numer j; den = k.det j }) ∙ sym (meet_rising l m h), small));
+      small = small;
+    }
+
+pub returns-then-less-2 : goal.returns-then-less-2
+returns-then-less-2 c =
+    let p : c.args.k.det.v <ℤ pos 0 = lt_yes c.args.k.det.v (pos 0) (cc) in
     let n = c.neg.ensures in
-    let d = c.neg-in-Less.ensures in
-    let small = small_position {p = record { num = c.neg.result; den = c.neg-in-Less.result }} (omega (arith, n.magnitude, c.requires.numer_small)) (omega (arith, d.magnitude, c.requires.det_small)) (neg_gt d.v_value p) in
+    let d = c.neg-then-less-2.ensures in
+    let small = small_position {p = record { num = c.neg.result; den = c.neg-then-less-2.result }} (omega (arith, n.magnitude, c.requires.numer_small)) (omega (arith, d.magnitude, c.requires.det_small)) (neg_gt d.v_value p) in
     record {
       crossing_by = (λ l m k.
           let h : det l m <ℤ pos 0 = subst (λ (z : ℤ). z <ℤ pos 0) k.det p in
@@ -27,18 +39,12 @@ returns-in-Less c =
       small = small;
     }
 
-pub returns-in-Equal : goal.returns-in-Equal
-returns-in-Equal c =
-    let e = sign_is Equal c.args.k.det.v c.of.ensures.v_value c.compare.ensures c.in-Equal.is in
-    record { crossing_by = λ l m k. not_T (crosses l m) (λ t. crosses→det l m t (sym k.det ∙ e)); small = tt }
-
-pub returns-in-Greater : goal.returns-in-Greater
-returns-in-Greater c =
-    let p : pos 0 <ℤ c.args.k.det.v = sign_is Greater c.args.k.det.v c.of.ensures.v_value c.compare.ensures c.in-Greater.is in
-    let small = small_position c.requires.numer_small c.requires.det_small p in
+pub returns : goal.returns
+returns c =
     record {
       crossing_by = (λ l m k.
-          let h : pos 0 <ℤ det l m = subst (λ (z : ℤ). pos 0 <ℤ z) k.det p in
-          (det→crosses l m (λ e. omega (zarith, e)), (λ j. record { num = k.numer j; den = k.det j }) ∙ sym (meet_rising l m h), small));
-      small = small;
+          let a = lt_no (pos 0) (det l m) (cc) in
+          let b = lt_no (det l m) (pos 0) (cc) in
+          not_T (crosses l m) (λ t. crosses→det l m t (antisymm a b)));
+      small = tt;
     }

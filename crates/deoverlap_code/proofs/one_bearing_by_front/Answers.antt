@@ -11,7 +11,7 @@ use Rattle.geometry.specs.Trapezoids.{layer_of}
 use Rattle.remainder_code.specs.Code.{rest, leading}
 use Rattle.remainder_code.proofs.Leading.{rest_is, back_blank, scratch_tail}
 use Rattle.deoverlap_code.proofs.Past.{front-layer_is, front_fits}
-use Rattle.deoverlap_code.proofs.one_past.Goals as goal
+use Rattle.deoverlap_code.proofs.one_bearing_by_front.Goals as goal
 
 pub one_bearing-requires-clause-scratch_for : goal.one_bearing-requires-clause-scratch_for
 one_bearing-requires-clause-scratch_for c =

@@ -1,5 +1,0 @@
-use Rattle.boxes.specs.Boxes.{boxes_disjoint}
-use Rattle.boxes_code.proofs.next_overlapping.Goals as goal
-
-pub returns : goal.returns
-returns c = c.next_by.ensures boxes_disjoint (λ f r h. h.2)
