@@ -2,7 +2,7 @@
 // tell so with at most four comparisons.
 #![tactic(auto)]
 
-ghost use Rattle.std.specs.Prelude.{◌≡◌, T, Bool, ℤ, ◌+◌, ◌*◌, ◌<◌, ◌≤◌, pos, nat_abs, length, ◌<ℤ◌};
+ghost use Rattle.std.specs.Prelude.{◌≡◌, T, Bool, List, ℕ, ℤ, ◌+◌, ◌*◌, ◌<◌, ◌≤◌, pos, nat_abs, length, ◌<ℤ◌};
 ghost use Rattle.std.proofs.lemmas.List.Edits.{sets};
 ghost use Rattle.lists.specs.Lists.{All};
 ghost use Rattle.records.specs.Limits.{max_records};
@@ -159,30 +159,35 @@ pub fn boxes_disjoint(e: Box, boxes: &[i64], i: usize) -> bool
     is_disjoint(e, load_box(boxes, i))
 }
 
-// The first of the boxes from number j on, before number i, that is not apart from a box; i if there is none.
-pub fn next_near(e: Box, boxes: &[i64], j: usize, i: usize) -> usize
-    requires { (j ≤ i) × (box_width * i ≤ length boxes.now) }
-    ensures { NextBox boxes_apart e boxes.now j i result }
+// The first of the boxes from number j on, before number i, that a test refuses; i if there is none. The test takes a box's number: of
+// one that took two boxes the compiler made the last of its four comparisons first.
+fn next_by<F: Fn(usize) -> bool>(apart: F, j: usize, i: usize) -> usize
+    requires range { j ≤ i }
+    requires callable { (k : ℕ) → k < i → F.pre apart k }
+    ensures { (t : Box → Box → Bool) (e : Box) (d : List ℤ) → ((k : ℕ) (r : Bool) → F.post apart k r → r ≡ t e (box_at d k)) → NextBox t e d j i result }
 {
     for k in j..i {
-        if !boxes_apart(e, boxes, k) {
+        if !apart(k) {
             return k;
         }
     }
     i
 }
 
-// The first of them that is not disjoint from it. A loop of its own: in one over a closure the compiler makes the last test of two boxes first.
+// The first of them that is not apart from a box.
+pub fn next_near(e: Box, boxes: &[i64], j: usize, i: usize) -> usize
+    requires { (j ≤ i) × (box_width * i ≤ length boxes.now) }
+    ensures { NextBox boxes_apart e boxes.now j i result }
+{
+    next_by(|k| boxes_apart(e, boxes, k), j, i)
+}
+
+// The first of them that is not disjoint from it.
 pub fn next_overlapping(e: Box, boxes: &[i64], j: usize, i: usize) -> usize
     requires { (j ≤ i) × (box_width * i ≤ length boxes.now) }
     ensures { NextBox boxes_disjoint e boxes.now j i result }
 {
-    for k in j..i {
-        if !boxes_disjoint(e, boxes, k) {
-            return k;
-        }
-    }
-    i
+    next_by(|k| boxes_disjoint(e, boxes, k), j, i)
 }
 
 // The box of trapezoid number i of a layer.
